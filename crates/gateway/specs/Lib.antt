@@ -1,0 +1,2 @@
+pub mod TableBytes
+pub mod TableBytesLaws

@@ -1,0 +1,41 @@
+-- One more byte of a walk over a field, and the end of the walk: what is left of the list is its next byte and the rest, and each definition computes there.
+-- Assumes nothing.
+use mathlib.Core.Path.{_≡_, refl, sym, ap, _∙_}
+use mathlib.Core.Bool.{Bool, true, false}
+use mathlib.Core.List.{List, [], _∷_}
+use Prim.Native.Nat.{ℕ, _+_, _-_, _≤_, _<_}
+use native.Mathlib.Numerals.{add-one}
+use native.Mathlib.Omega.{arith}
+use lib.ListN.{length, take, drop, getD, length-drop, drop-of-length-le}
+use lib.Seq.{drop-cons, take-all}
+use borrow.Author.Tests.{eq-eqb, ne-eqb}
+use Rattle.kinds.specs.declared.Kind.{Kind}
+use Rattle.kinds.specs.Kinds.{allowed, allNul, agreesText}
+
+module _ (s : List ℕ) (i : ℕ) (h : i < length s) where
+  pub cons-at : drop i s ≡ getD s i 0 ∷ drop (i + 1) s
+  cons-at = rw (add-one, drop-cons s i 0)
+
+  pub nul-no : (getD s i 0 ≡ 0 → ⊥) → allNul (drop i s) ≡ false
+  nul-no n = ap allNul cons-at ∙ rw (ne-eqb _ _ n)
+
+  pub nul-yes : getD s i 0 ≡ 0 → allNul (drop i s) ≡ allNul (drop (i + 1) s)
+  nul-yes e = ap allNul cons-at ∙ rw (eq-eqb _ _ e)
+
+  module _ (k : Kind) where
+    pub text-nul : getD s i 0 ≡ 0 → agreesText k (drop i s) ≡ allNul (drop i s)
+    text-nul e = ap (agreesText k) cons-at ∙ rw (eq-eqb _ _ e) (sym (nul-yes e))
+
+    pub text-bad : (getD s i 0 ≡ 0 → ⊥) → allowed k (getD s i 0) ≡ false → agreesText k (drop i s) ≡ false
+    text-bad n a = ap (agreesText k) cons-at ∙ rw (ne-eqb _ _ n, a)
+
+    pub text-more : (getD s i 0 ≡ 0 → ⊥) → allowed k (getD s i 0) ≡ true → agreesText k (drop i s) ≡ agreesText k (drop (i + 1) s)
+    text-more n a = ap (agreesText k) cons-at ∙ rw (ne-eqb _ _ n, a)
+
+-- the walk has passed every byte
+pub walk-end : {A : Type 0} (f : List ℕ → A) (s : List ℕ) (i : ℕ) → length s ≤ i → f (drop i s) ≡ f []
+walk-end f s i h = ap f (drop-of-length-le s h)
+
+-- a tail that is lent
+pub tail-is : (l : List ℕ) (a : ℕ) → a ≤ length l → take (length l - a) (drop a l) ≡ drop a l
+tail-is l a h = take-all (length l - a) (drop a l) (simp length-drop (omega arith))

@@ -1,0 +1,55 @@
+-- The data kinds of fields. Definitions alone. Assumes nothing.
+use Prim.Native.Nat.{ℕ}
+use mathlib.Core.Bool.{Bool, true, false, cond, not, _&&_, _||_}
+use mathlib.Core.List.{List, [], _∷_}
+use lib.Dec.{leb, eqb}
+use Rattle.kinds.specs.declared.Kind.{Kind}
+use Rattle.kinds.specs.declared.Kind.the-variants.{Letters, Alphanumeric, Text, Identifier, Binary, Price}
+
+abbrev pub within : ℕ → ℕ → ℕ → Bool
+within low high b = leb low b && leb b high
+
+-- the letters A to Z and a to z
+abbrev pub letter : ℕ → Bool
+letter b = within 65 90 b || within 97 122 b
+
+-- the digits 0 to 9
+abbrev pub digit : ℕ → Bool
+digit b = within 48 57 b
+
+-- comma, semicolon, pipe, @ and double quote
+abbrev pub excepted : ℕ → Bool
+excepted b = eqb b 44 || (eqb b 59 || (eqb b 124 || (eqb b 64 || eqb b 34)))
+
+-- 01, Wire basics: A is letters, N letters and digits, T the bytes 32 to 126; the identifiers use the bytes 33 to 126 except five;
+-- B and P take any value.
+abbrev pub allowed : Kind → ℕ → Bool
+allowed Letters b = letter b
+allowed Alphanumeric b = digit b || letter b
+allowed Text b = within 32 126 b
+allowed Identifier b = not (excepted b) && within 33 126 b
+allowed Binary b = true
+allowed Price b = true
+
+-- an all-NUL field is blank
+abbrev pub allNul : List ℕ → Bool
+allNul [] = true
+allNul (b ∷ bs) = eqb b 0 && allNul bs
+
+-- after its first NUL all bytes of a text field are NUL; a blank one is allowed
+abbrev pub agreesText : Kind → List ℕ → Bool
+agreesText k [] = true
+agreesText k (b ∷ bs) = cond (eqb b 0) (allNul bs) (allowed k b && agreesText k bs)
+
+-- whether a field's bytes agree with its kind
+abbrev pub agreesOf : Kind → List ℕ → Bool
+agreesOf Letters bs = agreesText Letters bs
+agreesOf Alphanumeric bs = agreesText Alphanumeric bs
+agreesOf Text bs = agreesText Text bs
+agreesOf Identifier bs = agreesText Identifier bs
+agreesOf Binary bs = true
+agreesOf Price bs = true
+
+-- never blank: some byte is not NUL, and the bytes agree with the kind
+abbrev pub agreesFilledOf : Kind → List ℕ → Bool
+agreesFilledOf k bs = not (allNul bs) && agreesOf k bs

@@ -1,0 +1,41 @@
+use mir.Val.{SFits}
+use mir.Syntax.{w64}
+use Rattle.numbers.specs.Prices.{bitsOf}
+use Rattle.numbers.specs.Numbers.{bytesOf, putRefusal, putBuffer}
+use denote.Ref.{now}
+use mir.Facts.{toZ-ofZ}
+use lib.IntN.{ℤ}
+use Prim.Native.Nat.{ℕ}
+use mathlib.Core.List.{List}
+use mathlib.Core.Path.{_≡_, sym, ap, _∙_}
+use borrow.Author.Needs.{needs}
+use Rattle.numbers.proofs.prices.write_price.Statement.{statement}
+use Rattle.numbers.proofs.prices.write_price.Tie as tie
+use Rattle.numbers.proofs.prices.write_price.Reads as reads
+use Rattle.numbers.proofs.prices.write_price.Lts as lts
+use Rattle.numbers.proofs.prices.bits.Reads as bits-reads
+use Rattle.numbers.proofs.write_u64.Reads as write-u64-reads
+
+-- src/prices.rt:39:31
+bits-requires : tie.Need-bits-requires
+bits-requires c κs = search needs
+
+-- src/prices.rt:39:5
+write-u64-requires : tie.Need-write-u64-requires
+write-u64-requires c κs = search needs
+
+-- src/prices.rt:36:1
+same-length : tie.Need-same-length
+same-length c = search needs
+
+-- src/prices.rt:36:1
+returns : tie.Need-returns
+returns c =
+    let start = c .before .before .before .before .before .before in
+    let a = start .args in
+    let e = c .before .before .before .bits .ensures ∙ ap bitsOf (toZ-ofZ (start .fits .p)) in
+    let w = c .before .before .write-u64 .ensures in
+    (w .0 ∙ ap (λ (v : ℕ). putRefusal (now (a .out)) (a .at) (bytesOf 8 v)) e, w .1 ∙ ap (λ (v : ℕ). putBuffer (now (a .out)) (a .at) (bytesOf 8 v)) e)
+
+pub write-price-spec : {M : Type 1} → statement M
+write-price-spec = tie.close (tie.spec bits-requires write-u64-requires same-length returns)

@@ -1,0 +1,4 @@
+pub mod Numbers
+pub mod NumberLaws
+pub mod Prices
+pub mod PriceLaws

@@ -1,0 +1,25 @@
+-- The header of a message. Definitions alone. Assumes nothing.
+use Prim.Native.Nat.{ℕ, _+_}
+use mathlib.Core.List.{List, _∷_, _++_}
+use lib.ListN.{getD}
+use Rattle.numbers.specs.Numbers.{numberAt, bytesOf}
+
+-- 01, Wire basics: BA BA; length (2); type (1); unit (1); number (4)
+abbrev pub headerBytes : ℕ → ℕ → ℕ → ℕ → List ℕ
+headerBytes length type unit number = 186 ∷ 186 ∷ bytesOf 2 length ++ (type ∷ unit ∷ bytesOf 4 number)
+
+unfoldable pub lengthOf : List ℕ → ℕ
+lengthOf s = numberAt 2 2 s
+
+abbrev pub typeOf : List ℕ → ℕ
+typeOf s = getD s 4 0
+
+abbrev pub unitOf : List ℕ → ℕ
+unitOf s = getD s 5 0
+
+unfoldable pub numberOf : List ℕ → ℕ
+numberOf s = numberAt 4 6 s
+
+-- the total is the length and 2
+unfoldable pub totalOf : List ℕ → ℕ
+totalOf s = lengthOf s + 2

@@ -1,0 +1,79 @@
+// The wire: a message's header, and framing, which finds the first whole message of a buffer.
+pub mod header;
+
+ghost use mathlib.Core.Path.{_≡_};
+ghost use Prim.Native.Nat.{_+_, _≤_};
+ghost use lib.ListN.{length};
+ghost use Rattle.wire.specs.Frame.{notBA, startsBad, lengthBad, cutShort, frameRefusal, framed};
+
+// Whether a byte is present at a place and is not BA.
+fn is_not_ba(s: &[u8], i: usize) -> bool
+    ensures { λ r. ⌜ r ≡ notBA (now (s .entry)) i ⌝ }
+{
+    if i < s.len() {
+        return s[i] != 0xBA;
+    }
+    false
+}
+
+// Refusal 1: a byte present at place 0 or 1 is not BA.
+fn starts_bad(s: &[u8]) -> bool
+    ensures { λ r. ⌜ r ≡ startsBad (now (s .entry)) ⌝ }
+{
+    if is_not_ba(s, 0) {
+        return true;
+    }
+    is_not_ba(s, 1)
+}
+
+// Refusal 2: four bytes are present, and the length is under 8 or over 2,046.
+fn length_bad(s: &[u8]) -> bool
+    ensures { λ r. ⌜ r ≡ lengthBad (now (s .entry)) ⌝ }
+{
+    if s.len() < 4 {
+        return false;
+    }
+    let n = header::length_of(s);
+    if n < 8 {
+        return true;
+    }
+    2046 < n
+}
+
+// Refusal 3: fewer than four bytes, or fewer than the total.
+fn cut_short(s: &[u8]) -> bool
+    ensures { λ r. ⌜ r ≡ cutShort (now (s .entry)) ⌝ }
+{
+    if s.len() < 4 {
+        return true;
+    }
+    s.len() < header::total_of(s)
+}
+
+// 0 where a buffer starts with a whole message, or the number of the refusal: 1, 2 or 3.
+pub fn frame_refusal(s: &[u8]) -> u8
+    ensures { λ r. ⌜ r ≡ frameRefusal (now (s .entry)) ⌝ }
+{
+    if starts_bad(s) {
+        return refusals::BAD_START;
+    }
+    if length_bad(s) {
+        return refusals::BAD_LENGTH;
+    }
+    if cut_short(s) {
+        return refusals::INCOMPLETE;
+    }
+    0
+}
+
+// The first whole message, a part of the caller's buffer; empty where framing refuses.
+pub fn frame(s: &[u8]) -> &[u8]
+    ensures { λ r. ⌜ now r ≡ framed (now (s .entry)) ⌝ }
+{
+    if frame_refusal(s) == 0 {
+        let n = header::total_of(s);
+        &s[..n]
+    } else {
+        &s[..0]
+    }
+}

@@ -1,0 +1,298 @@
+//! Reads a question and writes its answer, in the format of README.md.
+
+use crate::hex;
+use crate::rules::kinds::{self, Kind};
+use crate::rules::{calendar, frame, number, price, pulse, table, Refusal};
+
+/// The most characters of a question, its LF not counted.
+pub const LONGEST: usize = 8_000;
+const MOST_DIGITS: usize = 20;
+
+/// One answer line for each line ended by LF; what follows the last LF is no question.
+pub fn answers(input: &[u8]) -> String {
+    let mut pieces: Vec<&[u8]> = input.split(|byte| *byte == b'\n').collect();
+    pieces.pop();
+    let mut output = String::new();
+    for line in pieces {
+        output.push_str(&answer(line));
+        output.push('\n');
+    }
+    output
+}
+
+/// The answer to one line, without its LF.
+pub fn answer(line: &[u8]) -> String {
+    understood(line).unwrap_or_else(|| "?".to_string())
+}
+
+/// None for a line outside the format.
+fn understood(line: &[u8]) -> Option<String> {
+    if line.len() > LONGEST || !line.is_ascii() {
+        return None;
+    }
+    let line = std::str::from_utf8(line).ok()?;
+    let words: Vec<&str> = line.split(' ').collect();
+    match words.as_slice() {
+        ["frame", bytes] => Some(frame(&hex::read(bytes)?)),
+        ["get", width, bytes, at] => {
+            let width = read_width(width)?;
+            let bytes = hex::read(bytes)?;
+            let at = read_number(at, u64::MAX)?;
+            Some(number::get(&bytes, at, width).to_string())
+        }
+        ["put", width, bytes, at, value] => {
+            let width = read_width(width)?;
+            let buffer = hex::read(bytes)?;
+            let at = read_number(at, u64::MAX)?;
+            let value = read_number(value, greatest(width))?;
+            Some(put(buffer, at, width, value))
+        }
+        ["price", bytes] => {
+            let bytes = hex::read(bytes)?;
+            let bytes: [u8; 8] = bytes.try_into().ok()?;
+            Some(price::text(price::value(bytes)))
+        }
+        ["kind", kind, bytes] => {
+            let kind = Kind::of_letter(kind)?;
+            Some(truth(kinds::agrees(kind, &hex::read(bytes)?)))
+        }
+        ["filled", kind, bytes] => {
+            let kind = Kind::of_letter(kind)?;
+            Some(truth(kinds::filled(kind, &hex::read(bytes)?)))
+        }
+        ["step", bytes, unit, number] => {
+            let buffer = hex::read(bytes)?;
+            let unit = read_number(unit, u64::from(u8::MAX))? as u8;
+            let number = read_u32(number)?;
+            Some(step(buffer, unit, number))
+        }
+        ["day", date] => Some(refusal(calendar::check(read_u32(date)?))),
+        ["year", year] => Some(year_of_days(read_number(year, 9_999)? as u32)),
+        ["due", now, then] => Some(truth(pulse::due(read_u32(now)?, read_u32(then)?))),
+        ["silent", now, then] => Some(truth(pulse::silent(read_u32(now)?, read_u32(then)?))),
+        _ => None,
+    }
+}
+
+// Arguments.
+
+fn read_number(word: &str, greatest: u64) -> Option<u64> {
+    if word.is_empty() || word.len() > MOST_DIGITS {
+        return None;
+    }
+    let mut value: u128 = 0;
+    for character in word.bytes() {
+        if !character.is_ascii_digit() {
+            return None;
+        }
+        value = value * 10 + u128::from(character - b'0');
+    }
+    if value > u128::from(greatest) {
+        return None;
+    }
+    Some(value as u64)
+}
+
+fn read_u32(word: &str) -> Option<u32> {
+    read_number(word, u64::from(u32::MAX)).map(|value| value as u32)
+}
+
+fn read_width(word: &str) -> Option<u64> {
+    let width = read_number(word, 8)?;
+    if width == 2 || width == 4 || width == 8 {
+        Some(width)
+    } else {
+        None
+    }
+}
+
+/// The greatest value that `width` bytes hold.
+fn greatest(width: u64) -> u64 {
+    ((1_u128 << (8 * width)) - 1) as u64
+}
+
+// Answers.
+
+fn truth(yes: bool) -> String {
+    if yes { "1" } else { "0" }.to_string()
+}
+
+fn refusal(result: Result<(), Refusal>) -> String {
+    match result {
+        Ok(()) => "0".to_string(),
+        Err(refusal) => refusal.number().to_string(),
+    }
+}
+
+fn frame(buffer: &[u8]) -> String {
+    match frame::message(buffer) {
+        Ok(message) => {
+            let header = frame::header(message);
+            format!(
+                "0 {} {} {} {}",
+                message.len(),
+                header.kind,
+                header.unit,
+                header.number
+            )
+        }
+        Err(refusal) => refusal.number().to_string(),
+    }
+}
+
+fn put(mut buffer: Vec<u8>, at: u64, width: u64, value: u64) -> String {
+    let result = number::put(&mut buffer, at, width, value);
+    format!("{} {}", refusal(result), hex::write(&buffer))
+}
+
+fn step(mut buffer: Vec<u8>, unit: u8, number: u32) -> String {
+    let result = table::step(&mut buffer, unit, number);
+    format!("{} {}", refusal(result), hex::write(&buffer))
+}
+
+/// Months and days go past both their ends, so that what is no day is asked too.
+fn year_of_days(year: u32) -> String {
+    let mut text = String::new();
+    for month in 0..=13 {
+        for day in 0..=32 {
+            let date = year * 10_000 + month * 100 + day;
+            text.push_str(&truth(calendar::check(date).is_ok()));
+        }
+    }
+    text
+}
+
+#[cfg(test)]
+mod tests {
+    use super::*;
+
+    fn check(question: &str, expected: &str) {
+        assert_eq!(answer(question.as_bytes()), expected, "{}", question);
+    }
+
+    #[test]
+    fn examples_of_document_01() {
+        check("price 08E2010000000000", "12.3400");
+        check("price F81DFEFFFFFFFFFF", "-12.3400");
+        check("price FFFFFFFFFFFFFFFF", "-0.0001");
+        check("price 0000000000000080", "-922337203685477.5808");
+        let zero = "00".repeat(128);
+        check(
+            &format!("step {} 1 1", zero),
+            &format!("0 01{}", "00".repeat(127)),
+        );
+        check(&format!("step {} 1 2", zero), &format!("15 {}", zero));
+        check(&format!("step {} 1 0", zero), &format!("14 {}", zero));
+        check("due 994 4294967290", "1");
+        check("due 993 4294967290", "0");
+        check("frame -", "3");
+        check("frame BA00", "1");
+    }
+
+    #[test]
+    fn each_call() {
+        check("frame BABA080037050403020199", "0 10 55 5 16909060");
+        check("get 2 010203 1", "770");
+        check("get 4 010203 18446744073709551615", "0");
+        check("get 8 FFFFFFFFFFFFFFFF 0", "18446744073709551615");
+        check("put 2 000000 1 258", "0 000201");
+        check("put 2 000000 2 258", "13 000000");
+        check("put 8 - 0 18446744073709551615", "13 -");
+        check("kind A 4100", "1");
+        check("kind A -", "1");
+        check("filled A -", "0");
+        check("filled I 40", "0");
+        check("filled B 00000000", "0");
+        check("step - 0 0", "5 -");
+        check("step - 1 0", "13 -");
+        check("day 20000229", "0");
+        check("day 20010229", "19");
+        check("silent 5000 0", "1");
+        check("silent 4999 0", "0");
+    }
+
+    #[test]
+    fn years() {
+        let count = |question: &str| {
+            let text = answer(question.as_bytes());
+            assert_eq!(text.len(), 462);
+            text.bytes().filter(|character| *character == b'1').count()
+        };
+        assert_eq!(count("year 2023"), 365);
+        assert_eq!(count("year 2024"), 366);
+        assert_eq!(count("year 2000"), 366);
+        for year in ["year 0", "year 1969", "year 2100", "year 9999"] {
+            assert_eq!(count(year), 0);
+        }
+        let leap = answer(b"year 2024");
+        assert_eq!(&leap[2 * 33..3 * 33], format!("0{}000", "1".repeat(29)));
+    }
+
+    #[test]
+    fn leading_zeros_are_digits() {
+        check("day 00000000000020240229", "0");
+        check("day 000000000000020240229", "?");
+    }
+
+    #[test]
+    fn outside_the_format() {
+        for line in [
+            "",
+            " ",
+            "frames -",
+            "Frame -",
+            "frame",
+            "frame ",
+            "frame - ",
+            " frame -",
+            "frame  -",
+            "frame - -",
+            "frame\t-",
+            "frame -\r",
+            "frame ba",
+            "frame BAB",
+            "get 3 00 0",
+            "get 2 00 18446744073709551616",
+            "put 2 0000 0 65536",
+            "put 4 00000000 0 4294967296",
+            "put 8 - 0 18446744073709551616",
+            "price 00000000000000",
+            "price 000000000000000000",
+            "kind C 41",
+            "kind a 41",
+            "step - 256 0",
+            "step - 1 4294967296",
+            "day -1",
+            "day +1",
+            "day 4294967296",
+            "year 10000",
+            "due 1",
+            "silent 1 2 3",
+            "day é",
+        ] {
+            check(line, "?");
+        }
+        assert_eq!(answer(b"frame \xFF"), "?");
+        assert_eq!(answer(b"frame -\0"), "?");
+    }
+
+    #[test]
+    fn longest_line() {
+        let line = |zeros: usize| format!("get 2 {} 10", "00".repeat(zeros));
+        assert_eq!(line(3_995).len(), 7_999);
+        check(&line(3_995), "0");
+        assert_eq!(line(3_996).len(), 8_001);
+        check(&line(3_996), "?");
+        let even = format!("frame {}", "00".repeat(3_997));
+        assert_eq!(even.len(), LONGEST);
+        check(&even, "1");
+    }
+
+    #[test]
+    fn one_answer_a_line_and_none_for_the_rest() {
+        assert_eq!(answers(b""), "");
+        assert_eq!(answers(b"day 0"), "");
+        assert_eq!(answers(b"\n"), "?\n");
+        assert_eq!(answers(b"day 20240229\n\nframe -\nday 0"), "0\n?\n3\n");
+    }
+}

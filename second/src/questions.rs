@@ -1,0 +1,110 @@
+//! Makes the stored questions. Each section has its own seed, so that a new section leaves the
+//! others as they were.
+
+mod clock;
+mod frame;
+mod number;
+mod outside;
+mod table;
+mod text;
+
+/// All questions, each ended by LF.
+pub fn all() -> String {
+    let mut lines = Vec::new();
+    frame::ask(&mut lines);
+    number::ask(&mut lines);
+    text::ask(&mut lines);
+    table::ask(&mut lines);
+    clock::ask(&mut lines);
+    outside::ask(&mut lines);
+    let mut output = String::new();
+    for line in lines {
+        output.push_str(&line);
+        output.push('\n');
+    }
+    output
+}
+
+#[cfg(test)]
+mod tests {
+    use super::*;
+    use crate::ask;
+    use std::collections::BTreeSet;
+
+    #[test]
+    fn the_same_at_each_making() {
+        assert_eq!(all(), all());
+    }
+
+    #[test]
+    fn plain_text_of_a_fair_size() {
+        let questions = all();
+        assert!(questions.len() < 1_500_000);
+        for byte in questions.bytes() {
+            assert!(byte == b'\n' || byte == b'\t' || (32..=126).contains(&byte));
+        }
+    }
+
+    #[test]
+    fn one_answer_line_for_each_question() {
+        let questions = all();
+        let answers = ask::answers(questions.as_bytes());
+        assert!(questions.ends_with('\n') && answers.ends_with('\n'));
+        assert_eq!(
+            questions.matches('\n').count(),
+            answers.matches('\n').count()
+        );
+        for (question, answer) in questions.lines().zip(answers.lines()) {
+            assert!(!answer.is_empty());
+            assert_eq!(ask::answer(question.as_bytes()), answer);
+        }
+    }
+
+    /// The questions would show little if some answers never came.
+    #[test]
+    fn each_call_gets_each_of_its_answers() {
+        let questions = all();
+        let answers = ask::answers(questions.as_bytes());
+        let mut seen = BTreeSet::new();
+        for (question, answer) in questions.lines().zip(answers.lines()) {
+            let call = question.split(' ').next().unwrap();
+            let first = answer.split(' ').next().unwrap();
+            seen.insert(format!("{} {}", call, first));
+        }
+        for (call, expected) in [
+            ("frame", "0 1 2 3 ?"),
+            ("get", "0 1 18446744073709551615 ?"),
+            ("put", "0 13 ?"),
+            ("price", "0.0000 -0.0001 12.3400 ?"),
+            ("kind", "0 1 ?"),
+            ("filled", "0 1 ?"),
+            ("step", "0 5 13 14 15 ?"),
+            ("day", "0 19 ?"),
+            ("year", "?"),
+            ("due", "0 1 ?"),
+            ("silent", "0 1 ?"),
+        ] {
+            for first in expected.split(' ') {
+                let pair = format!("{} {}", call, first);
+                assert!(seen.contains(&pair), "{}", pair);
+            }
+        }
+    }
+
+    /// Both sides of the longest line are asked, and only the longer is refused.
+    #[test]
+    fn longest_lines() {
+        let questions = all();
+        let lengths = |refused: bool| -> BTreeSet<usize> {
+            questions
+                .lines()
+                .filter(|line| {
+                    line.len() > 7_900 && (ask::answer(line.as_bytes()) == "?") == refused
+                })
+                .map(str::len)
+                .collect()
+        };
+        assert_eq!(lengths(false), BTreeSet::from([7_999, 8_000]));
+        assert_eq!(lengths(true), BTreeSet::from([8_001, 8_002]));
+    }
+}

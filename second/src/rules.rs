@@ -1,0 +1,36 @@
+//! The rules of document 01, one module a subject.
+
+pub mod calendar;
+pub mod frame;
+pub mod kinds;
+pub mod number;
+pub mod price;
+pub mod pulse;
+pub mod table;
+
+/// Document 01, "Numbers of refusal": those that the calls answered so far can give.
+#[derive(Clone, Copy, Debug, PartialEq, Eq)]
+pub enum Refusal {
+    /// A byte that should be BA is another.
+    Start = 1,
+    /// The length field is out of its range.
+    Length = 2,
+    /// The message is not all there yet.
+    Partial = 3,
+    /// The unit is not one of the 32.
+    Unit = 5,
+    /// The buffer is too short for the result.
+    Room = 13,
+    /// The number is not above the table's.
+    Behind = 14,
+    /// At least one number is missing between the table's and this one.
+    Ahead = 15,
+    /// Not a day of the years 1970 to 2099.
+    Day = 19,
+}
+
+impl Refusal {
+    pub fn number(self) -> u8 {
+        self as u8
+    }
+}

@@ -1,0 +1,144 @@
+//! The kinds of fields (document 01, "Wire basics"); the characters of identifiers are those of
+//! document 002.
+
+#[derive(Clone, Copy, Debug, PartialEq, Eq)]
+pub enum Kind {
+    /// A
+    Letters,
+    /// N
+    LettersAndDigits,
+    /// T
+    Text,
+    /// B
+    Binary,
+    /// P
+    Price,
+    /// ClOrdID and OrigClOrdID
+    Identifier,
+}
+
+pub const ALL: [Kind; 6] = [
+    Kind::Letters,
+    Kind::LettersAndDigits,
+    Kind::Text,
+    Kind::Binary,
+    Kind::Price,
+    Kind::Identifier,
+];
+
+impl Kind {
+    /// The letter that stands for the kind in questions.
+    pub fn letter(self) -> char {
+        match self {
+            Kind::Letters => 'A',
+            Kind::LettersAndDigits => 'N',
+            Kind::Text => 'T',
+            Kind::Binary => 'B',
+            Kind::Price => 'P',
+            Kind::Identifier => 'I',
+        }
+    }
+
+    pub fn of_letter(word: &str) -> Option<Kind> {
+        ALL.into_iter()
+            .find(|kind| word == kind.letter().to_string())
+    }
+
+    /// Whether a byte may stand in a field of the kind, the filling NULs aside.
+    pub fn takes(self, byte: u8) -> bool {
+        match self {
+            Kind::Letters => byte.is_ascii_alphabetic(),
+            Kind::LettersAndDigits => byte.is_ascii_alphanumeric(),
+            Kind::Text => (32..=126).contains(&byte),
+            Kind::Identifier => (33..=126).contains(&byte) && !b",;|@\"".contains(&byte),
+            Kind::Binary | Kind::Price => true,
+        }
+    }
+}
+
+/// A field is blank when it holds no byte but NUL.
+pub fn blank(field: &[u8]) -> bool {
+    field.iter().all(|byte| *byte == 0)
+}
+
+/// Whether a field agrees with its kind, blank allowed. In a text only NULs follow the first NUL.
+pub fn agrees(kind: Kind, field: &[u8]) -> bool {
+    if kind == Kind::Binary || kind == Kind::Price {
+        return true;
+    }
+    let end = field
+        .iter()
+        .position(|byte| *byte == 0)
+        .unwrap_or(field.len());
+    let text = &field[..end];
+    let filling = &field[end..];
+    text.iter().all(|byte| kind.takes(*byte)) && blank(filling)
+}
+
+/// The same for a field that is never blank.
+pub fn filled(kind: Kind, field: &[u8]) -> bool {
+    agrees(kind, field) && !blank(field)
+}
+
+#[cfg(test)]
+mod tests {
+    use super::*;
+
+    fn taken(kind: Kind) -> usize {
+        (0..=255).filter(|byte| kind.takes(*byte)).count()
+    }
+
+    #[test]
+    fn counts_of_characters() {
+        assert_eq!(taken(Kind::Letters), 52);
+        assert_eq!(taken(Kind::LettersAndDigits), 62);
+        assert_eq!(taken(Kind::Text), 95);
+        assert_eq!(taken(Kind::Identifier), 94 - 5);
+    }
+
+    #[test]
+    fn identifiers() {
+        assert!(filled(Kind::Identifier, b"ABC123\0\0"));
+        assert!(filled(Kind::Identifier, b"!~"));
+        for bad in [b"A,", b"A;", b"A|", b"A@", b"A\"", b"A ", b"A\x7F", b"\0A"] {
+            assert!(!filled(Kind::Identifier, bad));
+            assert!(!agrees(Kind::Identifier, bad));
+        }
+    }
+
+    #[test]
+    fn blanks() {
+        for kind in ALL {
+            for size in 0..=20 {
+                assert!(agrees(kind, &vec![0; size]));
+                assert!(!filled(kind, &vec![0; size]));
+            }
+        }
+        assert!(filled(Kind::Binary, &[0, 0, 0, 1]));
+        assert!(filled(Kind::Price, &[0, 128]));
+    }
+
+    #[test]
+    fn nothing_follows_the_first_nul() {
+        for kind in [
+            Kind::Letters,
+            Kind::LettersAndDigits,
+            Kind::Text,
+            Kind::Identifier,
+        ] {
+            assert!(agrees(kind, b"AB\0\0"));
+            assert!(!agrees(kind, b"A\0B\0"));
+            assert!(!agrees(kind, b"\0\0\0B"));
+        }
+    }
+
+    #[test]
+    fn letters_of_kinds() {
+        for kind in ALL {
+            assert_eq!(Kind::of_letter(&kind.letter().to_string()), Some(kind));
+        }
+        for word in ["", "a", "AA", "C", "i"] {
+            assert_eq!(Kind::of_letter(word), None);
+        }
+    }
+}
