@@ -1,0 +1,130 @@
+-- The bit dictionary: document 01's lists, a line for each listed bit of a message. Definitions alone. Assumes nothing.
+use Prim.Native.Nat.{ℕ, _+_}
+use mathlib.Core.Bool.{Bool, true, false, cond, _&&_}
+use mathlib.Core.List.{List, [], _∷_}
+use lib.Dec.{eqb}
+use Rattle.kinds.specs.declared.Kind.{Kind}
+use Rattle.kinds.specs.declared.Kind.the-variants.{Letters, Alphanumeric, Text, Binary, Price}
+use Rattle.dictionary.specs.declared.Entry.{Entry}
+use Rattle.dictionary.specs.declared.Entry.the-variants.{Refused, Field}
+
+-- the kinds by document 01's letters
+abbrev A : Kind
+A = Letters
+
+abbrev N : Kind
+N = Alphanumeric
+
+abbrev T : Kind
+T = Text
+
+abbrev B : Kind
+B = Binary
+
+abbrev P : Kind
+P = Price
+
+-- a line: bitfield byte, bit (1, 2, 4 to 128), width, kind
+pub data Line : Type 0 where
+  line : ℕ → ℕ → ℕ → Kind → Line
+
+-- New Order
+abbrev pub newOrder : List Line
+newOrder =
+    line 1 1 4 A -- ClearingFirm
+    ∷ line 1 2 4 T -- ClearingAccount
+    ∷ line 1 4 8 P -- Price
+    ∷ line 1 8 1 T -- ExecInst
+    ∷ line 1 16 1 N -- OrdType
+    ∷ line 1 32 1 N -- TimeInForce
+    ∷ line 1 64 4 B -- MinQty
+    ∷ line 1 128 4 B -- MaxFloor
+    ∷ line 2 1 8 N -- Symbol
+    ∷ line 2 2 8 N -- SymbolSfx
+    ∷ line 2 64 1 A -- Capacity
+    ∷ line 2 128 4 T -- RoutingInst
+    ∷ line 3 1 16 T -- Account
+    ∷ line 3 64 1 A -- LocateReqd
+    ∷ line 3 128 8 B -- ExpireTime
+    ∷ line 6 1 4 B -- DisplayRange
+    ∷ line 6 2 8 P -- StopPx
+    ∷ line 6 16 1 T -- ExDestination
+    ∷ line 6 32 64 T -- EchoText
+    ∷ line 10 2 4 A -- LocateBroker
+    ∷ []
+
+-- Cancel Order
+abbrev pub cancelOrder : List Line
+cancelOrder =
+    line 1 1 4 A -- ClearingFirm
+    ∷ []
+
+-- Order Acknowledgment
+abbrev pub acknowledgments : List Line
+acknowledgments =
+    line 1 1 1 N -- Side
+    ∷ line 1 4 8 P -- Price
+    ∷ line 1 8 1 T -- ExecInst
+    ∷ line 1 16 1 N -- OrdType
+    ∷ line 1 32 1 N -- TimeInForce
+    ∷ line 1 64 4 B -- MinQty
+    ∷ line 2 1 8 N -- Symbol
+    ∷ line 2 2 8 N -- SymbolSfx
+    ∷ line 2 64 1 A -- Capacity
+    ∷ line 3 1 16 T -- Account
+    ∷ line 3 2 4 A -- ClearingFirm
+    ∷ line 3 4 4 T -- ClearingAccount
+    ∷ line 3 16 4 B -- MaxFloor
+    ∷ line 3 64 4 B -- OrderQty
+    ∷ line 5 2 4 B -- LeavesQty
+    ∷ line 5 4 4 B -- LastShares
+    ∷ line 5 8 8 P -- LastPx
+    ∷ line 5 128 8 B -- ExpireTime
+    ∷ []
+
+-- Order Execution
+abbrev pub executions : List Line
+executions =
+    line 1 1 1 N -- Side
+    ∷ line 1 4 8 P -- Price
+    ∷ line 1 8 1 T -- ExecInst
+    ∷ line 1 16 1 N -- OrdType
+    ∷ line 1 32 1 N -- TimeInForce
+    ∷ line 1 64 4 B -- MinQty
+    ∷ line 2 1 8 N -- Symbol
+    ∷ line 2 2 8 N -- SymbolSfx
+    ∷ line 2 64 1 A -- Capacity
+    ∷ line 3 1 16 T -- Account
+    ∷ line 3 2 4 A -- ClearingFirm
+    ∷ line 3 4 4 T -- ClearingAccount
+    ∷ line 3 16 4 B -- MaxFloor
+    ∷ line 3 64 4 B -- OrderQty
+    ∷ []
+
+-- A message's list. Order Execution uses the acknowledgment's bits, narrowed to those that 000 marks for it; other types have none.
+abbrev pub listOf : ℕ → List Line
+listOf message =
+    cond (eqb message 0x38) newOrder
+    (cond (eqb message 0x39) cancelOrder
+    (cond (eqb message 0x25) acknowledgments
+    (cond (eqb message 0x2C) executions
+    [])))
+
+abbrev pub pick : Bool → Entry → Entry → Entry
+pick true a b = a
+pick false a b = b
+
+-- which bit a value is, counted from 0, the lowest
+abbrev pub indexOf : ℕ → ℕ
+indexOf value =
+    cond (eqb value 1) 0 (cond (eqb value 2) 1 (cond (eqb value 4) 2 (cond (eqb value 8) 3
+    (cond (eqb value 16) 4 (cond (eqb value 32) 5 (cond (eqb value 64) 6 7))))))
+
+-- The line of a byte and a bit (counted from 0), with its place in the full layout: the widths of the lines before it.
+-- A bit not listed is refused.
+abbrev pub lookup : List Line → ℕ → ℕ → ℕ → Entry
+lookup [] place byte bit = Refused
+lookup (line b t w k ∷ ls) place byte bit = pick (eqb byte b && eqb bit (indexOf t)) (Field w k place) (lookup ls (place + w) byte bit)
+
+unfoldable pub entryOf : ℕ → ℕ → ℕ → Entry
+entryOf message byte bit = lookup (listOf message) 0 byte bit

@@ -1,0 +1,10 @@
+pub mod Slots
+pub mod SlotLaws
+pub mod Places
+pub mod Walk
+pub mod WalkLaws
+pub mod Dictionaries
+pub mod Takes
+pub mod Looks
+pub mod Gives
+pub mod Loops

@@ -1,0 +1,105 @@
+-- The code's loops over bitfield bytes and over the bits of one byte are a walk over the 120 places, whatever the walk's state.
+-- Assumes nothing.
+use mathlib.Core.Path.{_≡_, refl, sym, ap, ap₂, _∙_, subst}
+use mathlib.Core.Bool.{Bool, true, false, _&&_}
+use mathlib.Core.List.{List}
+use Prim.Native.Nat.{ℕ, zero, suc, _+_, _*_, _-_, _/_, _%_, _^_, _≤_, _<_}
+use native.Mathlib.Nat.{add-zero, div-div-eq-div-mul, pow-suc, zero-div}
+use native.Mathlib.Numerals.{add-one}
+use native.Mathlib.Omega.{arith}
+use lib.Dec.{ltb, eqb}
+use lib.ListN.{getD}
+use borrow.Author.Tests.{lt-ltb, le-ltb}
+use Rattle.dictionary.specs.Dictionary.{entryOf}
+use Rattle.fields.specs.Places.{bitSet, selectedAt, entryAt}
+use Rattle.fields.specs.Walk.{pick, walk}
+use Rattle.fields.specs.WalkLaws.{walk-add, walk-skip, walk-one}
+
+-- ---- the bits of one byte: x / 2 ^ i is what is left after i halvings
+
+pub halved : (x i : ℕ) → x / 2 ^ i / 2 ≡ x / 2 ^ (i + 1)
+halved x i = div-div-eq-div-mul x (2 ^ i) 2 ∙ ap (λ (n : ℕ). x / n) (sym (pow-suc 2 i)) ∙ rw add-one refl
+
+gone : (x i n : ℕ) → x / 2 ^ i ≡ 0 → x / 2 ^ (i + n) ≡ 0
+gone x i zero h = rw (add-zero i) h
+gone x i (suc n) h =
+    let e : i + suc n ≡ i + n + 1 = omega arith in
+    ap (λ (m : ℕ). x / 2 ^ m) e ∙ sym (halved x (i + n)) ∙ ap (λ (m : ℕ). m / 2) (gone x i n h)
+
+within : (x i n : ℕ) → i + n ≡ 8 → x < 256 → (x / 2 ^ i ≡ 0 → ⊥) → i < 8
+within x i zero e l n =
+    let a : i ≡ 8 = omega arith in
+    absurd (n (ap (λ (m : ℕ). x / 2 ^ m) a ∙ omega arith))
+within x i (suc d) e l n = omega arith
+
+-- while something is left there is a bit to look at
+pub bit-left : (x i : ℕ) → x < 256 → i ≤ 8 → (x / 2 ^ i ≡ 0 → ⊥) → i < 8
+bit-left x i l h n = within x i (8 - i) (omega arith) l n
+
+pub first-bit : (x : ℕ) → x ≡ x / 2 ^ 0
+first-bit x = omega arith
+
+-- ---- places
+
+-- the entry of a bit of byte j
+pub entry-here : (message j i : ℕ) → i < 8 → entryAt message (8 * j + i) ≡ entryOf message (j + 1) i
+unfolding entryAt
+entry-here message j i h =
+    let a : (8 * j + i) / 8 ≡ j = omega arith in
+    let b : (8 * j + i) % 8 ≡ i = omega arith in
+    rw (a, b)
+
+module _ (count : ℕ) (bits : List ℕ) where
+  -- whether a bit of a bitfield byte is selected
+  pub selected-here : (j i : ℕ) → j < count → i < 8 → selectedAt count bits (8 * j + i) ≡ eqb (getD bits j 0 / 2 ^ i % 2) 1
+  unfolding selectedAt
+  selected-here j i h l =
+      let a : (8 * j + i) / 8 ≡ j = omega arith in
+      let b : (8 * j + i) % 8 ≡ i = omega arith in
+      rw (a, b, lt-ltb j count h)
+
+  dark : (j i : ℕ) → j < count → i < 8 → getD bits j 0 / 2 ^ i ≡ 0 → selectedAt count bits (8 * j + i) ≡ false
+  dark j i h l z = selected-here j i h l ∙ rw z
+
+  past : (k : ℕ) → count ≤ k / 8 → selectedAt count bits k ≡ false
+  unfolding selectedAt
+  past k h = rw (le-ltb (k / 8) count h)
+
+  module _ {S : Type 0} (change : ℕ → S → S) where
+    -- one bit more of byte j, of which x is left
+    pub byte-more : (j i x : ℕ) (st : S) → j < count → i < 8 → x ≡ getD bits j 0 / 2 ^ i
+        → walk (selectedAt count bits) change (8 - (i + 1)) (8 * j + (i + 1)) (pick (eqb (x % 2) 1) (change (8 * j + i) st) st)
+        ≡ walk (selectedAt count bits) change (8 - i) (8 * j + i) st
+    byte-more j i x st h l e =
+        let n : 8 - i ≡ suc (8 - (i + 1)) = omega arith in
+        let k : suc (8 * j + i) ≡ 8 * j + (i + 1) = omega arith in
+        let b : selectedAt count bits (8 * j + i) ≡ eqb (x % 2) 1 = selected-here j i h l ∙ ap (λ (y : ℕ). eqb (y % 2) 1) (sym e) in
+        sym
+        (ap (λ (m : ℕ). walk (selectedAt count bits) change m (8 * j + i) st) n
+        ∙ walk-one (selectedAt count bits) change (8 - (i + 1)) (8 * j + i) st
+        ∙ ap₂ (λ (m : ℕ) (c : Bool). walk (selectedAt count bits) change (8 - (i + 1)) m (pick c (change (8 * j + i) st) st)) k b)
+
+    -- nothing is left of byte j
+    pub byte-done : (j i : ℕ) (st : S) → j < count → i ≤ 8 → getD bits j 0 / 2 ^ i ≡ 0 → walk (selectedAt count bits) change (8 - i) (8 * j + i) st ≡ st
+    byte-done j i st h l z =
+        walk-skip (selectedAt count bits) change (8 - i) (8 * j + i) st
+        (λ k p q.
+        let a : 8 * j + (k - 8 * j) ≡ k = omega arith in
+        let b : i + (k - 8 * j - i) ≡ k - 8 * j = omega arith in
+        ap (selectedAt count bits) (sym a) ∙ dark j (k - 8 * j) h (omega arith) (ap (λ (m : ℕ). getD bits j 0 / 2 ^ m) (sym b) ∙ gone (getD bits j 0) i (k - 8 * j - i) z))
+
+    -- one byte more
+    pub all-more : (j : ℕ) (st : S) → j < 15
+        → walk (selectedAt count bits) change (120 - 8 * (j + 1)) (8 * (j + 1)) (walk (selectedAt count bits) change 8 (8 * j) st)
+        ≡ walk (selectedAt count bits) change (120 - 8 * j) (8 * j) st
+    all-more j st h =
+        let n : 8 + (120 - 8 * (j + 1)) ≡ 120 - 8 * j = omega arith in
+        let k : 8 * j + 8 ≡ 8 * (j + 1) = omega arith in
+        sym
+        (ap (λ (m : ℕ). walk (selectedAt count bits) change m (8 * j) st) (sym n)
+        ∙ walk-add (selectedAt count bits) change 8 (120 - 8 * (j + 1)) (8 * j) st
+        ∙ ap (λ (m : ℕ). walk (selectedAt count bits) change (120 - 8 * (j + 1)) m (walk (selectedAt count bits) change 8 (8 * j) st)) k)
+
+    -- no byte is left
+    pub all-done : (j : ℕ) (st : S) → count ≤ j → walk (selectedAt count bits) change (120 - 8 * j) (8 * j) st ≡ st
+    all-done j st h = walk-skip (selectedAt count bits) change (120 - 8 * j) (8 * j) st (λ k p q. past k (omega arith))

@@ -1,0 +1,78 @@
+-- A walk over the places, as the code goes: a selected place changes a state, an unselected one leaves it. And the three walks:
+-- taking a message's fields, looking at a record's, giving them to a message. Definitions alone. Assumes nothing.
+use Prim.Native.Nat.{ℕ, zero, suc, _+_}
+use mathlib.Core.Bool.{Bool, true, false, cond, _&&_}
+use mathlib.Core.List.{List, [], _∷_}
+use lib.Dec.{leb}
+use lib.ListN.{length, take, drop}
+use Rattle.kinds.specs.declared.Kind.{Kind}
+use Rattle.kinds.specs.Kinds.{agreesOf}
+use Rattle.numbers.specs.Numbers.{patched}
+use Rattle.dictionary.specs.declared.Entry.{Entry}
+use Rattle.dictionary.specs.declared.Entry.the-variants.{Refused, Field}
+
+abbrev pub pick : {S : Type 0} → Bool → S → S → S
+pick true a b = a
+pick false a b = b
+
+-- n places from place k on
+unfoldable pub walk : {S : Type 0} → (ℕ → Bool) → (ℕ → S → S) → ℕ → ℕ → S → S
+walk selected change zero k st = st
+walk selected change (suc n) k st = walk selected change n (suc k) (pick (selected k) (change k st) st)
+
+-- ---- taking: a message's optional bytes into a layout
+
+-- how far the message is taken (one past its end where it is too short), whether all agree and whether a bit is bad, and the layout
+pub record Taking : Type 0 where
+  pub at : ℕ
+  pub agree : Bool
+  pub bad : Bool
+  pub layout : List ℕ
+
+abbrev pub takeField : List ℕ → ℕ → Kind → ℕ → Taking → Taking
+takeField m w k p st =
+    pick (leb (st .at + w) (length m))
+    (record { at = st .at + w; agree = agreesOf k (take w (drop (st .at) m)) && st .agree; bad = st .bad; layout = patched (st .layout) p (take w (drop (st .at) m)) })
+    (record { at = suc (length m); agree = st .agree; bad = st .bad; layout = st .layout })
+
+unfoldable pub takeEntry : List ℕ → Entry → Taking → Taking
+takeEntry m Refused st = record { at = st .at; agree = st .agree; bad = true; layout = st .layout }
+takeEntry m (Field w k p) st = takeField m w k p st
+
+-- ---- looking: a record's selected fields
+
+-- their bytes in all, the sum of these bytes as numbers, whether all agree and whether a bit is bad
+pub record Looking : Type 0 where
+  pub total : ℕ
+  pub weight : ℕ
+  pub agree : Bool
+  pub bad : Bool
+
+-- the sum of bytes as numbers
+abbrev pub weightOf : List ℕ → ℕ
+weightOf [] = 0
+weightOf (b ∷ bs) = b + weightOf bs
+
+unfoldable pub lookEntry : List ℕ → Entry → Looking → Looking
+lookEntry v Refused st = record { total = st .total; weight = st .weight; agree = st .agree; bad = true }
+lookEntry v (Field w k p) st =
+    record {
+      total = st .total + w;
+      weight = st .weight + weightOf (take w (drop p v));
+      agree = agreesOf k (take w (drop p v)) && st .agree;
+      bad = st .bad;
+    }
+
+-- ---- giving: a layout's selected fields into a message
+
+-- where the next field goes, and the message's buffer
+pub record Giving : Type 0 where
+  pub at : ℕ
+  pub buffer : List ℕ
+
+unfoldable pub giveEntry : List ℕ → Entry → Giving → Giving
+giveEntry v Refused st = st
+giveEntry v (Field w k p) st =
+    pick (leb (st .at + w) (length (st .buffer)))
+    (record { at = st .at + w; buffer = patched (st .buffer) (st .at) (take w (drop p v)) })
+    st
