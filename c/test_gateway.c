@@ -1,4 +1,4 @@
-/* Checks the C entry points: hand-made cases, and every stored question on framing and on table steps.
+/* Checks the C entry points: hand-made cases, and every stored question on framing, table steps, reading and writing.
  * usage: test_gateway QUESTIONS ANSWERS */
 #include "boe.h"
 
@@ -67,6 +67,75 @@ static void steps(void) {
     check(boe_table_step(table, sizeof table, 1, UINT32_MAX) == BOE_ALREADY_TAKEN, "not even its own number");
 }
 
+/* 000's examples, texts filled with NULs to their width. */
+static const uint8_t new_order[76] = {
+    0xBA, 0xBA, 0x4A, 0, 0x38, 0, 0x64, 0, 0, 0, 'A', 'B', 'C', '1', '2', '3', 0, 0, 0, 0, 0, 0, 0, 0, 0, 0, 0, 0, 0, 0,
+    '1', 0xE8, 0x03, 0, 0, 3, 0x04, 0xC1, 0x01, 0x44, 0xD6, 0x12, 0, 0, 0, 0, 0, 'M', 'S', 'F', 'T', 0, 0, 0, 0, 'P',
+    'R', 0, 0, 0, 'D', 'E', 'F', 'G'};
+static const uint8_t cancel_order[36] = {
+    0xBA, 0xBA, 0x22, 0, 0x39, 0, 0x64, 0, 0, 0, 'A', 'B', 'C', '1', '2', '3', 0, 0, 0, 0, 0, 0, 0, 0, 0, 0, 0, 0, 0, 0,
+    1, 0x01, 'T', 'E', 'S', 'T'};
+static const uint8_t acknowledgment[80] = {
+    0xBA, 0xBA, 0x4E, 0, 0x25, 0x03, 0x64, 0, 0, 0, 0xE0, 0xFA, 0x20, 0xF7, 0x36, 0x71,
+    0xF8, 0x11, 0x41, 0x42, 0x43, 0x31, 0x32, 0x33, 0, 0, 0, 0, 0, 0, 0, 0,
+    0, 0, 0, 0, 0, 0, 0x05, 0x10, 0x1E, 0xB7, 0x5E, 0x39, 0x2F, 0x02, 0, 0x03,
+    0, 0x41, 0x05, 0x4D, 0x53, 0x46, 0x54, 0, 0, 0, 0, 0x50, 0x41, 0x42, 0x43, 0,
+    0, 0, 0, 0, 0, 0, 0, 0, 0, 0, 0, 0, 0, 0, 0, 0};
+static const uint8_t execution[85] = {
+    0xBA, 0xBA, 0x53, 0, 0x2C, 0x03, 0x64, 0, 0, 0, 0xE0, 0xFA, 0x20, 0xF7, 0x36, 0x71,
+    0xF8, 0x11, 0x41, 0x42, 0x43, 0x31, 0x32, 0x33, 0, 0, 0, 0, 0, 0, 0, 0,
+    0, 0, 0, 0, 0, 0, 0x01, 0xF0, 0xB7, 0xD9, 0x71, 0x21, 0, 0, 0x64, 0,
+    0, 0, 0x08, 0xE2, 0x01, 0, 0, 0, 0, 0, 0x14, 0, 0, 0, 0x41, 0,
+    0x42, 0x41, 0x54, 0x53, 0, 0x03, 0, 0, 0x46, 0x54, 0x45, 0x53, 0x54, 0x31, 0x32, 0x33,
+    0x43, 0x78, 0, 0, 0};
+
+/* A message read and written again: the same bytes, and bytes after them untouched. */
+static void again(uint8_t direction, const uint8_t *message, size_t len) {
+    uint8_t bytes[300], record[BOE_RECORD_LEN + 3], out[300];
+    memcpy(bytes, message, len);
+    memset(bytes + len, 0xEE, sizeof bytes - len);
+    memset(record, 0x5A, sizeof record);
+    memset(out, 0x5A, sizeof out);
+    check(boe_read(direction, bytes, sizeof bytes, record, sizeof record) == 0, "an example is read, whatever follows it");
+    check(record[BOE_RECORD_LEN] == 0x5A && record[BOE_RECORD_LEN + 2] == 0x5A, "bytes past the record stay");
+    check(boe_write(direction, record, sizeof record, out, len) == 0, "its record is written into a buffer of its length");
+    check(memcmp(out, message, len) == 0 && out[len] == 0x5A, "as the same bytes, and no byte more");
+    memset(out, 0x5A, sizeof out);
+    check(boe_write(direction, record, sizeof record, out, len - 1) == BOE_NO_ROOM, "one byte short");
+    check(boe_write(direction, record, BOE_RECORD_LEN - 1, out, len) == BOE_NO_ROOM, "a short record");
+    check(boe_write((uint8_t)(1 - direction), record, sizeof record, out, len) == BOE_UNKNOWN_TYPE, "the other direction");
+    check(boe_write(2, record, sizeof record, out, len) == BOE_UNKNOWN_TYPE, "no direction");
+    check(out[0] == 0x5A && out[len - 1] == 0x5A, "refusals stored nothing");
+    memset(record, 0x5A, sizeof record);
+    check(boe_read(direction, bytes, len - 1, record, sizeof record) == BOE_INCOMPLETE, "a cut message");
+    check(boe_read((uint8_t)(1 - direction), bytes, len, record, sizeof record) == BOE_UNKNOWN_TYPE, "read in the other direction");
+    check(boe_read(255, bytes, len, record, sizeof record) == BOE_UNKNOWN_TYPE, "read in no direction");
+    check(boe_read(direction, bytes, len, record, BOE_RECORD_LEN - 1) == BOE_NO_ROOM, "a short buffer for the record");
+    check(boe_read(direction, bytes, 9, record, 0) == BOE_INCOMPLETE, "13 comes after the message's refusals");
+    check(record[0] == 0x5A && record[BOE_RECORD_LEN - 2] == 0x5A, "refusals stored nothing");
+}
+
+static void messages(void) {
+    uint8_t record[BOE_RECORD_LEN], out[300];
+    again(BOE_FROM_MEMBER, new_order, sizeof new_order);
+    again(BOE_FROM_MEMBER, cancel_order, sizeof cancel_order);
+    again(BOE_FROM_VENUE, acknowledgment, sizeof acknowledgment);
+    again(BOE_FROM_VENUE, execution, sizeof execution);
+    check(boe_read(BOE_FROM_MEMBER, new_order, sizeof new_order, record, sizeof record) == 0, "New Order");
+    check(record[BOE_RECORD_TYPE_AT] == BOE_NEW_ORDER && record[BOE_RECORD_COUNT_AT] == 3, "its type and count");
+    check(memcmp(record + BOE_NEW_ORDER_CL_ORD_ID_AT, new_order + 10, BOE_NEW_ORDER_CL_ORD_ID_LEN) == 0, "ClOrdID");
+    check(memcmp(record + BOE_NEW_ORDER_PRICE_AT, new_order + 39, BOE_NEW_ORDER_PRICE_LEN) == 0, "Price is at 39");
+    check(memcmp(record + BOE_NEW_ORDER_SYMBOL_AT, new_order + 47, BOE_NEW_ORDER_SYMBOL_LEN) == 0, "Symbol is at 47");
+    check(memcmp(record + BOE_NEW_ORDER_CAPACITY_AT, new_order + 55, BOE_NEW_ORDER_CAPACITY_LEN) == 0, "Capacity is at 55");
+    check(memcmp(record + BOE_NEW_ORDER_ROUTING_INST_AT, new_order + 56, BOE_NEW_ORDER_ROUTING_INST_LEN) == 0, "RoutingInst is at 56");
+    check(memcmp(record + BOE_NEW_ORDER_ACCOUNT_AT, new_order + 60, BOE_NEW_ORDER_ACCOUNT_LEN) == 0, "Account is at 60");
+    record[BOE_NEW_ORDER_STOP_PX_AT] = 1;
+    check(boe_write(BOE_FROM_MEMBER, record, sizeof record, out, sizeof out) == BOE_NOT_ZERO, "a field that is not selected");
+    record[BOE_NEW_ORDER_STOP_PX_AT] = 0;
+    record[BOE_RECORD_BITFIELDS_AT + BOE_NEW_ORDER_SYMBOL_BYTE - 1] &= (uint8_t)~BOE_NEW_ORDER_SYMBOL_BIT;
+    check(boe_write(BOE_FROM_MEMBER, record, sizeof record, out, sizeof out) == BOE_NOT_SELECTED, "Symbol is required");
+}
+
 /* ---- the stored questions */
 
 static int nibble(int c) {
@@ -124,6 +193,28 @@ static int answer(char *question, char *out) {
         sprintf(out, "%u %s", refusal, hex);
         return 1;
     }
+    if (strcmp(call, "read") == 0 && second && !third) {
+        uint8_t record[BOE_RECORD_LEN];
+        long n = unhex(second, bytes);
+        if (n < 0) return 0;
+        unsigned refusal = boe_read((uint8_t)atoi(first), bytes, (size_t)n, record, sizeof record);
+        if (refusal) {
+            sprintf(out, "%u", refusal);
+        } else {
+            tohex(record, BOE_RECORD_LEN, hex);
+            sprintf(out, "0 %s", hex);
+        }
+        return 1;
+    }
+    if (strcmp(call, "write") == 0 && second && third && strtok(NULL, " ") == NULL) {
+        static uint8_t given[MOST_BYTES];
+        long k = unhex(second, given), n = unhex(third, bytes);
+        if (k < 0 || n < 0) return 0;
+        unsigned refusal = boe_write((uint8_t)atoi(first), given, (size_t)k, bytes, (size_t)n);
+        tohex(bytes, n, hex);
+        sprintf(out, "%u %s", refusal, hex);
+        return 1;
+    }
     return 0;
 }
 
@@ -147,7 +238,7 @@ static void stored(FILE *questions, FILE *answers) {
         }
     }
     check(fgets(expected, sizeof expected, answers) == NULL, "more answers than questions");
-    check(asked > 1000, "the stored questions were asked");
+    check(asked > 9000, "the stored questions were asked");
 }
 
 int main(int argc, char **argv) {
@@ -162,6 +253,7 @@ int main(int argc, char **argv) {
     }
     framing();
     steps();
+    messages();
     stored(questions, answers);
     printf("test_gateway: %lu checks, %lu failed\n", checks, failures);
     return failures == 0 ? 0 : 1;

@@ -2,7 +2,7 @@
 
 use crate::hex;
 use crate::rules::kinds::{self, Kind};
-use crate::rules::{calendar, frame, number, price, pulse, table, Refusal};
+use crate::rules::{calendar, frame, number, price, pulse, read, table, write, Refusal};
 
 /// The most characters of a question, its LF not counted.
 pub const LONGEST: usize = 8_000;
@@ -62,7 +62,7 @@ fn understood(line: &[u8]) -> Option<String> {
         }
         ["step", bytes, unit, number] => {
             let buffer = hex::read(bytes)?;
-            let unit = read_number(unit, u64::from(u8::MAX))? as u8;
+            let unit = read_u8(unit)?;
             let number = read_u32(number)?;
             Some(step(buffer, unit, number))
         }
@@ -70,6 +70,17 @@ fn understood(line: &[u8]) -> Option<String> {
         ["year", year] => Some(year_of_days(read_number(year, 9_999)? as u32)),
         ["due", now, then] => Some(truth(pulse::due(read_u32(now)?, read_u32(then)?))),
         ["silent", now, then] => Some(truth(pulse::silent(read_u32(now)?, read_u32(then)?))),
+        ["read", direction, bytes] => {
+            let direction = read_u8(direction)?;
+            let buffer = hex::read(bytes)?;
+            Some(read(direction, &buffer))
+        }
+        ["write", direction, record, bytes] => {
+            let direction = read_u8(direction)?;
+            let record = hex::read(record)?;
+            let buffer = hex::read(bytes)?;
+            Some(write(direction, &record, buffer))
+        }
         _ => None,
     }
 }
@@ -91,6 +102,10 @@ fn read_number(word: &str, greatest: u64) -> Option<u64> {
         return None;
     }
     Some(value as u64)
+}
+
+fn read_u8(word: &str) -> Option<u8> {
+    read_number(word, u64::from(u8::MAX)).map(|value| value as u8)
 }
 
 fn read_u32(word: &str) -> Option<u32> {
@@ -147,6 +162,18 @@ fn put(mut buffer: Vec<u8>, at: u64, width: u64, value: u64) -> String {
 
 fn step(mut buffer: Vec<u8>, unit: u8, number: u32) -> String {
     let result = table::step(&mut buffer, unit, number);
+    format!("{} {}", refusal(result), hex::write(&buffer))
+}
+
+fn read(direction: u8, buffer: &[u8]) -> String {
+    match read::message(direction, buffer) {
+        Ok(record) => format!("0 {}", hex::write(&record.bytes())),
+        Err(refusal) => refusal.number().to_string(),
+    }
+}
+
+fn write(direction: u8, record: &[u8], mut buffer: Vec<u8>) -> String {
+    let result = write::record(direction, record, &mut buffer);
     format!("{} {}", refusal(result), hex::write(&buffer))
 }
 
@@ -211,6 +238,37 @@ mod tests {
         check("silent 4999 0", "0");
     }
 
+    /// P8, its record by the table of README.md, and back.
+    #[test]
+    fn read_and_write() {
+        let cancel = format!("BABA1D00390064000000414243313233{}00", "00".repeat(14));
+        let record = format!("390064000000414243313233{}", "00".repeat(223));
+        check(&format!("read 0 {}", cancel), &format!("0 {}", record));
+        check(&format!("read 1 {}", cancel), "4");
+        check(&format!("read 2 {}", cancel), "4");
+        check(&format!("read 255 {}EE", &cancel[..60]), "4");
+        check(&format!("read 255 {}", &cancel[..60]), "3");
+        check(&format!("read 0 {}", &cancel[..60]), "3");
+        let buffer = "EE".repeat(32);
+        check(
+            &format!("write 0 {} {}", record, buffer),
+            &format!("0 {}EE", cancel),
+        );
+        check(
+            &format!("write 0 {}FF {}", record, buffer),
+            &format!("0 {}EE", cancel),
+        );
+        check(
+            &format!("write 0 {} {}", record, &buffer[..60]),
+            &format!("13 {}", &buffer[..60]),
+        );
+        check(&format!("write 0 {} -", record), "13 -");
+        check(&format!("write 1 {} 0102", record), "4 0102");
+        check(&format!("write 9 {} 0102", record), "4 0102");
+        check(&format!("write 9 {} 0102", &record[2..]), "13 0102");
+        check("write 0 - -", "13 -");
+    }
+
     #[test]
     fn years() {
         let count = |question: &str| {
@@ -268,6 +326,17 @@ mod tests {
             "year 10000",
             "due 1",
             "silent 1 2 3",
+            "read 0",
+            "read -",
+            "read 0 - -",
+            "read 256 -",
+            "read A -",
+            "read 0 ba",
+            "write 0 -",
+            "write 0 - - -",
+            "write 256 - -",
+            "write 0 - 3",
+            "write 0 3 -",
             "day é",
         ] {
             check(line, "?");

@@ -1,12 +1,15 @@
 //! BYTES of the format: capital hex, two digits a byte, `-` for no bytes.
 
+const DIGITS: &[u8; 16] = b"0123456789ABCDEF";
+
 pub fn write(bytes: &[u8]) -> String {
     if bytes.is_empty() {
         return "-".to_string();
     }
     let mut text = String::new();
     for byte in bytes {
-        text.push_str(&format!("{:02X}", byte));
+        text.push(char::from(DIGITS[usize::from(byte >> 4)]));
+        text.push(char::from(DIGITS[usize::from(byte & 15)]));
     }
     text
 }

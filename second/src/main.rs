@@ -1,14 +1,15 @@
-//! The second program: makes the stored questions, or answers the questions it reads. README.md has
-//! the format.
+//! The second program: makes the stored questions or more of them, or answers the questions it
+//! reads. README.md has the format.
 
 mod ask;
+mod examples;
 mod hex;
 mod questions;
 mod random;
 mod rules;
 
 use std::env;
-use std::io::{self, Read, Write};
+use std::io::{self, BufWriter, Read, Write};
 use std::process::ExitCode;
 
 fn main() -> ExitCode {
@@ -20,10 +21,11 @@ fn main() -> ExitCode {
     let done = match words.as_slice() {
         ["questions"] => write_questions(),
         ["answers"] => write_answers(),
-        _ => {
-            eprintln!("usage: second questions | second answers < QUESTIONS");
-            return ExitCode::from(2);
-        }
+        ["more", seed, count] => match (seed.parse(), count.parse()) {
+            (Ok(seed), Ok(count)) => write_more(seed, count),
+            _ => return usage(),
+        },
+        _ => return usage(),
     };
     match done {
         Ok(()) => ExitCode::SUCCESS,
@@ -32,6 +34,11 @@ fn main() -> ExitCode {
             ExitCode::FAILURE
         }
     }
+}
+
+fn usage() -> ExitCode {
+    eprintln!("usage: second questions | second answers < QUESTIONS | second more SEED COUNT");
+    ExitCode::from(2)
 }
 
 fn write_questions() -> io::Result<()> {
@@ -43,6 +50,14 @@ fn write_answers() -> io::Result<()> {
     let mut input = Vec::new();
     io::stdin().lock().read_to_end(&mut input)?;
     write_out(ask::answers(&input).as_bytes())
+}
+
+fn write_more(seed: u64, count: usize) -> io::Result<()> {
+    let mut output = BufWriter::new(io::stdout().lock());
+    for line in questions::more::More::new(seed).take(count) {
+        writeln!(output, "{}", line)?;
+    }
+    output.flush()
 }
 
 fn write_out(bytes: &[u8]) -> io::Result<()> {

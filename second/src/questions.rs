@@ -2,11 +2,16 @@
 //! others as they were.
 
 mod clock;
+pub mod damage;
 mod frame;
+pub mod more;
 mod number;
 mod outside;
+mod read;
+pub mod sample;
 mod table;
 mod text;
+mod write;
 
 /// All questions, each ended by LF.
 pub fn all() -> String {
@@ -17,6 +22,8 @@ pub fn all() -> String {
     table::ask(&mut lines);
     clock::ask(&mut lines);
     outside::ask(&mut lines);
+    read::ask(&mut lines);
+    write::ask(&mut lines);
     let mut output = String::new();
     for line in lines {
         output.push_str(&line);
@@ -39,7 +46,7 @@ mod tests {
     #[test]
     fn plain_text_of_a_fair_size() {
         let questions = all();
-        assert!(questions.len() < 1_500_000);
+        assert!(questions.len() < 4_000_000);
         for byte in questions.bytes() {
             assert!(byte == b'\n' || byte == b'\t' || (32..=126).contains(&byte));
         }
@@ -83,6 +90,8 @@ mod tests {
             ("year", "?"),
             ("due", "0 1 ?"),
             ("silent", "0 1 ?"),
+            ("read", "0 1 2 3 4 5 6 7 8 9 10 ?"),
+            ("write", "0 4 5 7 8 9 10 12 13 ?"),
         ] {
             for first in expected.split(' ') {
                 let pair = format!("{} {}", call, first);

@@ -3,10 +3,14 @@
 pub mod calendar;
 pub mod frame;
 pub mod kinds;
+pub mod layout;
 pub mod number;
 pub mod price;
 pub mod pulse;
+pub mod read;
+pub mod record;
 pub mod table;
+pub mod write;
 
 /// Document 01, "Numbers of refusal": those that the calls answered so far can give.
 #[derive(Clone, Copy, Debug, PartialEq, Eq)]
@@ -17,8 +21,22 @@ pub enum Refusal {
     Length = 2,
     /// The message is not all there yet.
     Partial = 3,
-    /// The unit is not one of the 32.
+    /// The direction has no such type.
+    Type = 4,
+    /// The unit is not one that the message may carry.
     Unit = 5,
+    /// The message is not as long as its counts and fields make it.
+    Total = 6,
+    /// More bitfields than the message may have.
+    Count = 7,
+    /// A bit is set that is not listed.
+    Bit = 8,
+    /// A field that must be selected is not.
+    Missing = 9,
+    /// A value that its field does not take.
+    Value = 10,
+    /// A place of a record that its message does not use is not zero.
+    Unused = 12,
     /// The buffer is too short for the result.
     Room = 13,
     /// The number is not above the table's.

@@ -31,74 +31,74 @@ pub data Line : Type 0 where
 -- New Order
 abbrev pub newOrder : List Line
 newOrder =
-    line 1 1 4 A -- ClearingFirm
-    ∷ line 1 2 4 T -- ClearingAccount
-    ∷ line 1 4 8 P -- Price
-    ∷ line 1 8 1 T -- ExecInst
-    ∷ line 1 16 1 N -- OrdType
-    ∷ line 1 32 1 N -- TimeInForce
-    ∷ line 1 64 4 B -- MinQty
-    ∷ line 1 128 4 B -- MaxFloor
-    ∷ line 2 1 8 N -- Symbol
-    ∷ line 2 2 8 N -- SymbolSfx
-    ∷ line 2 64 1 A -- Capacity
-    ∷ line 2 128 4 T -- RoutingInst
-    ∷ line 3 1 16 T -- Account
-    ∷ line 3 64 1 A -- LocateReqd
-    ∷ line 3 128 8 B -- ExpireTime
-    ∷ line 6 1 4 B -- DisplayRange
-    ∷ line 6 2 8 P -- StopPx
-    ∷ line 6 16 1 T -- ExDestination
-    ∷ line 6 32 64 T -- EchoText
-    ∷ line 10 2 4 A -- LocateBroker
+    line 1 1 4 A  -- ClearingFirm
+    ∷ line 1 2 4 T  -- ClearingAccount
+    ∷ line 1 4 8 P  -- Price
+    ∷ line 1 8 1 T  -- ExecInst
+    ∷ line 1 16 1 N  -- OrdType
+    ∷ line 1 32 1 N  -- TimeInForce
+    ∷ line 1 64 4 B  -- MinQty
+    ∷ line 1 128 4 B  -- MaxFloor
+    ∷ line 2 1 8 N  -- Symbol
+    ∷ line 2 2 8 N  -- SymbolSfx
+    ∷ line 2 64 1 A  -- Capacity
+    ∷ line 2 128 4 T  -- RoutingInst
+    ∷ line 3 1 16 T  -- Account
+    ∷ line 3 64 1 A  -- LocateReqd
+    ∷ line 3 128 8 B  -- ExpireTime
+    ∷ line 6 1 4 B  -- DisplayRange
+    ∷ line 6 2 8 P  -- StopPx
+    ∷ line 6 16 1 T  -- ExDestination
+    ∷ line 6 32 64 T  -- EchoText
+    ∷ line 10 2 4 A  -- LocateBroker
     ∷ []
 
 -- Cancel Order
 abbrev pub cancelOrder : List Line
 cancelOrder =
-    line 1 1 4 A -- ClearingFirm
+    line 1 1 4 A  -- ClearingFirm
     ∷ []
 
 -- Order Acknowledgment
 abbrev pub acknowledgments : List Line
 acknowledgments =
-    line 1 1 1 N -- Side
-    ∷ line 1 4 8 P -- Price
-    ∷ line 1 8 1 T -- ExecInst
-    ∷ line 1 16 1 N -- OrdType
-    ∷ line 1 32 1 N -- TimeInForce
-    ∷ line 1 64 4 B -- MinQty
-    ∷ line 2 1 8 N -- Symbol
-    ∷ line 2 2 8 N -- SymbolSfx
-    ∷ line 2 64 1 A -- Capacity
-    ∷ line 3 1 16 T -- Account
-    ∷ line 3 2 4 A -- ClearingFirm
-    ∷ line 3 4 4 T -- ClearingAccount
-    ∷ line 3 16 4 B -- MaxFloor
-    ∷ line 3 64 4 B -- OrderQty
-    ∷ line 5 2 4 B -- LeavesQty
-    ∷ line 5 4 4 B -- LastShares
-    ∷ line 5 8 8 P -- LastPx
-    ∷ line 5 128 8 B -- ExpireTime
+    line 1 1 1 N  -- Side
+    ∷ line 1 4 8 P  -- Price
+    ∷ line 1 8 1 T  -- ExecInst
+    ∷ line 1 16 1 N  -- OrdType
+    ∷ line 1 32 1 N  -- TimeInForce
+    ∷ line 1 64 4 B  -- MinQty
+    ∷ line 2 1 8 N  -- Symbol
+    ∷ line 2 2 8 N  -- SymbolSfx
+    ∷ line 2 64 1 A  -- Capacity
+    ∷ line 3 1 16 T  -- Account
+    ∷ line 3 2 4 A  -- ClearingFirm
+    ∷ line 3 4 4 T  -- ClearingAccount
+    ∷ line 3 16 4 B  -- MaxFloor
+    ∷ line 3 64 4 B  -- OrderQty
+    ∷ line 5 2 4 B  -- LeavesQty
+    ∷ line 5 4 4 B  -- LastShares
+    ∷ line 5 8 8 P  -- LastPx
+    ∷ line 5 128 8 B  -- ExpireTime
     ∷ []
 
 -- Order Execution
 abbrev pub executions : List Line
 executions =
-    line 1 1 1 N -- Side
-    ∷ line 1 4 8 P -- Price
-    ∷ line 1 8 1 T -- ExecInst
-    ∷ line 1 16 1 N -- OrdType
-    ∷ line 1 32 1 N -- TimeInForce
-    ∷ line 1 64 4 B -- MinQty
-    ∷ line 2 1 8 N -- Symbol
-    ∷ line 2 2 8 N -- SymbolSfx
-    ∷ line 2 64 1 A -- Capacity
-    ∷ line 3 1 16 T -- Account
-    ∷ line 3 2 4 A -- ClearingFirm
-    ∷ line 3 4 4 T -- ClearingAccount
-    ∷ line 3 16 4 B -- MaxFloor
-    ∷ line 3 64 4 B -- OrderQty
+    line 1 1 1 N  -- Side
+    ∷ line 1 4 8 P  -- Price
+    ∷ line 1 8 1 T  -- ExecInst
+    ∷ line 1 16 1 N  -- OrdType
+    ∷ line 1 32 1 N  -- TimeInForce
+    ∷ line 1 64 4 B  -- MinQty
+    ∷ line 2 1 8 N  -- Symbol
+    ∷ line 2 2 8 N  -- SymbolSfx
+    ∷ line 2 64 1 A  -- Capacity
+    ∷ line 3 1 16 T  -- Account
+    ∷ line 3 2 4 A  -- ClearingFirm
+    ∷ line 3 4 4 T  -- ClearingAccount
+    ∷ line 3 16 4 B  -- MaxFloor
+    ∷ line 3 64 4 B  -- OrderQty
     ∷ []
 
 -- A message's list. Order Execution uses the acknowledgment's bits, narrowed to those that 000 marks for it; other types have none.

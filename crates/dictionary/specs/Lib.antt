@@ -1,1 +1,2 @@
 pub mod Dictionary
+pub mod Sums

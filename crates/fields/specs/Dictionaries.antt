@@ -10,7 +10,7 @@ use lib.Dec.{T, eqb, leb, eqb→eq, leb→le}
 use Rattle.kinds.specs.declared.Kind.{Kind}
 use Rattle.dictionary.specs.declared.Entry.{Entry}
 use Rattle.dictionary.specs.declared.Entry.the-variants.{Refused, Field}
-use Rattle.dictionary.specs.Dictionary.{entryOf}
+use Rattle.dictionary.specs.Dictionary.{Line, line, newOrder, cancelOrder, acknowledgments, executions, listOf, pick, indexOf, lookup, entryOf}
 use Rattle.fields.specs.Slots.{Slot, slot, widthOf, width, sum}
 use Rattle.fields.specs.Places.{entryAt, slotsFrom}
 
@@ -18,6 +18,10 @@ use Rattle.fields.specs.Places.{entryAt, slotsFrom}
 unfoldable pub before : (ℕ → Entry) → ℕ → ℕ
 before entry zero = 0
 before entry (suc k) = before entry k + widthOf (entry k)
+
+pub before-none : (entry : ℕ → Entry) → before entry 0 ≡ 0
+unfolding before
+before-none entry = refl
 
 -- a field's place is the sum of the widths before it
 pub record Placed (entry : ℕ → Entry) (size : ℕ) : Type 0 where
@@ -123,9 +127,40 @@ dictionary-placed message = by (eqb message 0x38) (eqb message 0x39) (eqb messag
   where
     at : (x : ℕ) → Placed (entryAt x) 154 → eqb message x ≡ true → Placed (entryAt message) 154
     at x h e = subst (λ (m : ℕ). Placed (entryAt m) 154) (sym (eqb→eq message x (subst T (sym e) tt))) h
+
     by : (b1 b2 b3 b4 : Bool) → eqb message 0x38 ≡ b1 → eqb message 0x39 ≡ b2 → eqb message 0x25 ≡ b3 → eqb message 0x2C ≡ b4 → Placed (entryAt message) 154
     by true b2 b3 b4 p q r s = at 0x38 (by-sweep (entryAt 0x38) at-new-order) p
     by false true b3 b4 p q r s = at 0x39 (by-sweep (entryAt 0x39) at-cancel) q
     by false false true b4 p q r s = at 0x25 (by-sweep (entryAt 0x25) at-acknowledgment) r
     by false false false true p q r s = at 0x2C (by-sweep (entryAt 0x2C) at-execution) s
     by false false false false p q r s = none-placed (entryAt message) (λ k. simp (p, q, r, s))
+
+-- ---- a listed field lies within the layout
+
+widths : List Line → ℕ
+widths [] = 0
+widths (line b t w k ∷ ls) = w + widths ls
+
+in-list : (ls : List Line) (q byte bit : ℕ) {w p : ℕ} {k : Kind} → Field w k p ≡ lookup ls q byte bit → p + w ≤ q + widths ls
+unfolding widths
+in-list [] q byte bit {w} {p} {k} e = let z : _≡_ {A = ℕ} 0 1 = cc in absurd (omega arith)
+in-list (line b t v kd ∷ ls) q byte bit {w} {p} {k} e = by (eqb byte b && eqb bit (indexOf t)) (λ f. in-list ls (q + v) byte bit f) e
+  where
+    by : (c : Bool) → (Field w k p ≡ lookup ls (q + v) byte bit → p + w ≤ q + v + widths ls) → Field w k p ≡ pick c (Field v kd q) (lookup ls (q + v) byte bit) → p + w ≤ q + (v + widths ls)
+    by true rest f =
+        let a : p ≡ q = cc in
+        let d : w ≡ v = cc in
+        omega arith
+    by false rest f = let h = rest f in omega arith
+
+-- a field of any bit of any type lies within 154 bytes
+pub field-fits : (message byte bit : ℕ) {w p : ℕ} {k : Kind} → Field w k p ≡ entryOf message byte bit → p + w ≤ 154
+unfolding entryOf widths
+field-fits message byte bit {w} {p} {k} e = by (eqb message 0x38) (eqb message 0x39) (eqb message 0x25) (eqb message 0x2C) (in-list (listOf message) 0 byte bit e)
+  where
+    by : (b1 b2 b3 b4 : Bool) → p + w ≤ 0 + widths (cond b1 newOrder (cond b2 cancelOrder (cond b3 acknowledgments (cond b4 executions [])))) → p + w ≤ 154
+    by true b2 b3 b4 h = omega (arith, h)
+    by false true b3 b4 h = omega (arith, h)
+    by false false true b4 h = omega (arith, h)
+    by false false false true h = omega (arith, h)
+    by false false false false h = omega (arith, h)

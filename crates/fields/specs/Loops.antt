@@ -10,6 +10,7 @@ use native.Mathlib.Omega.{arith}
 use lib.Dec.{ltb, eqb}
 use lib.ListN.{getD}
 use borrow.Author.Tests.{lt-ltb, le-ltb}
+use Rattle.dictionary.specs.declared.Entry.{Entry}
 use Rattle.dictionary.specs.Dictionary.{entryOf}
 use Rattle.fields.specs.Places.{bitSet, selectedAt, entryAt}
 use Rattle.fields.specs.Walk.{pick, walk}
@@ -103,3 +104,34 @@ module _ (count : ℕ) (bits : List ℕ) where
     -- no byte is left
     pub all-done : (j : ℕ) (st : S) → count ≤ j → walk (selectedAt count bits) change (120 - 8 * j) (8 * j) st ≡ st
     all-done j st h = walk-skip (selectedAt count bits) change (120 - 8 * j) (8 * j) st (λ k p q. past k (omega arith))
+
+-- ---- the same, as a loop over a dictionary's entries has it
+
+module _ {S : Type 0} (change : Entry → S → S) (message count : ℕ) (bits : List ℕ) where
+  -- the walk of n places from k on
+  abbrev pub over : ℕ → ℕ → S → S
+  over n k st = walk (selectedAt count bits) (λ (i : ℕ). change (entryAt message i)) n k st
+
+  -- a turn of the loop over the bits of byte j
+  pub bit-turn : (j i x value : ℕ) (st st′ last : S) → j < count → i < 8 → value ≡ getD bits j 0 → x ≡ value / 2 ^ i
+      → st′ ≡ pick (eqb (x % 2) 1) (change (entryOf message (j + 1) i) st) st
+      → over (8 - i) (8 * j + i) st ≡ last → over (8 - (i + 1)) (8 * j + (i + 1)) st′ ≡ last
+  bit-turn j i x value st st′ last h l v e s w =
+      ap (over (8 - (i + 1)) (8 * j + (i + 1)))
+      (s ∙ ap (λ (y : Entry). pick (eqb (x % 2) 1) (change y st) st) (sym (entry-here message j i l)))
+      ∙ byte-more count bits (λ (k : ℕ). change (entryAt message k)) j i x st h l (e ∙ ap (λ (y : ℕ). y / 2 ^ i) v)
+      ∙ w
+
+  -- its end
+  pub bits-end : (j i x value : ℕ) (st last : S) → j < count → i ≤ 8 → value ≡ getD bits j 0 → x ≡ value / 2 ^ i → x ≡ 0 → over (8 - i) (8 * j + i) st ≡ last → st ≡ last
+  bits-end j i x value st last h l v e z w =
+      sym (byte-done count bits (λ (k : ℕ). change (entryAt message k)) j i st h l (sym (e ∙ ap (λ (y : ℕ). y / 2 ^ i) v) ∙ z)) ∙ w
+
+  -- a turn of the loop over the bitfield bytes
+  pub byte-turn : (j : ℕ) (st st′ last : S) → j < 15 → st′ ≡ over 8 (8 * j) st → over (120 - 8 * j) (8 * j) st ≡ last → over (120 - 8 * (j + 1)) (8 * (j + 1)) st′ ≡ last
+  byte-turn j st st′ last h s w =
+      ap (over (120 - 8 * (j + 1)) (8 * (j + 1))) s ∙ all-more count bits (λ (k : ℕ). change (entryAt message k)) j st h ∙ w
+
+  -- its end
+  pub bytes-end : (j : ℕ) (st last : S) → count ≤ j → over (120 - 8 * j) (8 * j) st ≡ last → st ≡ last
+  bytes-end j st last h w = sym (all-done count bits (λ (k : ℕ). change (entryAt message k)) j st h) ∙ w

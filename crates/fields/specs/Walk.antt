@@ -70,9 +70,12 @@ pub record Giving : Type 0 where
   pub at : ℕ
   pub buffer : List ℕ
 
-unfoldable pub giveEntry : List ℕ → Entry → Giving → Giving
-giveEntry v Refused st = st
-giveEntry v (Field w k p) st =
+abbrev pub giveField : List ℕ → ℕ → ℕ → Giving → Giving
+giveField v w p st =
     pick (leb (st .at + w) (length (st .buffer)))
     (record { at = st .at + w; buffer = patched (st .buffer) (st .at) (take w (drop p v)) })
     st
+
+unfoldable pub giveEntry : List ℕ → Entry → Giving → Giving
+giveEntry v Refused st = st
+giveEntry v (Field w k p) st = giveField v w p st

@@ -1,2 +1,4 @@
 pub mod TableBytes
 pub mod TableBytesLaws
+pub mod RecordCalls
+pub mod RecordCallLaws

@@ -62,6 +62,14 @@ module _ (xs : List ℕ) (a : ℕ) (bs : List ℕ) (h : a ≤ length xs) where
     tail-back xs ys a h ∙ ap (λ (y : List ℕ). take a xs ++ y) (e .1 ∙ ap (λ (t : List ℕ). putBuffer t 0 bs) (tail-is xs a h)) ∙ buffer-of-tail,
   )
 
+-- the same for bytes that are put with room for them
+pub lent-patched : (xs : List ℕ) (a : ℕ) (bs : List ℕ) → a ≤ length xs → {ys : List ℕ} → ys ≡ patched (take (length xs - a) (drop a xs)) 0 bs
+    → take a xs ++ (ys ++ drop (length xs - a) (drop a xs)) ≡ patched xs a bs
+lent-patched xs a bs h {ys} e =
+    tail-back xs ys a h
+    ∙ ap (λ (y : List ℕ). take a xs ++ y) (e ∙ ap (λ (t : List ℕ). patched t 0 bs) (tail-is xs a h))
+    ∙ patched-of-tail xs a bs h
+
 -- the refused write, as a function has it
 pub no-room : (xs : List ℕ) (a : ℕ) (bs : List ℕ) → length xs < a + length bs → (13 ≡ putRefusal xs a bs) × (xs ≡ putBuffer xs a bs)
 no-room xs a bs h = (sym (put-refuses xs a bs h), sym (put-keeps xs a bs h))

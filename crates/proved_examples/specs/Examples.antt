@@ -2,14 +2,21 @@
 -- the two columns are the same. Assumes nothing.
 use mathlib.Core.Path.{_≡_, refl}
 use mathlib.Core.Bool.{Bool, cond}
-use mathlib.Core.List.{List, [], _∷_, map}
-use Prim.Native.Nat.{ℕ, suc}
+use mathlib.Core.List.{List, [], _∷_, _++_, map}
+use Prim.Native.Nat.{ℕ, suc, _+_, _-_, _*_}
 use lib.IntN.{ℤ, pos, negsuc}
+use lib.ListN.{length, take, drop}
 use Rattle.numbers.specs.Prices.{priceAt}
-use Rattle.wire.specs.Header.{lengthOf, totalOf}
-use Rattle.wire.specs.Frame.{notBA, startsBad, lengthBad, cutShort, frameRefusal}
+use Rattle.wire.specs.Header.{lengthOf, totalOf, typeOf, numberOf}
+use Rattle.wire.specs.Frame.{notBA, startsBad, lengthBad, cutShort, frameRefusal, framed}
 use Rattle.table.specs.Table.{unitRefusal, entryRefusal, entryOf, zeroTable, stepRefusal, stepOf}
 use Rattle.pulse.specs.Pulse.{elapsedOf, heartbeatDue}
+use Rattle.dictionary.specs.Dictionary as dictionary
+use Rattle.fields.specs.Slots.{zeros, Slot, takes, width, sum}
+use Rattle.fields.specs.Places.{selectedAt, entryAt, slotsFrom, slotsOf, hasRequired}
+use Rattle.orders.specs.Shapes.{countAt, mostOf, unitGood, fixedGood}
+use Rattle.orders.specs.Orders as orders
+use Rattle.messages.specs.Messages.{carries, readRefusal}
 
 -- a line of the table: the example's number, what the definitions answer, what document 01 says
 pub record Example : Type 0 where
@@ -33,6 +40,53 @@ yes b = cond b 1 0
 abbrev atZero : ℕ → ℕ
 atZero n = stepOf zeroTable 1 n .refusal
 
+-- the identifier ABC123, NUL-filled to 20
+abbrev abc123 : List ℕ
+abc123 = 0x41 ∷ 0x42 ∷ 0x43 ∷ 0x31 ∷ 0x32 ∷ 0x33 ∷ zeros 14
+
+-- the bytes of 000's table 25, a New Order, with the length n, under 256
+abbrev newOrder : ℕ → List ℕ
+newOrder n =
+    0xBA ∷ 0xBA ∷ n ∷ 0 ∷ 0x38 ∷ 0 ∷ 0x64 ∷ 0 ∷ 0 ∷ 0 ∷ abc123
+    ++ (0x31 ∷ 0xE8 ∷ 0x03 ∷ 0 ∷ 0 ∷ 0x03 ∷ 0x04 ∷ 0xC1 ∷ 0x01 ∷ [])
+    ++ (0x44 ∷ 0xD6 ∷ 0x12 ∷ zeros 5)
+    ++ (0x4D ∷ 0x53 ∷ 0x46 ∷ 0x54 ∷ zeros 4)
+    ++ (0x50 ∷ 0x52 ∷ 0 ∷ 0 ∷ 0 ∷ [])
+    ++ (0x44 ∷ 0x45 ∷ 0x46 ∷ 0x47 ∷ zeros 12)
+
+-- the bytes of 000's table 27, a Cancel Order, with the length n, under 256, and what follows the identifier
+abbrev cancelOrder : ℕ → List ℕ → List ℕ
+cancelOrder n rest = 0xBA ∷ 0xBA ∷ n ∷ 0 ∷ 0x39 ∷ 0 ∷ 0x64 ∷ 0 ∷ 0 ∷ 0 ∷ abc123 ++ rest
+
+-- the ClearingFirm TEST
+abbrev test : List ℕ
+test = 0x54 ∷ 0x45 ∷ 0x53 ∷ 0x54 ∷ []
+
+-- the slots of a message m before the field of a bitfield byte, from 1, and a bit (1, 2, 4 to 128)
+abbrev slotsBefore : List ℕ → ℕ → ℕ → List Slot
+slotsBefore m byte bit = take (8 * (byte - 1) + dictionary.indexOf bit) (slotsOf (typeOf m) (orders.countOf m) (orders.bitsOf m))
+
+-- where that field starts in the message: after the count, the bitfields and what these slots take
+abbrev startOf : List ℕ → ℕ → ℕ → ℕ
+startOf m byte bit = countAt (typeOf m) + 1 + orders.countOf m + sum takes (slotsBefore m byte bit)
+
+-- what the message has from there on, and what its record holds from the field's slot on
+abbrev sentFrom : List ℕ → ℕ → ℕ → List ℕ
+sentFrom m byte bit = drop (startOf m byte bit) m
+
+abbrev heldFrom : List ℕ → ℕ → ℕ → List ℕ
+heldFrom m byte bit = drop (sum width (slotsBefore m byte bit)) (orders.recordOf m .slots)
+
+-- Price, Symbol, Capacity, RoutingInst and Account, by what a message or its record has from each on
+abbrev fiveFields : (ℕ → ℕ → List ℕ) → List ℕ
+fiveFields from = told (priceAt 0 (from 1 4)) ++ take 8 (from 2 1) ++ take 1 (from 2 64) ++ take 4 (from 2 128) ++ take 16 (from 3 1)
+
+-- 123.4500, MSFT, P, R and DEFG
+abbrev fiveValues : List ℕ
+fiveValues =
+    0 ∷ 1234500 ∷ 0x4D ∷ 0x53 ∷ 0x46 ∷ 0x54 ∷ zeros 4
+    ++ (0x50 ∷ 0x52 ∷ 0 ∷ 0 ∷ 0 ∷ 0x44 ∷ 0x45 ∷ 0x46 ∷ 0x47 ∷ zeros 12)
+
 abbrev pub examples : List Example
 examples =
     -- 12.3400, -12.3400, -0.0001, -922337203685477.5808
@@ -40,6 +94,23 @@ examples =
     ∷ example 2 (told (priceAt 0 (0xF8 ∷ 0x1D ∷ 0xFE ∷ 0xFF ∷ 0xFF ∷ 0xFF ∷ 0xFF ∷ 0xFF ∷ []))) (1 ∷ 123400 ∷ [])
     ∷ example 3 (told (priceAt 0 (0xFF ∷ 0xFF ∷ 0xFF ∷ 0xFF ∷ 0xFF ∷ 0xFF ∷ 0xFF ∷ 0xFF ∷ []))) (1 ∷ 1 ∷ [])
     ∷ example 4 (told (priceAt 0 (0 ∷ 0 ∷ 0 ∷ 0 ∷ 0 ∷ 0 ∷ 0 ∷ 0x80 ∷ []))) (1 ∷ 9223372036854775808 ∷ [])
+    -- 000's New Order: accepted, total 76, Price at 39, Symbol 47, Capacity 55, RoutingInst 56, Account 60
+    ∷ example 5
+    (readRefusal 0 (newOrder 74) ∷ totalOf (newOrder 74) ∷ startOf (newOrder 74) 1 4 ∷ startOf (newOrder 74) 2 1 ∷ startOf (newOrder 74) 2 64 ∷ startOf (newOrder 74) 2 128 ∷ startOf (newOrder 74) 3 1 ∷ [])
+    (0 ∷ 76 ∷ 39 ∷ 47 ∷ 55 ∷ 56 ∷ 60 ∷ [])
+    -- and there it has 123.4500, MSFT, P, R and DEFG, as its record does
+    ∷ example 5 (fiveFields (sentFrom (newOrder 74))) fiveValues
+    ∷ example 5 (fiveFields (heldFrom (newOrder 74))) fiveValues
+    -- with length 73, as its notes have it: 6
+    ∷ example 6 (readRefusal 0 (newOrder 73) ∷ []) (6 ∷ [])
+    -- 000's Cancel: accepted, total 36
+    ∷ example 7 (readRefusal 0 (cancelOrder 34 (1 ∷ 1 ∷ test)) ∷ totalOf (cancelOrder 34 (1 ∷ 1 ∷ test)) ∷ []) (0 ∷ 36 ∷ [])
+    -- with count 0: accepted, 31 bytes
+    ∷ example 8 (readRefusal 0 (cancelOrder 29 (0 ∷ [])) ∷ length (cancelOrder 29 (0 ∷ [])) ∷ []) (0 ∷ 31 ∷ [])
+    -- with bit 2: 8
+    ∷ example 9 (readRefusal 0 (cancelOrder 34 (1 ∷ 2 ∷ test)) ∷ []) (8 ∷ [])
+    -- with count 3: 7, whether or not three bitfields follow
+    ∷ example 10 (readRefusal 0 (cancelOrder 34 (3 ∷ 1 ∷ test)) ∷ readRefusal 0 (cancelOrder 36 (3 ∷ 1 ∷ 0 ∷ 0 ∷ test)) ∷ []) (7 ∷ 7 ∷ [])
     -- entry 0: number 1 is taken, 2 is 15, 0 is 14
     ∷ example 11 (atZero 1 ∷ atZero 2 ∷ atZero 0 ∷ []) (0 ∷ 15 ∷ 14 ∷ [])
     -- last sent at 4,294,967,290: due at 994, not at 993
@@ -50,5 +121,5 @@ examples =
 
 -- every example is answered as document 01 states it
 pub examples-hold : map (λ (e : Example). e .answered) examples ≡ map (λ (e : Example). e .stated) examples
-unfolding lengthOf totalOf notBA startsBad lengthBad cutShort frameRefusal unitRefusal entryRefusal entryOf stepRefusal stepOf elapsedOf heartbeatDue
+unfolding lengthOf totalOf notBA startsBad lengthBad cutShort frameRefusal unitRefusal entryRefusal entryOf stepRefusal stepOf elapsedOf heartbeatDue framed carries readRefusal orders.readRefusal orders.headRefusal orders.blockRefusal orders.bitsOf orders.optionalOf orders.fixedOf orders.layoutOf orders.recordOf numberOf countAt mostOf unitGood fixedGood selectedAt entryAt dictionary.entryOf slotsFrom hasRequired
 examples-hold = refl

@@ -46,15 +46,26 @@ fn later_call_of(word: &[u8]) -> u8 {
     if check::same(word, b"silent") {
         return 11;
     }
+    message_call_of(word)
+}
+
+// The same for the calls on messages.
+fn message_call_of(word: &[u8]) -> u8 {
+    if check::same(word, b"read") {
+        return 12;
+    }
+    if check::same(word, b"write") {
+        return 13;
+    }
     0
 }
 
 // How many words a question of a call has.
 fn words_of(call: u8) -> usize {
     match call {
-        2 | 7 => 4,
+        2 | 7 | 13 => 4,
         3 => 5,
-        5 | 6 | 10 | 11 => 3,
+        5 | 6 | 10 | 11 | 12 => 3,
         _ => 2,
     }
 }
@@ -77,6 +88,8 @@ pub fn answered(line: &[u8], bytes: &mut [u8]) -> bool {
         9 => year(line),
         10 => due(line),
         11 => silent(line),
+        12 => read(line, bytes),
+        13 => write(line, bytes),
         _ => false,
     }
 }
@@ -321,4 +334,48 @@ fn silent(line: &[u8]) -> bool {
         return true;
     }
     false
+}
+
+// `read DIRECTION BYTES`: the refusal, or 0 and the record.
+fn read(line: &[u8], bytes: &mut [u8]) -> bool {
+    let direction = words::read_number(words::word(line, 1), 255);
+    let run = words::read_bytes(words::word(line, 2), bytes);
+    if direction.ok && run.ok {
+        let n = run.count;
+        read_by(direction.value as u8, &bytes[0..n]);
+        return true;
+    }
+    false
+}
+
+// The answer to `read` of the bytes.
+fn read_by(direction: u8, s: &[u8]) {
+    let mut out = [0u8; 235];
+    let refusal = gateway::boe_read(direction, s, &mut out);
+    if refusal == 0 {
+        refused(0, &out);
+    } else {
+        writing::decimal(refusal as u64);
+    }
+}
+
+// `write DIRECTION RECORD BYTES`: the refusal and the buffer after the call.
+fn write(line: &[u8], bytes: &mut [u8]) -> bool {
+    let direction = words::read_number(words::word(line, 1), 255);
+    let mut given = [0u8; 4096];
+    let order = words::read_bytes(words::word(line, 2), &mut given);
+    let run = words::read_bytes(words::word(line, 3), bytes);
+    if direction.ok && order.ok && run.ok {
+        let k = order.count;
+        let n = run.count;
+        write_by(direction.value as u8, &given[0..k], &mut bytes[0..n]);
+        return true;
+    }
+    false
+}
+
+// The answer to `write` of a record's bytes.
+fn write_by(direction: u8, given: &[u8], out: &mut [u8]) {
+    let refusal = gateway::boe_write(direction, given, out);
+    refused(refusal, out);
 }

@@ -188,7 +188,7 @@ const INSIDE: &[&str] = &[
 ];
 
 /// A line of `size` characters: `head`, the zero bytes that fill it, `tail`.
-fn padded(head: &str, tail: &str, size: usize) -> String {
+pub fn padded(head: &str, tail: &str, size: usize) -> String {
     let count = (size - head.len() - tail.len()) / 2;
     let line = format!("{}{}{}", head, "00".repeat(count), tail);
     assert_eq!(line.len(), size);

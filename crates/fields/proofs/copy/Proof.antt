@@ -1,3 +1,4 @@
+-- `fields::copy` meets its contract. Assumes nothing.
 use Rattle.fields.proofs.Moves.{copy-more, copy-all}
 use denote.Ref.{now}
 use lib.ListN.{length, take, drop, getD, set, length-set}
@@ -7,8 +8,6 @@ use mathlib.Core.List.{List, _++_}
 use mathlib.Core.Path.{_≡_, refl, sym, ap, _∙_}
 use Rattle.fields.proofs.copy.Statement.{statement}
 use Rattle.fields.proofs.copy.Tie as tie
-use Rattle.fields.proofs.copy.Reads as reads
-use Rattle.fields.proofs.copy.Lts as lts
 
 abbrev Inv-loop : tie.InvT-loop
 Inv-loop from to₀ i₀ to i = (i ≤ length from) × (length to ≡ length to₀) × (to ≡ take i from ++ drop i to₀)
@@ -16,26 +15,20 @@ Inv-loop from to₀ i₀ to i = (i ≤ length from) × (length to ≡ length to�
 abbrev μ-loop : tie.MeasureT-loop
 μ-loop from to₀ i₀ to i = length from - i
 
-
 loop-holds : tie.Need-loop-holds Inv-loop μ-loop
 loop-holds c = (omega arith, refl, refl)
-
 
 shared-slice-read-to : tie.Need-shared-slice-read-to Inv-loop μ-loop
 shared-slice-read-to c = omega arith
 
-
 slice-write-to : tie.Need-slice-write-to Inv-loop μ-loop
 slice-write-to c = omega (arith, c .before .before .loop .inv .1)
-
 
 add-i : tie.Need-add-i Inv-loop μ-loop
 add-i c = omega arith
 
-
 loop-less : tie.Need-loop-less Inv-loop μ-loop
 loop-less c = omega arith
-
 
 loop-again : tie.Need-loop-again Inv-loop μ-loop
 loop-again c =
@@ -47,10 +40,8 @@ loop-again c =
     let inv = at-loop .loop .inv in
     (omega arith, length-set (at-loop .loop .to) i (getD s i 0) ∙ inv .1, ap (λ (l : List ℕ). set l i (getD s i 0)) (inv .2) ∙ copy-more s d i (c .before .loop-test .taken) (omega arith))
 
-
 same-length : tie.Need-same-length Inv-loop μ-loop
 same-length c = c .before .loop .inv .1
-
 
 returns : tie.Need-returns Inv-loop μ-loop
 returns c =

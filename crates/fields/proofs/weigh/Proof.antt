@@ -1,3 +1,4 @@
+-- `fields::weigh` meets its contract. Assumes nothing.
 use Rattle.fields.proofs.Moves.{weigh-more}
 use Rattle.fields.specs.Walk.{weightOf}
 use denote.Ref.{now}
@@ -8,9 +9,6 @@ use Prim.Native.Nat.{ℕ, _+_, _*_, _-_, _≤_}
 use mathlib.Core.Path.{_≡_, refl, sym, ap, _∙_}
 use Rattle.fields.proofs.weigh.Statement.{statement}
 use Rattle.fields.proofs.weigh.Tie as tie
-use Rattle.fields.proofs.weigh.Reads as reads
-use Rattle.fields.proofs.weigh.Lts as lts
-use Rattle.fields.proofs.wide.Reads as wide-reads
 
 abbrev Inv-loop : tie.InvT-loop
 Inv-loop s sum₀ i₀ sum i = (i ≤ length s) × (sum ≤ 255 * i) × (sum ≡ weightOf (take i s))
@@ -18,30 +16,23 @@ Inv-loop s sum₀ i₀ sum i = (i ≤ length s) × (sum ≤ 255 * i) × (sum ≡
 abbrev μ-loop : tie.MeasureT-loop
 μ-loop s sum₀ i₀ sum i = length s - i
 
-
 loop-holds : tie.Need-loop-holds Inv-loop μ-loop
 loop-holds c = (omega arith, omega arith, refl)
-
 
 shared-slice-read-wide : tie.Need-shared-slice-read-wide Inv-loop μ-loop
 shared-slice-read-wide c = omega arith
 
-
 wide-requires : tie.Need-wide-requires Inv-loop μ-loop
 wide-requires c κs = tt
-
 
 add-sum : tie.Need-add-sum Inv-loop μ-loop
 add-sum c = omega (arith, c .wide .ensures .1)
 
-
 add-i : tie.Need-add-i Inv-loop μ-loop
 add-i c = omega arith
 
-
 loop-less : tie.Need-loop-less Inv-loop μ-loop
 loop-less c = omega arith
-
 
 loop-again : tie.Need-loop-again Inv-loop μ-loop
 loop-again c =
@@ -51,7 +42,6 @@ loop-again c =
     let inv = at-loop .loop .inv in
     let w = c .wide .ensures in
     (omega arith, omega (arith, w .1), omega (arith, w .0, inv .2, weigh-more s i (c .before .before .loop-test .taken)))
-
 
 returns : tie.Need-returns Inv-loop μ-loop
 returns c =

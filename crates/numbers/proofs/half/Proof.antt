@@ -1,66 +1,50 @@
+-- `numbers::half` meets its contract. Assumes nothing.
 use Rattle.numbers.proofs.Parts.{four}
 use denote.Ref.{now}
 use native.Mathlib.Omega.{arith}
 use borrow.Author.Needs.{needs}
 use Rattle.numbers.proofs.half.Statement.{statement}
 use Rattle.numbers.proofs.half.Tie as tie
-use Rattle.numbers.proofs.half.Reads as reads
-use Rattle.numbers.proofs.half.Lts as lts
-use Rattle.numbers.proofs.part.Reads as part-reads
 
--- src/lib.rt:37:5
 part-requires : tie.Need-part-requires
 part-requires c κs = search needs
 
--- src/lib.rt:37:34
 add-part : tie.Need-add-part
 add-part c = search needs
 
--- src/lib.rt:37:26
 part-requires-2 : tie.Need-part-requires-2
 part-requires-2 c κs = search needs
 
--- src/lib.rt:37:59
 add-part-2 : tie.Need-add-part-2
 add-part-2 c = search needs
 
--- src/lib.rt:37:51
 part-requires-3 : tie.Need-part-requires-3
 part-requires-3 c κs = search needs
 
--- src/lib.rt:37:83
 add-part-3 : tie.Need-add-part-3
 add-part-3 c = search needs
 
--- src/lib.rt:37:75
 part-requires-4 : tie.Need-part-requires-4
 part-requires-4 c κs = search needs
 
--- src/lib.rt:37:69
 mul-result : tie.Need-mul-result
 mul-result c = search needs
 
--- src/lib.rt:37:51
 add-result : tie.Need-add-result
 add-result c = search needs
 
--- src/lib.rt:37:44
 mul-result-2 : tie.Need-mul-result-2
 mul-result-2 c = search needs
 
--- src/lib.rt:37:26
 add-result-2 : tie.Need-add-result-2
 add-result-2 c = search needs
 
--- src/lib.rt:37:19
 mul-result-3 : tie.Need-mul-result-3
 mul-result-3 c = search needs
 
--- src/lib.rt:37:5
 add-result-3 : tie.Need-add-result-3
 add-result-3 c = search needs
 
--- src/lib.rt:33:1
 returns : tie.Need-returns
 returns c =
     let start = c .before .before .before .before .before in

@@ -1,3 +1,4 @@
+-- `numbers::put_u16` meets its contract. Assumes nothing.
 use Rattle.numbers.proofs.Tail.{no-room, stored}
 use Rattle.numbers.specs.Numbers.{bytesOf}
 use denote.Ref.{now}
@@ -7,34 +8,25 @@ use mathlib.Core.Path.{_≡_}
 use borrow.Author.Needs.{needs}
 use Rattle.numbers.proofs.put_u16.Statement.{statement}
 use Rattle.numbers.proofs.put_u16.Tie as tie
-use Rattle.numbers.proofs.put_u16.Reads as reads
-use Rattle.numbers.proofs.put_u16.Lts as lts
 
--- src/lib.rt:75:9
 returns : tie.Need-returns
 returns c = no-room (now (c .before .args .tail)) 0 (bytesOf 2 (c .before .args .v)) (c .if1 .taken)
 
--- src/lib.rt:77:15
 cast-tail : tie.Need-cast-tail
 cast-tail c = search needs
 
--- src/lib.rt:77:5
 slice-write-tail : tie.Need-slice-write-tail
 slice-write-tail c = search needs
 
--- src/lib.rt:78:15
 cast-tail-2 : tie.Need-cast-tail-2
 cast-tail-2 c = search needs
 
--- src/lib.rt:78:5
 slice-write-tail-2 : tie.Need-slice-write-tail-2
 slice-write-tail-2 c = simp length-set (omega arith)
 
--- src/lib.rt:71:1
 same-length : tie.Need-same-length
 same-length c = search needs
 
--- src/lib.rt:71:1
 returns-2 : tie.Need-returns-2
 returns-2 c = stored (bytesOf 2 (c .before .args .v)) (now (c .before .args .tail)) (c .if1 .left)
 

@@ -1,3 +1,4 @@
+-- `numbers::put_u32` meets its contract. Assumes nothing.
 use Rattle.numbers.proofs.Tail.{no-room, stored}
 use Rattle.numbers.specs.Numbers.{bytesOf}
 use denote.Ref.{now}
@@ -7,50 +8,37 @@ use mathlib.Core.Path.{_≡_}
 use borrow.Author.Needs.{needs}
 use Rattle.numbers.proofs.put_u32.Statement.{statement}
 use Rattle.numbers.proofs.put_u32.Tie as tie
-use Rattle.numbers.proofs.put_u32.Reads as reads
-use Rattle.numbers.proofs.put_u32.Lts as lts
 
--- src/lib.rt:87:9
 returns : tie.Need-returns
 returns c = no-room (now (c .before .args .tail)) 0 (bytesOf 4 (c .before .args .v)) (c .if1 .taken)
 
--- src/lib.rt:92:15
 cast-tail : tie.Need-cast-tail
 cast-tail c = search needs
 
--- src/lib.rt:92:5
 slice-write-tail : tie.Need-slice-write-tail
 slice-write-tail c = search needs
 
--- src/lib.rt:93:15
 cast-tail-2 : tie.Need-cast-tail-2
 cast-tail-2 c = search needs
 
--- src/lib.rt:93:5
 slice-write-tail-2 : tie.Need-slice-write-tail-2
 slice-write-tail-2 c = simp length-set (omega arith)
 
--- src/lib.rt:94:15
 cast-tail-3 : tie.Need-cast-tail-3
 cast-tail-3 c = search needs
 
--- src/lib.rt:94:5
 slice-write-tail-3 : tie.Need-slice-write-tail-3
 slice-write-tail-3 c = simp length-set (omega arith)
 
--- src/lib.rt:95:15
 cast-tail-4 : tie.Need-cast-tail-4
 cast-tail-4 c = search needs
 
--- src/lib.rt:95:5
 slice-write-tail-4 : tie.Need-slice-write-tail-4
 slice-write-tail-4 c = simp length-set (omega arith)
 
--- src/lib.rt:83:1
 same-length : tie.Need-same-length
 same-length c = search needs
 
--- src/lib.rt:83:1
 returns-2 : tie.Need-returns-2
 returns-2 c = stored (bytesOf 4 (c .before .args .v)) (now (c .before .args .tail)) (c .if1 .left)
 

@@ -1,3 +1,4 @@
+-- `numbers::read_u16` meets its contract. Assumes nothing.
 use Rattle.numbers.specs.NumberLaws.{number-past}
 use denote.Ref.{now}
 use native.Mathlib.Omega.{arith}
@@ -5,41 +6,30 @@ use mathlib.Core.Path.{sym}
 use borrow.Author.Needs.{needs}
 use Rattle.numbers.proofs.read_u16.Statement.{statement}
 use Rattle.numbers.proofs.read_u16.Tie as tie
-use Rattle.numbers.proofs.read_u16.Reads as reads
-use Rattle.numbers.proofs.read_u16.Lts as lts
-use Rattle.numbers.proofs.part.Reads as part-reads
 
--- src/lib.rt:45:9
 returns : tie.Need-returns
 returns c =
     let a = c .before .before .args in
     sym (number-past 2 (a .at) (now (a .s)) (c .if1 .taken))
 
--- src/lib.rt:47:6
 part-requires : tie.Need-part-requires
 part-requires c κs = search needs
 
--- src/lib.rt:47:34
 add-part : tie.Need-add-part
 add-part c = search needs
 
--- src/lib.rt:47:26
 part-requires-2 : tie.Need-part-requires-2
 part-requires-2 c κs = search needs
 
--- src/lib.rt:47:20
 mul-result : tie.Need-mul-result
 mul-result c = search needs
 
--- src/lib.rt:47:6
 add-result : tie.Need-add-result
 add-result c = search needs
 
--- src/lib.rt:47:5
 cast-result : tie.Need-cast-result
 cast-result c = search needs
 
--- src/lib.rt:41:1
 returns-2 : tie.Need-returns-2
 returns-2 c = search needs
 

@@ -1,3 +1,4 @@
+-- `numbers::write_u16` meets its contract. Assumes nothing.
 use Rattle.numbers.proofs.Tail.{no-room, lent}
 use Rattle.numbers.specs.Numbers.{bytesOf}
 use denote.Ref.{now}
@@ -6,37 +7,27 @@ use mathlib.Core.Path.{_≡_}
 use borrow.Author.Needs.{needs}
 use Rattle.numbers.proofs.write_u16.Statement.{statement}
 use Rattle.numbers.proofs.write_u16.Tie as tie
-use Rattle.numbers.proofs.write_u16.Reads as reads
-use Rattle.numbers.proofs.write_u16.Lts as lts
-use Rattle.numbers.proofs.put_u16.Reads as put-u16-reads
 
--- src/lib.rt:129:9
 returns : tie.Need-returns
 returns c =
     let a = c .before .before .args in
     no-room (now (a .out)) (a .at) (bytesOf 2 (a .v)) (omega arith)
 
--- src/lib.rt:131:13
 sub-put-u16 : tie.Need-sub-put-u16
 sub-put-u16 c = search needs
 
--- src/lib.rt:131:13
 part-put-u16-start : tie.Need-part-put-u16-start
 part-put-u16-start c = search needs
 
--- src/lib.rt:131:13
 part-put-u16-end : tie.Need-part-put-u16-end
 part-put-u16-end c = search needs
 
--- src/lib.rt:131:5
 put-u16-requires : tie.Need-put-u16-requires
 put-u16-requires c κs = search needs
 
--- src/lib.rt:125:1
 same-length : tie.Need-same-length
 same-length c = search needs
 
--- src/lib.rt:125:1
 returns-2 : tie.Need-returns-2
 returns-2 c =
     let start = c .before .before .before .before .before .before in

@@ -1,3 +1,4 @@
+-- `numbers::write_u32` meets its contract. Assumes nothing.
 use Rattle.numbers.proofs.Tail.{no-room, lent}
 use Rattle.numbers.specs.Numbers.{bytesOf}
 use denote.Ref.{now}
@@ -6,37 +7,27 @@ use mathlib.Core.Path.{_≡_}
 use borrow.Author.Needs.{needs}
 use Rattle.numbers.proofs.write_u32.Statement.{statement}
 use Rattle.numbers.proofs.write_u32.Tie as tie
-use Rattle.numbers.proofs.write_u32.Reads as reads
-use Rattle.numbers.proofs.write_u32.Lts as lts
-use Rattle.numbers.proofs.put_u32.Reads as put-u32-reads
 
--- src/lib.rt:139:9
 returns : tie.Need-returns
 returns c =
     let a = c .before .before .args in
     no-room (now (a .out)) (a .at) (bytesOf 4 (a .v)) (omega arith)
 
--- src/lib.rt:141:13
 sub-put-u32 : tie.Need-sub-put-u32
 sub-put-u32 c = search needs
 
--- src/lib.rt:141:13
 part-put-u32-start : tie.Need-part-put-u32-start
 part-put-u32-start c = search needs
 
--- src/lib.rt:141:13
 part-put-u32-end : tie.Need-part-put-u32-end
 part-put-u32-end c = search needs
 
--- src/lib.rt:141:5
 put-u32-requires : tie.Need-put-u32-requires
 put-u32-requires c κs = search needs
 
--- src/lib.rt:135:1
 same-length : tie.Need-same-length
 same-length c = search needs
 
--- src/lib.rt:135:1
 returns-2 : tie.Need-returns-2
 returns-2 c =
     let start = c .before .before .before .before .before .before in

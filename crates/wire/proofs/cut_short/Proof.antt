@@ -1,3 +1,4 @@
+-- `wire::cut_short` meets its contract. Assumes nothing.
 use Rattle.wire.specs.Frame.{cutShort}
 use denote.Ref.{now}
 use borrow.Author.Tests.{lt-ltb, le-ltb}
@@ -9,20 +10,14 @@ use Prim.Native.Nat.{ℕ}
 use borrow.Author.Needs.{needs}
 use Rattle.wire.proofs.cut_short.Statement.{statement}
 use Rattle.wire.proofs.cut_short.Tie as tie
-use Rattle.wire.proofs.cut_short.Reads as reads
-use Rattle.wire.proofs.cut_short.Lts as lts
-use Rattle.wire.proofs.header.total_of.Reads as total-of-reads
 
--- src/lib.rt:48:9
 returns : tie.Need-returns
 unfolding cutShort
 returns c = rw (lt-ltb _ 4 (c .if1 .taken))
 
--- src/lib.rt:50:15
 total-of-requires : tie.Need-total-of-requires
 total-of-requires c κs = search needs
 
--- src/lib.rt:44:1
 returns-2 : tie.Need-returns-2
 unfolding cutShort
 returns-2 c =

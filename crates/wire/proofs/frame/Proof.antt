@@ -1,3 +1,4 @@
+-- `wire::frame` meets its contract. Assumes nothing.
 use Rattle.wire.specs.FrameLaws.{whole, framed-is, refused-is-empty}
 use Rattle.wire.specs.Frame.{frameRefusal, framed}
 use Rattle.wire.specs.Header.{totalOf}
@@ -11,38 +12,28 @@ use mathlib.Core.Path.{_≡_, _∙_, sym, ap}
 use borrow.Author.Needs.{needs}
 use Rattle.wire.proofs.frame.Statement.{statement}
 use Rattle.wire.proofs.frame.Tie as tie
-use Rattle.wire.proofs.frame.Reads as reads
-use Rattle.wire.proofs.frame.Lts as lts
-use Rattle.wire.proofs.frame_refusal.Reads as frame-refusal-reads
-use Rattle.wire.proofs.header.total_of.Reads as total-of-reads
 
--- src/lib.rt:73:8
 frame-refusal-requires : tie.Need-frame-refusal-requires
 frame-refusal-requires c κs = search needs
 
--- src/lib.rt:74:13
 total-of-requires : tie.Need-total-of-requires
 total-of-requires c κs = search needs
 
--- src/lib.rt:75:9
 slice-aggregate-result : tie.Need-slice-aggregate-result
 slice-aggregate-result c =
     let s = now (c .before .before .before .before .before .args .s) in
     let z : frameRefusal s ≡ 0 = cc in
     sym (length-take-le _ s (omega (arith, whole s z .fits, c .before .total-of .ensures)))
 
--- src/lib.rt:77:9
 slice-aggregate-result-2 : tie.Need-slice-aggregate-result-2
 slice-aggregate-result-2 c = search needs
 
--- src/lib.rt:70:1
 returns : tie.Need-returns
 returns c =
     let s = now (c .before .before .before .before .before .args .s) in
     let z : frameRefusal s ≡ 0 = cc in
     ap (λ (n : ℕ). take n s) (c .before .total-of .ensures) ∙ sym (framed-is s z)
 
--- src/lib.rt:70:1
 returns-2 : tie.Need-returns-2
 returns-2 c =
     let s = now (c .before .before .before .before .args .s) in

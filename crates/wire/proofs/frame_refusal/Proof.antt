@@ -1,3 +1,4 @@
+-- `wire::frame_refusal` meets its contract. Assumes nothing.
 use Rattle.wire.specs.Frame.{startsBad, lengthBad, cutShort, frameRefusal}
 use denote.Ref.{now}
 use mathlib.Core.Path.{_≡_}
@@ -5,17 +6,10 @@ use mathlib.Core.Bool.{true, false}
 use borrow.Author.Needs.{needs}
 use Rattle.wire.proofs.frame_refusal.Statement.{statement}
 use Rattle.wire.proofs.frame_refusal.Tie as tie
-use Rattle.wire.proofs.frame_refusal.Reads as reads
-use Rattle.wire.proofs.frame_refusal.Lts as lts
-use Rattle.wire.proofs.cut_short.Reads as cut-short-reads
-use Rattle.wire.proofs.length_bad.Reads as length-bad-reads
-use Rattle.wire.proofs.starts_bad.Reads as starts-bad-reads
 
--- src/lib.rt:57:8
 starts-bad-requires : tie.Need-starts-bad-requires
 starts-bad-requires c κs = search needs
 
--- src/lib.rt:58:9
 returns : tie.Need-returns
 unfolding frameRefusal
 returns c =
@@ -23,11 +17,9 @@ returns c =
     let e1 : startsBad s ≡ true = cc in
     rw e1
 
--- src/lib.rt:60:8
 length-bad-requires : tie.Need-length-bad-requires
 length-bad-requires c κs = search needs
 
--- src/lib.rt:61:9
 returns-2 : tie.Need-returns-2
 unfolding frameRefusal
 returns-2 c =
@@ -36,11 +28,9 @@ returns-2 c =
     let e2 : lengthBad s ≡ true = cc in
     rw (e1, e2)
 
--- src/lib.rt:63:8
 cut-short-requires : tie.Need-cut-short-requires
 cut-short-requires c κs = search needs
 
--- src/lib.rt:64:9
 returns-3 : tie.Need-returns-3
 unfolding frameRefusal
 returns-3 c =
@@ -50,7 +40,6 @@ returns-3 c =
     let e3 : cutShort s ≡ true = cc in
     rw (e1, e2, e3)
 
--- src/lib.rt:54:1
 returns-4 : tie.Need-returns-4
 unfolding frameRefusal
 returns-4 c =

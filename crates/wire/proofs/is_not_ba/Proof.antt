@@ -1,21 +1,17 @@
+-- `wire::is_not_ba` meets its contract. Assumes nothing.
 use Rattle.wire.specs.Frame.{notBA}
 use borrow.Author.Tests.{lt-ltb, le-ltb}
 use borrow.Author.Needs.{needs}
 use Rattle.wire.proofs.is_not_ba.Statement.{statement}
 use Rattle.wire.proofs.is_not_ba.Tie as tie
-use Rattle.wire.proofs.is_not_ba.Reads as reads
-use Rattle.wire.proofs.is_not_ba.Lts as lts
 
--- src/lib.rt:14:16
 shared-slice-read-result : tie.Need-shared-slice-read-result
 shared-slice-read-result c = search needs
 
--- src/lib.rt:14:9
 returns : tie.Need-returns
 unfolding notBA
 returns c = rw (lt-ltb _ _ (c .before .if1 .taken))
 
--- src/lib.rt:10:1
 returns-2 : tie.Need-returns-2
 unfolding notBA
 returns-2 c = rw (le-ltb _ _ (c .if1 .left))

@@ -1,3 +1,4 @@
+-- `wire::length_bad` meets its contract. Assumes nothing.
 use Rattle.wire.specs.Frame.{lengthBad}
 use Rattle.wire.specs.Header.{lengthOf}
 use denote.Ref.{now}
@@ -10,20 +11,14 @@ use Prim.Native.Nat.{ℕ}
 use borrow.Author.Needs.{needs}
 use Rattle.wire.proofs.length_bad.Statement.{statement}
 use Rattle.wire.proofs.length_bad.Tie as tie
-use Rattle.wire.proofs.length_bad.Reads as reads
-use Rattle.wire.proofs.length_bad.Lts as lts
-use Rattle.wire.proofs.header.length_of.Reads as length-of-reads
 
--- src/lib.rt:34:9
 returns : tie.Need-returns
 unfolding lengthBad
 returns c = rw (lt-leb 4 _ (c .if1 .taken))
 
--- src/lib.rt:36:9
 length-of-requires : tie.Need-length-of-requires
 length-of-requires c κs = search needs
 
--- src/lib.rt:38:9
 returns-2 : tie.Need-returns-2
 unfolding lengthBad
 returns-2 c =
@@ -31,7 +26,6 @@ returns-2 c =
     let n : _ ≡ lengthOf s = c .before .length-of .ensures in
     rw (le-leb 4 (length s) (omega arith), lt-ltb (lengthOf s) 8 (omega arith))
 
--- src/lib.rt:30:1
 returns-3 : tie.Need-returns-3
 unfolding lengthBad
 returns-3 c =

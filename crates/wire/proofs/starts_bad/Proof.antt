@@ -1,26 +1,20 @@
+-- `wire::starts_bad` meets its contract. Assumes nothing.
 use Rattle.wire.specs.Frame.{startsBad}
 use mathlib.Core.Path.{sym, _∙_}
 use borrow.Author.Needs.{needs}
 use Rattle.wire.proofs.starts_bad.Statement.{statement}
 use Rattle.wire.proofs.starts_bad.Tie as tie
-use Rattle.wire.proofs.starts_bad.Reads as reads
-use Rattle.wire.proofs.starts_bad.Lts as lts
-use Rattle.wire.proofs.is_not_ba.Reads as is-not-ba-reads
 
--- src/lib.rt:23:8
 is-not-ba-requires : tie.Need-is-not-ba-requires
 is-not-ba-requires c κs = search needs
 
--- src/lib.rt:24:9
 returns : tie.Need-returns
 unfolding startsBad
 returns c = rw (sym (c .before .is-not-ba .ensures) ∙ c .if1 .taken)
 
--- src/lib.rt:26:5
 is-not-ba-requires-2 : tie.Need-is-not-ba-requires-2
 is-not-ba-requires-2 c κs = search needs
 
--- src/lib.rt:20:1
 returns-2 : tie.Need-returns-2
 unfolding startsBad
 returns-2 c = rw (sym (c .before .before .is-not-ba .ensures) ∙ c .before .if1 .left) (c .is-not-ba2 .ensures)

@@ -1,3 +1,4 @@
+-- `numbers::prices::bits` meets its contract. Assumes nothing.
 use Rattle.numbers.proofs.Sign.{not-below, raised}
 use mir.Facts.{toZ-ofZ}
 use mir.Val.{Fits}
@@ -9,42 +10,34 @@ use mathlib.Core.Path.{_≡_, sym, ap, _∙_}
 use lib.Dec.{T}
 use Rattle.numbers.proofs.prices.bits.Statement.{statement}
 use Rattle.numbers.proofs.prices.bits.Tie as tie
-use Rattle.numbers.proofs.prices.bits.Reads as reads
-use Rattle.numbers.proofs.prices.bits.Lts as lts
 
--- src/prices.rt:22:9
 cast-result : tie.Need-cast-result
 cast-result c =
     let f = c .before .fits .p in
     rw (toZ-ofZ f) (not-below (c .before .args .p) f (rw (toZ-ofZ f) at (c .if1 .taken)) .0)
 
--- src/prices.rt:24:11
 sub-result : tie.Need-sub-result
 sub-result c =
     let f = c .before .fits .p in
     rw (toZ-ofZ f) (raised (c .before .args .p) f (rw (toZ-ofZ f) at (c .if1 .left)) .fits)
 
--- src/prices.rt:24:10
 cast-result-2 : tie.Need-cast-result-2
 cast-result-2 c =
     let f = c .before .fits .p in
     let r = raised (c .before .args .p) f (rw (toZ-ofZ f) at (c .if1 .left)) in
     rw (toZ-ofZ f, toZ-ofZ (r .fits)) (r .not-neg, record { fits = omega (arith, r .small) })
 
--- src/prices.rt:24:9
 add-result : tie.Need-add-result
 add-result c =
     let f = c .before .fits .p in
     let r = raised (c .before .args .p) f (rw (toZ-ofZ f) at (c .if1 .left)) in
     rw (toZ-ofZ f, toZ-ofZ (r .fits)) (record { fits = omega (arith, r .small) })
 
--- src/prices.rt:18:1
 returns : tie.Need-returns
 returns c =
     let f = c .before .fits .p in
     rw (toZ-ofZ f) (not-below (c .before .args .p) f (rw (toZ-ofZ f) at (c .if1 .taken)) .1)
 
--- src/prices.rt:18:1
 returns-2 : tie.Need-returns-2
 returns-2 c =
     let f = c .before .fits .p in

@@ -1,3 +1,4 @@
+-- `numbers::prices::read_price` meets its contract. Assumes nothing.
 use mir.Val.{SFits}
 use mir.Syntax.{w64}
 use Rattle.numbers.specs.Prices.{signedOf}
@@ -6,20 +7,13 @@ use mathlib.Core.Path.{_≡_, sym, ap, _∙_}
 use borrow.Author.Needs.{needs}
 use Rattle.numbers.proofs.prices.read_price.Statement.{statement}
 use Rattle.numbers.proofs.prices.read_price.Tie as tie
-use Rattle.numbers.proofs.prices.read_price.Reads as reads
-use Rattle.numbers.proofs.prices.read_price.Lts as lts
-use Rattle.numbers.proofs.prices.signed.Reads as signed-reads
-use Rattle.numbers.proofs.read_u64.Reads as read-u64-reads
 
--- src/prices.rt:32:12
 read-u64-requires : tie.Need-read-u64-requires
 read-u64-requires c κs = search needs
 
--- src/prices.rt:32:5
 signed-requires : tie.Need-signed-requires
 signed-requires c κs = search needs
 
--- src/prices.rt:29:1
 returns : tie.Need-returns
 returns c =
     let f : SFits w64 (c .signed .result) = record { sfits = c .signed .ok } in

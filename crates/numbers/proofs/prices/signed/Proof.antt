@@ -1,29 +1,23 @@
+-- `numbers::prices::signed` meets its contract. Assumes nothing.
 use Rattle.numbers.proofs.Sign.{upper}
 use mir.Facts.{sfits-toZ, ofZ-toZ}
 use native.Mathlib.Omega.{arith}
 use borrow.Author.Needs.{needs}
 use Rattle.numbers.proofs.prices.signed.Statement.{statement}
 use Rattle.numbers.proofs.prices.signed.Tie as tie
-use Rattle.numbers.proofs.prices.signed.Reads as reads
-use Rattle.numbers.proofs.prices.signed.Lts as lts
 
--- src/prices.rt:11:9
 cast-result : tie.Need-cast-result
 cast-result c = search needs
 
--- src/prices.rt:13:10
 cast-result-2 : tie.Need-cast-result-2
 cast-result-2 c = search needs
 
--- src/prices.rt:13:9
 add-result : tie.Need-add-result
 add-result c = rw (upper (c .before .args .v) (c .if1 .left) (omega arith)) (sfits-toZ (c .before .fits .v))
 
--- src/prices.rt:7:1
 returns : tie.Need-returns
 returns c = search needs
 
--- src/prices.rt:7:1
 returns-2 : tie.Need-returns-2
 returns-2 c = rw (upper (c .before .args .v) (c .if1 .left) (omega arith), ofZ-toZ (c .before .fits .v))
 

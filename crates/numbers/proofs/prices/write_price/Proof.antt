@@ -1,3 +1,4 @@
+-- `numbers::prices::write_price` meets its contract. Assumes nothing.
 use mir.Val.{SFits}
 use mir.Syntax.{w64}
 use Rattle.numbers.specs.Prices.{bitsOf}
@@ -11,24 +12,16 @@ use mathlib.Core.Path.{_≡_, sym, ap, _∙_}
 use borrow.Author.Needs.{needs}
 use Rattle.numbers.proofs.prices.write_price.Statement.{statement}
 use Rattle.numbers.proofs.prices.write_price.Tie as tie
-use Rattle.numbers.proofs.prices.write_price.Reads as reads
-use Rattle.numbers.proofs.prices.write_price.Lts as lts
-use Rattle.numbers.proofs.prices.bits.Reads as bits-reads
-use Rattle.numbers.proofs.write_u64.Reads as write-u64-reads
 
--- src/prices.rt:39:31
 bits-requires : tie.Need-bits-requires
 bits-requires c κs = search needs
 
--- src/prices.rt:39:5
 write-u64-requires : tie.Need-write-u64-requires
 write-u64-requires c κs = search needs
 
--- src/prices.rt:36:1
 same-length : tie.Need-same-length
 same-length c = search needs
 
--- src/prices.rt:36:1
 returns : tie.Need-returns
 returns c =
     let start = c .before .before .before .before .before .before in

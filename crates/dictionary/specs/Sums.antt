@@ -1,0 +1,117 @@
+-- A second count of the bit dictionary, so that code and table cannot be changed together unseen: for each message the widths and the
+-- bits of each bitfield byte, its length in all, its columns of widths and kinds, and that its lines stand in order of byte and bit.
+-- The figures are counted from document 01's lists, Order Execution's narrowed by 000's Table 70. All is computed. Assumes nothing.
+use mathlib.Core.Path.{_≡_, refl}
+use mathlib.Core.Bool.{Bool, true, cond, _&&_}
+use mathlib.Core.List.{List, [], _∷_, map}
+use Prim.Native.Nat.{ℕ, _+_, _*_, _^_}
+use lib.Dec.{eqb, ltb}
+use Rattle.kinds.specs.declared.Kind.{Kind}
+use Rattle.kinds.specs.declared.Kind.the-variants.{Letters, Alphanumeric, Text, Binary, Price}
+use Rattle.dictionary.specs.Dictionary.{Line, line, newOrder, cancelOrder, acknowledgments, executions, indexOf}
+
+-- the widths of a bitfield byte's lines, summed
+abbrev pub widthsIn : ℕ → List Line → ℕ
+widthsIn byte [] = 0
+widthsIn byte (line b t w k ∷ ls) = cond (eqb byte b) w 0 + widthsIn byte ls
+
+-- the bits (1, 2, 4 to 128) of a bitfield byte's lines, summed
+abbrev pub bitsIn : ℕ → List Line → ℕ
+bitsIn byte [] = 0
+bitsIn byte (line b t w k ∷ ls) = cond (eqb byte b) t 0 + bitsIn byte ls
+
+-- the widths of all lines, summed
+abbrev pub layoutLength : List Line → ℕ
+layoutLength [] = 0
+layoutLength (line b t w k ∷ ls) = w + layoutLength ls
+
+abbrev pub lineWidth : Line → ℕ
+lineWidth (line b t w k) = w
+
+abbrev pub lineKind : Line → Kind
+lineKind (line b t w k) = k
+
+-- each line's bit is one of 1, 2, 4 to 128, and comes after the line before it, which stood at a place of 256 for a byte and 1 for a bit
+abbrev pub inOrder : ℕ → List Line → Bool
+inOrder last [] = true
+inOrder last (line b t w k ∷ ls) = eqb t (2 ^ indexOf t) && ltb last (256 * b + t) && inOrder (256 * b + t) ls
+
+-- the bitfield bytes that a message can have
+abbrev bytes : List ℕ
+bytes = 1 ∷ 2 ∷ 3 ∷ 4 ∷ 5 ∷ 6 ∷ 7 ∷ 8 ∷ 9 ∷ 10 ∷ 11 ∷ 12 ∷ 13 ∷ 14 ∷ 15 ∷ []
+
+-- New Order
+pub new-order-sums : map (λ b. widthsIn b newOrder) bytes ≡ 27 ∷ 21 ∷ 25 ∷ 0 ∷ 0 ∷ 77 ∷ 0 ∷ 0 ∷ 0 ∷ 4 ∷ 0 ∷ 0 ∷ 0 ∷ 0 ∷ 0 ∷ []
+new-order-sums = refl
+
+pub new-order-masks : map (λ b. bitsIn b newOrder) bytes ≡ 255 ∷ 195 ∷ 193 ∷ 0 ∷ 0 ∷ 51 ∷ 0 ∷ 0 ∷ 0 ∷ 2 ∷ 0 ∷ 0 ∷ 0 ∷ 0 ∷ 0 ∷ []
+new-order-masks = refl
+
+pub new-order-length : layoutLength newOrder ≡ 154
+new-order-length = refl
+
+pub new-order-widths : map lineWidth newOrder ≡ 4 ∷ 4 ∷ 8 ∷ 1 ∷ 1 ∷ 1 ∷ 4 ∷ 4 ∷ 8 ∷ 8 ∷ 1 ∷ 4 ∷ 16 ∷ 1 ∷ 8 ∷ 4 ∷ 8 ∷ 1 ∷ 64 ∷ 4 ∷ []
+new-order-widths = refl
+
+pub new-order-kinds : map lineKind newOrder ≡ Letters ∷ Text ∷ Price ∷ Text ∷ Alphanumeric ∷ Alphanumeric ∷ Binary ∷ Binary ∷ Alphanumeric ∷ Alphanumeric ∷ Letters ∷ Text ∷ Text ∷ Letters ∷ Binary ∷ Binary ∷ Price ∷ Text ∷ Text ∷ Letters ∷ []
+new-order-kinds = refl
+
+pub new-order-in-order : inOrder 0 newOrder ≡ true
+new-order-in-order = refl
+
+-- Cancel Order
+pub cancel-order-sums : map (λ b. widthsIn b cancelOrder) bytes ≡ 4 ∷ 0 ∷ 0 ∷ 0 ∷ 0 ∷ 0 ∷ 0 ∷ 0 ∷ 0 ∷ 0 ∷ 0 ∷ 0 ∷ 0 ∷ 0 ∷ 0 ∷ []
+cancel-order-sums = refl
+
+pub cancel-order-masks : map (λ b. bitsIn b cancelOrder) bytes ≡ 1 ∷ 0 ∷ 0 ∷ 0 ∷ 0 ∷ 0 ∷ 0 ∷ 0 ∷ 0 ∷ 0 ∷ 0 ∷ 0 ∷ 0 ∷ 0 ∷ 0 ∷ []
+cancel-order-masks = refl
+
+pub cancel-order-length : layoutLength cancelOrder ≡ 4
+cancel-order-length = refl
+
+pub cancel-order-widths : map lineWidth cancelOrder ≡ 4 ∷ []
+cancel-order-widths = refl
+
+pub cancel-order-kinds : map lineKind cancelOrder ≡ Letters ∷ []
+cancel-order-kinds = refl
+
+pub cancel-order-in-order : inOrder 0 cancelOrder ≡ true
+cancel-order-in-order = refl
+
+-- Order Acknowledgment
+pub acknowledgment-sums : map (λ b. widthsIn b acknowledgments) bytes ≡ 16 ∷ 17 ∷ 32 ∷ 0 ∷ 24 ∷ 0 ∷ 0 ∷ 0 ∷ 0 ∷ 0 ∷ 0 ∷ 0 ∷ 0 ∷ 0 ∷ 0 ∷ []
+acknowledgment-sums = refl
+
+pub acknowledgment-masks : map (λ b. bitsIn b acknowledgments) bytes ≡ 125 ∷ 67 ∷ 87 ∷ 0 ∷ 142 ∷ 0 ∷ 0 ∷ 0 ∷ 0 ∷ 0 ∷ 0 ∷ 0 ∷ 0 ∷ 0 ∷ 0 ∷ []
+acknowledgment-masks = refl
+
+pub acknowledgment-length : layoutLength acknowledgments ≡ 89
+acknowledgment-length = refl
+
+pub acknowledgment-widths : map lineWidth acknowledgments ≡ 1 ∷ 8 ∷ 1 ∷ 1 ∷ 1 ∷ 4 ∷ 8 ∷ 8 ∷ 1 ∷ 16 ∷ 4 ∷ 4 ∷ 4 ∷ 4 ∷ 4 ∷ 4 ∷ 8 ∷ 8 ∷ []
+acknowledgment-widths = refl
+
+pub acknowledgment-kinds : map lineKind acknowledgments ≡ Alphanumeric ∷ Price ∷ Text ∷ Alphanumeric ∷ Alphanumeric ∷ Binary ∷ Alphanumeric ∷ Alphanumeric ∷ Letters ∷ Text ∷ Letters ∷ Text ∷ Binary ∷ Binary ∷ Binary ∷ Binary ∷ Price ∷ Binary ∷ []
+acknowledgment-kinds = refl
+
+pub acknowledgment-in-order : inOrder 0 acknowledgments ≡ true
+acknowledgment-in-order = refl
+
+-- Order Execution
+pub execution-sums : map (λ b. widthsIn b executions) bytes ≡ 16 ∷ 17 ∷ 32 ∷ 0 ∷ 0 ∷ 0 ∷ 0 ∷ 0 ∷ 0 ∷ 0 ∷ 0 ∷ 0 ∷ 0 ∷ 0 ∷ 0 ∷ []
+execution-sums = refl
+
+pub execution-masks : map (λ b. bitsIn b executions) bytes ≡ 125 ∷ 67 ∷ 87 ∷ 0 ∷ 0 ∷ 0 ∷ 0 ∷ 0 ∷ 0 ∷ 0 ∷ 0 ∷ 0 ∷ 0 ∷ 0 ∷ 0 ∷ []
+execution-masks = refl
+
+pub execution-length : layoutLength executions ≡ 65
+execution-length = refl
+
+pub execution-widths : map lineWidth executions ≡ 1 ∷ 8 ∷ 1 ∷ 1 ∷ 1 ∷ 4 ∷ 8 ∷ 8 ∷ 1 ∷ 16 ∷ 4 ∷ 4 ∷ 4 ∷ 4 ∷ []
+execution-widths = refl
+
+pub execution-kinds : map lineKind executions ≡ Alphanumeric ∷ Price ∷ Text ∷ Alphanumeric ∷ Alphanumeric ∷ Binary ∷ Alphanumeric ∷ Alphanumeric ∷ Letters ∷ Text ∷ Letters ∷ Text ∷ Binary ∷ Binary ∷ []
+execution-kinds = refl
+
+pub execution-in-order : inOrder 0 executions ≡ true
+execution-in-order = refl

@@ -1,0 +1,54 @@
+-- One field looked at and one given, on plain values, and one bit, whatever the walk's state. Assumes nothing.
+use mathlib.Core.Path.{_≡_, ap, ap₂, _∙_}
+use mathlib.Core.Bool.{Bool, true, false, _&&_}
+use mathlib.Core.List.{List}
+use Prim.Native.Nat.{ℕ, _+_, _-_, _≤_, _<_}
+use native.Mathlib.Omega.{arith}
+use lib.ListN.{length, take, drop}
+use borrow.Author.Tests.{le-leb, lt-leb}
+use Rattle.kinds.specs.declared.Kind.{Kind}
+use Rattle.kinds.specs.Kinds.{agreesOf}
+use Rattle.numbers.specs.Numbers.{patched}
+use Rattle.dictionary.specs.declared.Entry.{Entry}
+use Rattle.dictionary.specs.declared.Entry.the-variants.{Field}
+use Rattle.fields.specs.Walk.{pick, weightOf, Looking, lookEntry, Giving, giveField}
+
+-- ---- a field, which the code has as the part from p to p + w of the layout v
+
+module _ (v : List ℕ) (w p : ℕ) where
+  abbrev part : List ℕ
+  part = take (p + w - p) (drop p v)
+
+  part-is : part ≡ take w (drop p v)
+  part-is = let n : p + w - p ≡ w = omega arith in ap (λ (i : ℕ). take i (drop p v)) n
+
+  -- looked at
+  pub looked-is : (k : Kind) (st : Looking) {x : ℕ} {a : Bool} → x ≡ weightOf part → a ≡ (agreesOf k part && st .agree)
+      → _≡_ {A = Looking} (record { total = st .total + w; weight = st .weight + x; agree = a; bad = st .bad }) (lookEntry v (Field w k p) st)
+  unfolding lookEntry
+  looked-is k st {x} {a} e f =
+      ap₂ (λ (y : ℕ) (b : Bool). record { total = st .total + w; weight = st .weight + y; agree = b; bad = st .bad })
+      (e ∙ ap weightOf part-is)
+      (f ∙ ap (λ (l : List ℕ). agreesOf k l && st .agree) part-is)
+
+  -- given, where the message has room for it
+  pub given-is : (st : Giving) {l : List ℕ} → st .at + w ≤ length (st .buffer) → l ≡ patched (st .buffer) (st .at) part
+      → _≡_ {A = Giving} (record { at = st .at + w; buffer = l }) (giveField v w p st)
+  given-is st {l} h e =
+      rw (le-leb (st .at + w) (length (st .buffer)) h)
+      (ap (λ (b : List ℕ). record { at = st .at + w; buffer = b }) (e ∙ ap (patched (st .buffer) (st .at)) part-is))
+
+  -- not given, where it has none
+  pub kept-is : (st : Giving) → length (st .buffer) < st .at + w → st ≡ giveField v w p st
+  kept-is st h = rw (lt-leb (st .at + w) (length (st .buffer)) h)
+
+-- ---- a bit
+
+module _ {S : Type 0} (change : Entry → S → S) (b : Bool) (e : Entry) (st : S) where
+  -- one that is set, with the entry x
+  pub set-is : {x : Entry} {r : S} → b ≡ true → x ≡ e → r ≡ change x st → r ≡ pick b (change e st) st
+  set-is p q f = f ∙ rw p (ap (λ (y : Entry). change y st) q)
+
+  -- one that is not set
+  pub unset-is : b ≡ false → st ≡ pick b (change e st) st
+  unset-is p = rw p

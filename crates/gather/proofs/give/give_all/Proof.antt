@@ -1,0 +1,79 @@
+-- `gather::give::give_all` meets its contract. The loop's invariant: the message keeps its length, and the walk over the places of the other bytes,
+-- from the state reached, ends as the walk over all 120. The measure is the count of bytes that are left. Assumes nothing.
+use mathlib.Core.Path.{_≡_, refl, _∙_}
+use Prim.Native.Nat.{_*_, _-_, _≤_}
+use native.Mathlib.Omega.{arith}
+use lib.ListN.{length}
+use denote.Ref.{now}
+use Rattle.fields.specs.Walk.{giveEntry}
+use Rattle.fields.specs.Loops.{byte-turn, bytes-end}
+use Rattle.gather.specs.State.{giving, giveWalk}
+use Rattle.gather.proofs.give.give_all.Statement.{statement}
+use Rattle.gather.proofs.give.give_all.Tie as tie
+
+abbrev Inv-loop : tie.InvT-loop
+Inv-loop message bits count layout out₀ start j₀ at₀ out j at =
+    (j ≤ count)
+    × (length out ≡ length out₀)
+    × (giveWalk message count bits layout (120 - 8 * j) (8 * j) (giving at out) ≡ giveWalk message count bits layout 120 0 (giving start out₀))
+
+abbrev μ-loop : tie.MeasureT-loop
+μ-loop message bits count layout out₀ start j₀ at₀ out j at = count - j
+
+loop-holds : tie.Need-loop-holds Inv-loop μ-loop
+loop-holds c = (omega arith, refl, refl)
+
+cast-value : tie.Need-cast-value Inv-loop μ-loop
+cast-value c = omega arith
+
+element-copy-out-value : tie.Need-element-copy-out-value Inv-loop μ-loop
+element-copy-out-value c = omega arith
+
+give-byte-requires : tie.Need-give-byte-requires Inv-loop μ-loop
+give-byte-requires c κs =
+    let in-loop = c .before .before in
+    let start = in-loop .before .before .before .before in
+    (start .pre .0, in-loop .loop-test .taken, start .pre .1, refl)
+
+add-j : tie.Need-add-j Inv-loop μ-loop
+add-j c = omega arith
+
+loop-less : tie.Need-loop-less Inv-loop μ-loop
+loop-less c = omega arith
+
+loop-again : tie.Need-loop-again Inv-loop μ-loop
+loop-again c =
+    let at-loop = c .before .before .before .before .before .before in
+    let start = at-loop .before .before .before in
+    let a = start .args in
+    let inv = at-loop .loop .inv in
+    let given = c .before .before .give-byte in (
+      omega arith,
+      given .kept .1 .1 .1 .1 .1 .1 .0 ∙ inv .1,
+      byte-turn (giveEntry (now (a .layout))) (a .message) (a .count) (now (a .bits)) (at-loop .loop .j) (giving (at-loop .loop .at) (at-loop .loop .out)) _ _ (omega arith) (given .ensures) (inv .2),
+    )
+
+same-length : tie.Need-same-length Inv-loop μ-loop
+same-length c = c .before .loop .inv .1
+
+returns : tie.Need-returns Inv-loop μ-loop
+returns c =
+    let at-loop = c .before in
+    let a = at-loop .before .before .before .args in
+    bytes-end (giveEntry (now (a .layout))) (a .message) (a .count) (now (a .bits)) (at-loop .loop .j) (giving (at-loop .loop .at) (at-loop .loop .out)) _ (c .loop-test .left) (at-loop .loop .inv .2)
+
+pub give-all-spec : {M : Type 1} → statement M
+give-all-spec =
+    tie.close
+    (tie.spec
+    Inv-loop
+    μ-loop
+    loop-holds
+    cast-value
+    element-copy-out-value
+    give-byte-requires
+    add-j
+    loop-less
+    loop-again
+    same-length
+    returns)

@@ -1,0 +1,103 @@
+// Giving a layout's selected fields to a message, each into the lent tail of its buffer.
+ghost use mathlib.Core.Path.{_≡_};
+ghost use Prim.Native.Nat.{_+_, _*_, _%_, _≤_, _<_};
+ghost use lib.Dec.{eqb};
+ghost use lib.ListN.{length, getD};
+ghost use Rattle.dictionary.specs.Dictionary.{entryOf};
+ghost use Rattle.fields.specs.Walk.{pick, giveField, giveEntry};
+ghost use Rattle.gather.specs.State.{giving, giveWalk};
+use dictionary::Entry;
+
+// One field of a layout to a place of the message: where the next one goes.
+fn give_field(width: u8, place: u8, layout: &[u8], out: &mut [u8], at: usize) -> usize
+    requires { ⌜ place + width ≤ length (now layout) ⌝ }
+    ensures { λ r. ⌜ giving r (now (out .exit)) ≡ giveField (now (layout .entry)) width place (giving at (now (out .entry))) ⌝ }
+{
+    let w = width as usize;
+    let p = place as usize;
+    if out.len() < w {
+        return at;
+    }
+    if out.len() - w < at {
+        return at;
+    }
+    let end = p + w;
+    let next = at + w;
+    fields::copy(&layout[p..end], &mut out[at..]);
+    next
+}
+
+// One bit, the lowest of x: its field if it is set.
+fn give_bit(
+    message: u8,
+    byte: u8,
+    bit: u8,
+    x: u8,
+    layout: &[u8],
+    out: &mut [u8],
+    at: usize,
+) -> usize
+    requires { ⌜ length (now layout) ≡ 154 ⌝ }
+    ensures { λ r. ⌜ giving r (now (out .exit)) ≡ pick (eqb (x % 2) 1) (giveEntry (now (layout .entry)) (entryOf message byte bit) (giving at (now (out .entry)))) (giving at (now (out .entry))) ⌝ }
+{
+    if x % 2 == 1 {
+        let e = dictionary::entry_of(message, byte, bit);
+        match e {
+            Entry::Refused => at,
+            Entry::Field {
+                width,
+                kind: _,
+                place,
+            } => give_field(width, place, layout, out, at),
+        }
+    } else {
+        at
+    }
+}
+
+// The fields of bitfield byte j, counted from 0, which is `value`.
+fn give_byte(
+    message: u8,
+    bits: &[u8; 15],
+    count: u8,
+    j: u8,
+    value: u8,
+    layout: &[u8],
+    out: &mut [u8],
+    start: usize,
+) -> usize
+    requires { ⌜ (length (now layout) ≡ 154) × (j < count) × (count ≤ 15) × (value ≡ getD (now bits) j 0) ⌝ }
+    ensures { λ r. ⌜ giving r (now (out .exit)) ≡ giveWalk message count (now (bits .entry)) (now (layout .entry)) 8 (8 * j) (giving start (now (out .entry))) ⌝ }
+{
+    let mut x = value;
+    let mut bit: u8 = 0;
+    let mut at = start;
+    while x != 0 {
+        at = give_bit(message, j + 1, bit, x, layout, out, at);
+        x = x / 2;
+        bit += 1;
+    }
+    at
+}
+
+// All fields that the first `count` bitfield bytes select, from a place of the message on.
+pub fn give_all(
+    message: u8,
+    bits: &[u8; 15],
+    count: u8,
+    layout: &[u8],
+    out: &mut [u8],
+    start: usize,
+) -> usize
+    requires { ⌜ (length (now layout) ≡ 154) × (count ≤ 15) ⌝ }
+    ensures { λ r. ⌜ giving r (now (out .exit)) ≡ giveWalk message count (now (bits .entry)) (now (layout .entry)) 120 0 (giving start (now (out .entry))) ⌝ }
+{
+    let mut j: u8 = 0;
+    let mut at = start;
+    while j < count {
+        let value = bits[j as usize];
+        at = give_byte(message, bits, count, j, value, layout, out, at);
+        j += 1;
+    }
+    at
+}

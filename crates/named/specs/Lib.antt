@@ -1,0 +1,3 @@
+pub mod Named
+pub mod NamedLaws
+pub mod OtherLaws

@@ -1,0 +1,30 @@
+-- `order_reader::block_of` meets its contract. What `take_all` ensures says of the slots whether a bit is bad, whether the total is right, whether
+-- the kinds agree and what the layout holds; with it what `judged` ensures is the refusal of the block. Assumes nothing.
+use Rattle.order_reader.proofs.Judging.{judged-is, layout-right}
+use Rattle.spread.specs.Made.{took-all}
+use denote.Ref.{now}
+use mathlib.Core.Path.{sym, _∙_}
+use borrow.Author.Needs.{needs}
+use Rattle.order_reader.proofs.block_of.Statement.{statement}
+use Rattle.order_reader.proofs.block_of.Tie as tie
+
+slice-aggregate-take-all : tie.Need-slice-aggregate-take-all
+slice-aggregate-take-all c = search needs
+
+take-all-requires : tie.Need-take-all-requires
+take-all-requires c κs = search needs
+
+judged-requires : tie.Need-judged-requires
+judged-requires c κs = search needs
+
+returns : tie.Need-returns
+returns c =
+    let a = c .before .before .before .before .before .before .args in
+    let taken = c .before .before .take-all in
+    let k = took-all (a .message) (a .count) (now (a .bits)) (now (a .optional)) (taken .result) _ (taken .ensures) in
+    let j = judged-is (a .message) (a .count) (now (a .bits)) (now (a .fixed)) (now (a .optional)) (taken .result) _ k (c .judged .ensures) in
+    (j, λ z. layout-right (a .message) (a .count) (now (a .bits)) (now (a .fixed)) (now (a .optional)) (taken .result) _ k (sym j ∙ z))
+
+pub block-of-spec : {M : Type 1} → statement M
+block-of-spec =
+    tie.close (tie.spec slice-aggregate-take-all take-all-requires judged-requires returns)

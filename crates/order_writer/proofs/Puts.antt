@@ -1,0 +1,87 @@
+-- One part, and then the rest into the tail: the buffer holds the two in a row. Assumes nothing.
+use mathlib.Core.Path.{_≡_, refl, sym, ap, ap₂, _∙_, subst}
+use mathlib.Core.List.{List, [], _∷_, _++_}
+use Prim.Native.Nat.{ℕ, _+_, _-_, _≤_}
+use native.Mathlib.Nat.{zero-add}
+use native.Mathlib.Omega.{arith}
+use lib.ListN.{length, take, drop, length-append, length-drop, set}
+use lib.Seq.{length-take-le}
+use Rattle.numbers.specs.Numbers.{patched}
+use Rattle.numbers.specs.NumberLaws.{patched-length, patched-join}
+use Rattle.numbers.proofs.Tail.{tail-is, lent-patched}
+use Rattle.fields.specs.Slots.{Slot, takes, width, sum, gathered}
+use Rattle.fields.specs.SlotLaws.{gathered-length}
+use Rattle.fields.specs.Places.{selectedAt, entryAt, slotsOf}
+use Rattle.fields.specs.Walk.{Giving}
+use Rattle.fields.specs.Dictionaries.{before, before-none, dictionary-placed}
+use Rattle.fields.specs.Gives.{gave}
+use Rattle.gather.specs.State.{giving, giveWalk}
+use Rattle.orders.specs.Shapes.{countAt}
+use Rattle.orders.specs.OrderLaws.{count-bounds}
+use Rattle.orders.specs.RoundTrip.{widths-fit}
+use Rattle.order_writer.specs.Stages.{fieldBytes, restBytes}
+
+module _ (out out₁ l₁ l₂ : List ℕ) (n : ℕ) (e : length l₁ ≡ n) (room : n + length l₂ ≤ length out) (p : out₁ ≡ patched out 0 l₁) where
+  same : length out₁ ≡ length out
+  same = ap length p ∙ patched-length out 0 l₁ (omega arith)
+
+  pub tail-length : length (take (length out₁ - n) (drop n out₁)) ≡ length out - n
+  tail-length = ap length (tail-is out₁ n (omega (arith, same))) ∙ length-drop n out₁ ∙ ap (λ (k : ℕ). k - n) same
+
+  pub puts-then : {ys : List ℕ} → ys ≡ patched (take (length out₁ - n) (drop n out₁)) 0 l₂ → take n out₁ ++ (ys ++ drop (length out₁ - n) (drop n out₁)) ≡ patched out 0 (l₁ ++ l₂)
+  puts-then {ys} q =
+      let k : n ≡ 0 + length l₁ = omega arith in
+      lent-patched out₁ n l₂ (omega (arith, same)) q
+      ∙ ap₂ (λ (o : List ℕ) (i : ℕ). patched o i l₂) p k
+      ∙ patched-join out 0 l₁ (omega arith) l₂
+
+-- the selected fields given at a place
+pub fields-given : (message count : ℕ) (bits v out out′ : List ℕ) (at r : ℕ) → length v ≡ 154 → at + sum takes (slotsOf message count bits) ≤ length out
+    → giving r out′ ≡ giveWalk message count bits v 120 0 (giving at out) → out′ ≡ patched out at (gathered (slotsOf message count bits) v)
+fields-given message count bits v out out′ at r lv room e =
+    let g = gave (entryAt message) 154 (dictionary-placed message) v (selectedAt count bits) 120 0 (giving at out) (omega arith) in
+    let z : before (entryAt message) 0 ≡ 0 = before-none (entryAt message) in
+    let d : drop (before (entryAt message) 0) v ≡ v = ap (λ (i : ℕ). drop i v) z in
+    ap (λ (x : Giving). x .buffer) e
+    ∙ g .buffer-is (omega (arith, widths-fit message count bits)) room
+    ∙ ap (λ (x : List ℕ). patched out at (gathered (slotsOf message count bits) x)) d
+
+-- their length
+pub fields-length : (message count : ℕ) (bits v : List ℕ) → length v ≡ 154 → length (gathered (slotsOf message count bits) v) ≡ sum takes (slotsOf message count bits)
+fields-length message count bits v lv = gathered-length (slotsOf message count bits) v (omega (arith, widths-fit message count bits))
+
+-- the first byte stored is a run of one
+pub first-stored : (c : ℕ) (out : List ℕ) → 1 ≤ length out → set out 0 c ≡ patched out 0 (c ∷ [])
+unfolding patched
+first-stored c [] h = absurd (omega (arith, h))
+first-stored c (x ∷ out) h = refl
+
+-- the bitfields copied and the selected fields given after them
+pub fields-put : (message count : ℕ) (bits v out out₁ out′ : List ℕ) (r : ℕ) → length v ≡ 154 → count ≤ length bits → count + sum takes (slotsOf message count bits) ≤ length out
+    → out₁ ≡ patched out 0 (take count bits) → giving r out′ ≡ giveWalk message count bits v 120 0 (giving count out₁)
+    → out′ ≡ patched out 0 (take count bits ++ gathered (slotsOf message count bits) v)
+fields-put message count bits v out out₁ out′ r lv lb room p e =
+    let n : length (take count bits) ≡ count = length-take-le count bits lb in
+    let k : count ≡ 0 + length (take count bits) = omega arith in
+    let fits : 0 + length (take count bits) ≤ length out = omega arith in
+    let same : length out₁ ≡ length out = ap length p ∙ patched-length out 0 (take count bits) fits in
+    fields-given message count bits v out₁ out′ count r lv (omega (arith, same)) e
+    ∙ ap₂ (λ (o : List ℕ) (i : ℕ). patched o i (gathered (slotsOf message count bits) v)) p k
+    ∙ patched-join out 0 (take count bits) fits (gathered (slotsOf message count bits) v)
+
+-- what the count and they are in all
+pub count-length : (message count : ℕ) (bits v : List ℕ) → length v ≡ 154 → count ≤ length bits → length (fieldBytes message count bits v) ≡ count + sum takes (slotsOf message count bits)
+unfolding fieldBytes
+count-length message count bits v lv lb =
+    length-append (take count bits) (gathered (slotsOf message count bits) v)
+    ∙ ap₂ (λ (x y : ℕ). x + y) (length-take-le count bits lb) (fields-length message count bits v lv)
+
+-- all that follows the header, in all
+pub rest-length : (message count : ℕ) (fixed bits v : List ℕ) → length fixed ≡ 59 → length v ≡ 154 → length bits ≡ 15 → count ≤ 15
+    → length (restBytes message count fixed bits v) ≡ countAt message - 10 + (1 + (count + sum takes (slotsOf message count bits)))
+unfolding restBytes
+rest-length message count fixed bits v lf lv lb lc =
+    let h = count-bounds message .high in
+    let n = count-length message count bits v lv (omega arith) in
+    length-append (take (countAt message - 10) fixed) (count ∷ fieldBytes message count bits v)
+    ∙ ap₂ (λ (x y : ℕ). x + y) (length-take-le (countAt message - 10) fixed (omega arith)) (omega (arith, n))

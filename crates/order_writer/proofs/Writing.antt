@@ -1,0 +1,171 @@
+-- The stages of the writer make up its refusal: first the top, then what was seen of the selected fields, then the room; and the
+-- buffer follows. Assumes nothing.
+use mathlib.Core.Path.{_≡_, refl, sym, ap, ap₂, _∙_}
+use mathlib.Core.Bool.{Bool, true, false, cond, not, _&&_, _||_, or-false, and-true}
+use mathlib.Core.List.{List, [], _∷_, _++_}
+use Prim.Native.Nat.{ℕ, suc, _+_, _-_, _≤_, _<_}
+use native.Mathlib.Nat.{zero-add}
+use native.Mathlib.Omega.{arith}
+use lib.Dec.{ltb, eqb}
+use lib.ListN.{length, take, drop}
+use borrow.Author.Tests.{lt-ltb, le-ltb, ltb-false, eq-eqb, ne-eqb}
+use Rattle.refusals.specs.Names.{unknownType, badUnit, tooManyBitfields, unlistedBit, notSelected, badValue, notZero, noRoom}
+use Rattle.numbers.specs.Numbers.{patched}
+use Rattle.kinds.specs.Kinds.{allNul}
+use Rattle.wire.specs.Header.{headerBytes}
+use Rattle.wire.specs.FrameLaws.{passed}
+use Rattle.fields.specs.Slots.{Slot, slot, takes, width, sum, anyBad, agreeHeld, zeroElsewhere}
+use Rattle.fields.specs.Places.{selectedAt, entryAt, slotsOf, hasRequired}
+use Rattle.fields.specs.Walk.{Looking, weightOf}
+use Rattle.fields.specs.Dictionaries.{before, before-none, dictionary-placed}
+use Rattle.fields.specs.Looks.{looked, selectedWeight, zero-by-weight}
+use Rattle.gather.specs.declared.Seen.{Seen}
+use Rattle.gather.specs.State.{looking, unseen, lookWalk}
+use Rattle.orders.specs.Shapes.{ofMember, ofVenue, countAt, mostOf, unitGood, fixedGood}
+use Rattle.orders.specs.Orders.{writeSlots, zeroUnused, sizeOf, orderBytes, writeRefusal, writeBuffer}
+use Rattle.orders.specs.OrderLaws.{most-bound, count-bounds}
+use Rattle.orders.specs.RoundTrip.{widths-fit}
+use Rattle.orders.specs.declared.Record.{Record}
+use Rattle.order_writer.specs.Stages.{topRefusal, unusedZero, seenRefusal, fieldBytes, restBytes}
+
+-- ---- the stages in a row
+
+abbrev thenNext : ℕ → ℕ → ℕ
+thenNext top rest = cond (eqb top 0) rest top
+
+then-stop : (top rest : ℕ) → (top ≡ 0 → ⊥) → thenNext top rest ≡ top
+then-stop top rest n = rw (ne-eqb top 0 n)
+
+then-go : (top rest : ℕ) → top ≡ 0 → thenNext top rest ≡ rest
+then-go top rest z = rw (eq-eqb top 0 z)
+
+-- one refusal more before a chain
+one-more : (a : Bool) (k x top rest : ℕ) → x ≡ thenNext top rest → cond a (suc k) x ≡ thenNext (cond a (suc k) top) rest
+one-more true k x top rest e = sym (then-stop (suc k) rest (λ z. omega (arith, z)))
+one-more false k x top rest e = e
+
+three : (a b c : Bool) (x y z rest : ℕ) → cond a (suc x) (cond b (suc y) (cond c (suc z) rest)) ≡ thenNext (cond a (suc x) (cond b (suc y) (cond c (suc z) 0))) rest
+three a b c x y z rest = one-more a x _ _ rest (one-more b y _ _ rest (one-more c z rest 0 rest (sym (then-go 0 rest refl))))
+
+four : (a b c d : Bool) (x y z w rest : ℕ) → cond a (suc x) (cond b (suc y) (cond c (suc z) (cond d (suc w) rest))) ≡ thenNext (cond a (suc x) (cond b (suc y) (cond c (suc z) (cond d (suc w) 0)))) rest
+four a b c d x y z w rest = one-more a x _ _ rest (three b c d y z w rest)
+
+-- the bitfields of a record that passes the top are at most 15
+pub count-fits : (message unit count : ℕ) → topRefusal message unit count ≡ 0 → count ≤ 15
+unfolding topRefusal
+count-fits message unit count z =
+    let p4 = passed (not (ofMember message || ofVenue message)) _ _ z in
+    let p5 = passed (not (unitGood message unit)) _ _ (p4 .1) in
+    let p7 = passed (ltb (mostOf message) count) _ _ (p5 .1) in
+    omega (arith, ltb-false (mostOf message) count (p7 .0), most-bound message)
+
+-- what is sent is at most what is held
+sent-at-most : (ss : List Slot) → sum takes ss ≤ sum width ss
+sent-at-most [] = omega arith
+sent-at-most (slot true e ∷ ss) = let h = sent-at-most ss in omega arith
+sent-at-most (slot false e ∷ ss) = let h = sent-at-most ss in omega arith
+
+-- 8, 9, 10, 12, and what comes after them
+abbrev block : Record → Bool → Bool → Bool → ℕ → ℕ
+block r bad agree zero rest =
+    cond bad unlistedBit
+    (cond (not (hasRequired (r .message) (r .count) (r .bits))) notSelected
+    (cond (not (fixedGood (r .message) (r .fixed) && agree)) badValue
+    (cond (not zero) notZero
+    rest)))
+
+module _ (r : Record) (s : Seen) (look : looking s ≡ lookWalk (r .message) (r .count) (r .bits) (r .slots) 120 0 unseen) where
+  whole : drop (before (entryAt (r .message)) 0) (r .slots) ≡ r .slots
+  whole = ap (λ (i : ℕ). drop i (r .slots)) (before-none (entryAt (r .message)))
+
+  bad-is : s .bad ≡ anyBad (slotsOf (r .message) (r .count) (r .bits))
+  bad-is =
+      let k = looked (entryAt (r .message)) 154 (dictionary-placed (r .message)) (r .slots) (selectedAt (r .count) (r .bits)) 120 0 unseen (omega arith) in
+      ap (λ (x : Looking). x .bad) look ∙ k .bad-is ∙ or-false (anyBad (slotsOf (r .message) (r .count) (r .bits)))
+
+  pub total-is : s .total ≡ sum takes (slotsOf (r .message) (r .count) (r .bits))
+  total-is =
+      let k = looked (entryAt (r .message)) 154 (dictionary-placed (r .message)) (r .slots) (selectedAt (r .count) (r .bits)) 120 0 unseen (omega arith) in
+      ap (λ (x : Looking). x .total) look ∙ k .total-is ∙ zero-add (sum takes (slotsOf (r .message) (r .count) (r .bits)))
+
+  agree-is : s .agree ≡ agreeHeld (slotsOf (r .message) (r .count) (r .bits)) (r .slots)
+  agree-is =
+      let k = looked (entryAt (r .message)) 154 (dictionary-placed (r .message)) (r .slots) (selectedAt (r .count) (r .bits)) 120 0 unseen (omega arith) in
+      ap (λ (x : Looking). x .agree) look
+      ∙ k .agree-is
+      ∙ and-true (agreeHeld (slotsOf (r .message) (r .count) (r .bits)) (drop (before (entryAt (r .message)) 0) (r .slots)))
+      ∙ ap (agreeHeld (slotsOf (r .message) (r .count) (r .bits))) whole
+
+  weight-is : s .weight ≡ selectedWeight (slotsOf (r .message) (r .count) (r .bits)) (r .slots)
+  weight-is =
+      let k = looked (entryAt (r .message)) 154 (dictionary-placed (r .message)) (r .slots) (selectedAt (r .count) (r .bits)) 120 0 unseen (omega arith) in
+      ap (λ (x : Looking). x .weight) look
+      ∙ k .weight-is
+      ∙ zero-add (selectedWeight (slotsOf (r .message) (r .count) (r .bits)) (drop (before (entryAt (r .message)) 0) (r .slots)))
+      ∙ ap (selectedWeight (slotsOf (r .message) (r .count) (r .bits))) whole
+
+  zero-is : unusedZero (r .message) (r .count) (r .fixed) (r .bits) (r .slots) (s .weight) ≡ zeroUnused r
+  unfolding unusedZero zeroUnused writeSlots
+  zero-is =
+      ap (λ (x : Bool). allNul (drop (countAt (r .message) - 10) (r .fixed)) && (allNul (drop (r .count) (r .bits)) && x))
+      (ap (eqb (weightOf (r .slots))) weight-is ∙ sym (zero-by-weight (slotsOf (r .message) (r .count) (r .bits)) (r .slots)))
+
+  -- what was seen is refused as the record says
+  seen-is : seenRefusal (r .message) (r .count) (r .fixed) (r .bits) (r .slots) s
+      ≡ block r (anyBad (slotsOf (r .message) (r .count) (r .bits))) (agreeHeld (slotsOf (r .message) (r .count) (r .bits)) (r .slots)) (zeroUnused r) 0
+  unfolding seenRefusal
+  seen-is =
+      ap₂ (λ (b a : Bool). block r b a (unusedZero (r .message) (r .count) (r .fixed) (r .bits) (r .slots) (s .weight)) 0) bad-is agree-is
+      ∙ ap (λ (z : Bool). block r (anyBad (slotsOf (r .message) (r .count) (r .bits))) (agreeHeld (slotsOf (r .message) (r .count) (r .bits)) (r .slots)) z 0) zero-is
+
+  -- the whole of the refusal
+  in-stages : (room : ℕ)
+      → writeRefusal r room
+      ≡ thenNext (topRefusal (r .message) (r .unit) (r .count))
+      (thenNext (seenRefusal (r .message) (r .count) (r .fixed) (r .bits) (r .slots) s) (cond (ltb room (sizeOf r)) noRoom 0))
+  unfolding writeRefusal topRefusal writeSlots
+  in-stages room =
+      let ss = slotsOf (r .message) (r .count) (r .bits) in
+      let last = cond (ltb room (sizeOf r)) noRoom 0 in
+      let top = topRefusal (r .message) (r .unit) (r .count) in
+      three (not (ofMember (r .message) || ofVenue (r .message))) (not (unitGood (r .message) (r .unit))) (ltb (mostOf (r .message)) (r .count)) _ _ _ _
+      ∙ ap (thenNext top)
+      (four (anyBad ss) (not (hasRequired (r .message) (r .count) (r .bits))) (not (fixedGood (r .message) (r .fixed) && agreeHeld ss (r .slots))) (not (zeroUnused r)) _ _ _ _ last
+      ∙ ap (λ (x : ℕ). thenNext x last) (sym seen-is))
+
+  module _ (room : ℕ) (top : topRefusal (r .message) (r .unit) (r .count) ≡ 0) where
+    pub seen-stops : (seenRefusal (r .message) (r .count) (r .fixed) (r .bits) (r .slots) s ≡ 0 → ⊥)
+        → seenRefusal (r .message) (r .count) (r .fixed) (r .bits) (r .slots) s ≡ writeRefusal r room
+    seen-stops n = sym (in-stages room ∙ then-go _ _ top ∙ then-stop _ _ n)
+
+    pub room-decides : seenRefusal (r .message) (r .count) (r .fixed) (r .bits) (r .slots) s ≡ 0 → writeRefusal r room ≡ cond (ltb room (sizeOf r)) noRoom 0
+    room-decides z = in-stages room ∙ then-go _ _ top ∙ then-go _ _ z
+
+  -- the size, as the code sums it
+  pub size-is : {n : ℕ} → n ≡ countAt (r .message) → n + 1 + r .count + s .total ≡ sizeOf r
+  unfolding sizeOf writeSlots
+  size-is e = ap₂ (λ (x y : ℕ). x + 1 + r .count + y) e total-is
+
+  pub total-small : s .total ≤ 154
+  total-small = omega (arith, total-is, sent-at-most (slotsOf (r .message) (r .count) (r .bits)), widths-fit (r .message) (r .count) (r .bits))
+
+-- ---- the buffer
+
+pub buffer-kept : (r : Record) (out : List ℕ) {n : ℕ} → n ≡ writeRefusal r (length out) → (n ≡ 0 → ⊥) → out ≡ writeBuffer r out
+unfolding writeBuffer
+buffer-kept r out e n = rw (ne-eqb (writeRefusal r (length out)) 0 (λ z. n (e ∙ z)))
+
+pub buffer-written : (r : Record) (out : List ℕ) {out′ : List ℕ} → writeRefusal r (length out) ≡ 0 → out′ ≡ patched out 0 (orderBytes r) → out′ ≡ writeBuffer r out
+unfolding writeBuffer
+buffer-written r out z e = rw (eq-eqb (writeRefusal r (length out)) 0 z) e
+
+pub bytes-are : (r : Record) {n : ℕ} → n ≡ sizeOf r → headerBytes (n - 2) (r .message) (r .unit) (r .number) ++ restBytes (r .message) (r .count) (r .fixed) (r .bits) (r .slots) ≡ orderBytes r
+unfolding orderBytes restBytes fieldBytes writeSlots
+bytes-are r e = ap (λ (x : ℕ). headerBytes (x - 2) (r .message) (r .unit) (r .number) ++ restBytes (r .message) (r .count) (r .fixed) (r .bits) (r .slots)) e
+
+-- ---- the top
+
+pub top-stops : (r : Record) (room : ℕ) → (topRefusal (r .message) (r .unit) (r .count) ≡ 0 → ⊥) → topRefusal (r .message) (r .unit) (r .count) ≡ writeRefusal r room
+unfolding writeRefusal topRefusal
+top-stops r room n =
+    sym (three (not (ofMember (r .message) || ofVenue (r .message))) (not (unitGood (r .message) (r .unit))) (ltb (mostOf (r .message)) (r .count)) _ _ _ _ ∙ then-stop _ _ n)

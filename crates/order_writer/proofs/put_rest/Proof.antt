@@ -1,0 +1,75 @@
+-- `order_writer::put_rest` meets its contract. Assumes nothing.
+use Rattle.order_writer.specs.Stages.{fieldBytes, restBytes}
+use Rattle.order_writer.proofs.Puts.{puts-then, tail-length, count-length}
+use Rattle.orders.specs.Shapes.{countAt}
+use Rattle.numbers.specs.Numbers.{patched}
+use lib.Seq.{length-take-le}
+use lib.ListN.{length, take}
+use Prim.Native.Nat.{ℕ, _+_, _-_}
+use mathlib.Core.List.{List, [], _∷_, _++_}
+use mathlib.Core.Path.{_≡_, refl, sym, ap, _∙_}
+use Rattle.orders.specs.OrderLaws.{count-bounds}
+use denote.Ref.{now}
+use native.Mathlib.Omega.{arith}
+use borrow.Author.Needs.{needs}
+use Rattle.order_writer.proofs.put_rest.Statement.{statement}
+use Rattle.order_writer.proofs.put_rest.Tie as tie
+
+count-at-requires : tie.Need-count-at-requires
+count-at-requires c κs = search needs
+
+sub-n : tie.Need-sub-n
+sub-n c = omega (arith, c .count-at .ensures, count-bounds (c .before .before .before .before .args .message) .low)
+
+copy-front-requires : tie.Need-copy-front-requires
+copy-front-requires c κs =
+    let start = c .before .before .before .before .before in
+    let a = start .args in
+    let n : _ ≡ countAt (a .message) = c .before .count-at .ensures in
+    let high = count-bounds (a .message) .high in
+    (omega (arith, start .pre .1), omega (arith, start .pre .4))
+
+sub-put-count : tie.Need-sub-put-count
+sub-put-count c = search needs
+
+part-put-count-start : tie.Need-part-put-count-start
+part-put-count-start c = search needs
+
+part-put-count-end : tie.Need-part-put-count-end
+part-put-count-end c = search needs
+
+put-count-requires : tie.Need-put-count-requires
+put-count-requires c κs = search needs
+
+same-length : tie.Need-same-length
+same-length c = search needs
+
+returns : tie.Need-returns
+unfolding restBytes
+returns c =
+    let copied = c .before .before .before .before .before .before in
+    let start = c .before .before .before .before .before .before .before .before .before .before .before .before in
+    let a = start .args in
+    let k = copied .before .before .count-at .result in
+    let n : k ≡ countAt (a .message) = copied .before .before .count-at .ensures in
+    let high = count-bounds (a .message) .high in
+    let low = count-bounds (a .message) .low in
+    let fixed = now (a .fixed) in
+    let lf : length (take (k - 10) fixed) ≡ k - 10 = length-take-le (k - 10) fixed (omega (arith, start .pre .1)) in
+    let lc = count-length (a .message) (a .count) (now (a .bits)) (now (a .slots)) (start .pre .2) (omega (arith, start .pre .0, start .pre .3)) in
+    puts-then (now (a .tail)) _ (take (k - 10) fixed) (a .count ∷ fieldBytes (a .message) (a .count) (now (a .bits)) (now (a .slots))) (k - 10) lf (omega (arith, start .pre .4, lc, n)) (copied .copy-front .ensures) (c .before .before .put-count .ensures)
+    ∙ ap (λ (i : ℕ). patched (now (a .tail)) 0 (take (i - 10) fixed ++ (a .count ∷ fieldBytes (a .message) (a .count) (now (a .bits)) (now (a .slots))))) n
+
+pub put-rest-spec : {M : Type 1} → statement M
+put-rest-spec =
+    tie.close
+    (tie.spec
+    count-at-requires
+    sub-n
+    copy-front-requires
+    sub-put-count
+    part-put-count-start
+    part-put-count-end
+    put-count-requires
+    same-length
+    returns)

@@ -1,0 +1,43 @@
+-- The stages of the writer, as its functions have them. Definitions alone. Assumes nothing.
+use Prim.Native.Nat.{ℕ, _+_, _-_}
+use mathlib.Core.Bool.{Bool, cond, not, _&&_, _||_}
+use mathlib.Core.List.{List, _∷_, _++_}
+use lib.Dec.{ltb, eqb}
+use lib.ListN.{take, drop}
+use Rattle.refusals.specs.Names.{unknownType, badUnit, tooManyBitfields, unlistedBit, notSelected, badValue, notZero}
+use Rattle.kinds.specs.Kinds.{allNul}
+use Rattle.fields.specs.Slots.{gathered}
+use Rattle.fields.specs.Places.{slotsOf, hasRequired}
+use Rattle.fields.specs.Walk.{weightOf}
+use Rattle.gather.specs.declared.Seen.{Seen}
+use Rattle.orders.specs.Shapes.{ofMember, ofVenue, countAt, mostOf, unitGood, fixedGood}
+
+-- 4, 5, 7
+unfoldable pub topRefusal : ℕ → ℕ → ℕ → ℕ
+topRefusal message unit count =
+    cond (not (ofMember message || ofVenue message)) unknownType
+    (cond (not (unitGood message unit)) badUnit
+    (cond (ltb (mostOf message) count) tooManyBitfields
+    0))
+
+-- the unused places are zero, where the selected fields weigh so much
+unfoldable pub unusedZero : ℕ → ℕ → List ℕ → List ℕ → List ℕ → ℕ → Bool
+unusedZero message count fixed bits slots weight =
+    allNul (drop (countAt message - 10) fixed) && (allNul (drop count bits) && eqb (weightOf slots) weight)
+
+-- 8, 9, 10, 12 by what was seen of the selected fields
+unfoldable pub seenRefusal : ℕ → ℕ → List ℕ → List ℕ → List ℕ → Seen → ℕ
+seenRefusal message count fixed bits slots s =
+    cond (s .bad) unlistedBit
+    (cond (not (hasRequired message count bits)) notSelected
+    (cond (not (fixedGood message fixed && s .agree)) badValue
+    (cond (not (unusedZero message count fixed bits slots (s .weight))) notZero
+    0)))
+
+-- the bitfields and the selected fields
+unfoldable pub fieldBytes : ℕ → ℕ → List ℕ → List ℕ → List ℕ
+fieldBytes message count bits slots = take count bits ++ gathered (slotsOf message count bits) slots
+
+-- the fixed part, the count, and these: all that follows the header
+unfoldable pub restBytes : ℕ → ℕ → List ℕ → List ℕ → List ℕ → List ℕ
+restBytes message count fixed bits slots = take (countAt message - 10) fixed ++ (count ∷ fieldBytes message count bits slots)

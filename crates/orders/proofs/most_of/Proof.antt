@@ -1,0 +1,20 @@
+-- `orders::most_of` meets its contract. Assumes nothing.
+use Rattle.orders.specs.Shapes.{mostOf}
+use borrow.Author.Tests.{ne-eqb}
+use Rattle.orders.proofs.most_of.Statement.{statement}
+use Rattle.orders.proofs.most_of.Tie as tie
+
+returns : tie.Need-returns
+unfolding mostOf
+returns c = rw (c .match .keys1)
+
+returns-2 : tie.Need-returns-2
+unfolding mostOf
+returns-2 c = rw (c .match .keys2)
+
+returns-3 : tie.Need-returns-3
+unfolding mostOf
+returns-3 c = simp (ne-eqb _ _ (c .match .rest .1), ne-eqb _ _ (c .match .rest .0 .1))
+
+pub most-of-spec : {M : Type 1} → statement M
+most-of-spec = tie.close (tie.spec returns returns-2 returns-3)

@@ -1,0 +1,4 @@
+pub mod Shapes
+pub mod Orders
+pub mod OrderLaws
+pub mod RoundTrip

@@ -1,0 +1,121 @@
+-- Reading and writing a message with bitfields. Definitions alone. Assumes nothing.
+use Prim.Native.Nat.{ℕ, _+_, _-_}
+use mathlib.Core.Bool.{Bool, true, false, cond, not, _&&_, _||_}
+use mathlib.Core.List.{List, [], _∷_, _++_}
+use lib.Dec.{leb, ltb, eqb}
+use lib.ListN.{length, getD, take, drop}
+use Rattle.refusals.specs.Names.{unknownType, badUnit, wrongTotal, tooManyBitfields, unlistedBit, notSelected, badValue, notZero, noRoom}
+use Rattle.kinds.specs.Kinds.{allNul}
+use Rattle.numbers.specs.Numbers.{patched}
+use Rattle.wire.specs.Header.{headerBytes, typeOf, unitOf, numberOf}
+use Rattle.fields.specs.Slots.{zeros, Slot, takes, width, sum, anyBad, spread, gathered, agreeSent, agreeHeld, zeroElsewhere}
+use Rattle.fields.specs.Places.{slotsOf, hasRequired}
+use Rattle.orders.specs.Shapes.{ofMember, ofVenue, countAt, mostOf, unitGood, fixedGood}
+use Rattle.orders.specs.declared.Record.{Record}
+use Rattle.orders.specs.declared.Reading.{Reading}
+
+-- ---- reading a whole message m
+
+-- the count of bitfields; the bitfields, with zeros after them; the optional bytes
+abbrev pub countOf : List ℕ → ℕ
+countOf m = getD m (countAt (typeOf m)) 0
+
+unfoldable pub bitsOf : List ℕ → List ℕ
+bitsOf m = take (countOf m) (drop (countAt (typeOf m) + 1) m) ++ zeros (15 - countOf m)
+
+unfoldable pub optionalOf : List ℕ → List ℕ
+optionalOf m = drop (countAt (typeOf m) + 1 + countOf m) m
+
+-- the fixed part, with zeros after it
+unfoldable pub fixedOf : List ℕ → List ℕ
+fixedOf m = take (countAt (typeOf m) - 10) (drop 10 m) ++ zeros (69 - countAt (typeOf m))
+
+-- the refusals in reading order: 4; 5; 6 if the message ends before its count byte is whole; 7; 6 if the bitfields do not fit
+unfoldable pub headRefusal : List ℕ → ℕ
+headRefusal m =
+    cond (not (ofMember (typeOf m) || ofVenue (typeOf m))) unknownType
+    (cond (not (unitGood (typeOf m) (unitOf m))) badUnit
+    (cond (leb (length m) (countAt (typeOf m))) wrongTotal
+    (cond (ltb (mostOf (typeOf m)) (countOf m)) tooManyBitfields
+    (cond (ltb (length m) (countAt (typeOf m) + 1 + countOf m)) wrongTotal
+    0))))
+
+-- then 8; 9; 6 if the total differs; 10
+unfoldable pub blockRefusal : ℕ → ℕ → List ℕ → List ℕ → List ℕ → ℕ
+blockRefusal message count bits fixed optional =
+    cond (anyBad (slotsOf message count bits)) unlistedBit
+    (cond (not (hasRequired message count bits)) notSelected
+    (cond (not (eqb (sum takes (slotsOf message count bits)) (length optional))) wrongTotal
+    (cond (not (fixedGood message fixed && agreeSent (slotsOf message count bits) optional)) badValue
+    0)))
+
+unfoldable pub readRefusal : List ℕ → ℕ
+readRefusal m = cond (eqb (headRefusal m) 0) (blockRefusal (typeOf m) (countOf m) (bitsOf m) (fixedOf m) (optionalOf m)) (headRefusal m)
+
+-- the optional fields in the full layout
+unfoldable pub layoutOf : ℕ → ℕ → List ℕ → List ℕ → List ℕ
+layoutOf message count bits optional = spread (slotsOf message count bits) optional ++ zeros (154 - sum width (slotsOf message count bits))
+
+-- the record of a message
+unfoldable pub recordOf : List ℕ → Record
+recordOf m =
+    record {
+      message = typeOf m;
+      unit = unitOf m;
+      number = numberOf m;
+      fixed = fixedOf m;
+      count = countOf m;
+      bits = bitsOf m;
+      slots = layoutOf (typeOf m) (countOf m) (bitsOf m) (optionalOf m);
+    }
+
+abbrev pub blank : Record
+blank = record { message = 0; unit = 0; number = 0; fixed = zeros 59; count = 0; bits = zeros 15; slots = zeros 154 }
+
+abbrev pub pickReading : Bool → Reading → Reading → Reading
+pickReading true a b = a
+pickReading false a b = b
+
+unfoldable pub readOf : List ℕ → Reading
+readOf m = pickReading (eqb (readRefusal m) 0) (record { refusal = 0; order = recordOf m }) (record { refusal = readRefusal m; order = blank })
+
+-- ---- writing a record
+
+unfoldable pub writeSlots : Record → List Slot
+writeSlots r = slotsOf (r .message) (r .count) (r .bits)
+
+-- an unselected field or unused place of a record holds zero
+unfoldable pub zeroUnused : Record → Bool
+zeroUnused r =
+    allNul (drop (countAt (r .message) - 10) (r .fixed))
+    && (allNul (drop (r .count) (r .bits))
+    && zeroElsewhere (writeSlots r) (r .slots))
+
+-- the bytes of the message in all
+unfoldable pub sizeOf : Record → ℕ
+sizeOf r = countAt (r .message) + 1 + r .count + sum takes (writeSlots r)
+
+-- header, fixed part, count, bitfields, the selected fields
+unfoldable pub orderBytes : Record → List ℕ
+orderBytes r =
+    headerBytes (sizeOf r - 2) (r .message) (r .unit) (r .number)
+    ++ (take (countAt (r .message) - 10) (r .fixed)
+    ++ (r .count ∷ (take (r .count) (r .bits)
+    ++ gathered (writeSlots r) (r .slots))))
+
+-- the refusals in writing order: 4, 5, 7, 8, 9, 10, 12, 13
+unfoldable pub writeRefusal : Record → ℕ → ℕ
+writeRefusal r room =
+    cond (not (ofMember (r .message) || ofVenue (r .message))) unknownType
+    (cond (not (unitGood (r .message) (r .unit))) badUnit
+    (cond (ltb (mostOf (r .message)) (r .count)) tooManyBitfields
+    (cond (anyBad (writeSlots r)) unlistedBit
+    (cond (not (hasRequired (r .message) (r .count) (r .bits))) notSelected
+    (cond (not (fixedGood (r .message) (r .fixed) && agreeHeld (writeSlots r) (r .slots))) badValue
+    (cond (not (zeroUnused r)) notZero
+    (cond (ltb room (sizeOf r)) noRoom
+    0)))))))
+
+-- what the output buffer holds after it
+unfoldable pub writeBuffer : Record → List ℕ → List ℕ
+writeBuffer r out = cond (eqb (writeRefusal r (length out)) 0) (patched out 0 (orderBytes r)) out

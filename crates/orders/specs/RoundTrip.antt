@@ -1,0 +1,331 @@
+-- The round trip of a message with bitfields, over the definitions that reader and writer meet.
+--     written-again   what is read is written again as the same bytes, trailing zero bitfields and reserved bytes included
+--     read-again      a record that the writer takes, written and read with any bytes after it, is the same record
+-- Assumes nothing.
+use mathlib.Core.Path.{_≡_, refl, sym, ap, ap₂, _∙_}
+use mathlib.Core.Bool.{true, false, _||_}
+use mathlib.Core.List.{List, [], _∷_, _++_, append-assoc, append-nil}
+use Prim.Native.Nat.{ℕ, suc, _+_, _-_, _≤_, _<_}
+use native.Mathlib.Nat.{add-assoc}
+use native.Mathlib.Omega.{arith}
+use lib.ListN.{length, getD, take, drop, length-append, length-take, length-drop, take-append-drop}
+use lib.Seq.{length-take-le, take-at, drop-at, drop-drop, drop-cons, getD-at, take-append-le}
+use Rattle.kinds.specs.Kinds.{allNul}
+use Rattle.wire.specs.Header.{headerBytes, lengthOf, typeOf, unitOf, numberOf, totalOf}
+use Rattle.wire.specs.HeaderLaws.{Bytes, header-length, header-type, header-unit, header-number, header-total, header-again}
+use Rattle.wire.specs.Frame.{frameRefusal, framed}
+use Rattle.wire.specs.FrameLaws.{Whole, whole, accepted, framed-is}
+use Rattle.fields.specs.Slots.{zeros, Slot, slot, takes, width, sum, anyBad, spread, gathered, agreeSent}
+use Rattle.fields.specs.SlotLaws.{length-zeros, nul-is-zeros, zeros-are-nul, spread-length, gathered-length, gathered-front, back, forth, spread-zero, agree-spread, agree-gathered}
+use Rattle.fields.specs.Places.{selectedAt, entryAt, slotsOf, hasRequired}
+use Rattle.fields.specs.Dictionaries.{before, before-none, dictionary-placed, widths-add}
+use Rattle.orders.specs.Shapes.{ofMember, ofVenue, countAt, unitGood, fixedGood}
+use Rattle.orders.specs.Orders.{countOf, bitsOf, optionalOf, fixedOf, layoutOf, readRefusal, recordOf, writeSlots, sizeOf, orderBytes, writeRefusal}
+use Rattle.orders.specs.OrderLaws.{CountBounds, count-bounds, most-bound, Good, good, is-read, Fit, fit, is-written}
+use Rattle.orders.specs.declared.Record.{Record}
+
+-- all slots of a message fit the layout
+pub widths-fit : (message count : ℕ) (bits : List ℕ) → sum width (slotsOf message count bits) ≤ 154
+widths-fit message count bits =
+    let w : before (entryAt message) 0 + sum width (slotsOf message count bits) ≡ before (entryAt message) 120 = widths-add (selectedAt count bits) (entryAt message) 120 0 in
+    let z : before (entryAt message) 0 ≡ 0 = before-none (entryAt message) in
+    let f : before (entryAt message) 120 ≤ 154 = dictionary-placed message .fits in
+    omega arith
+
+-- the selected fields take at most the layout
+takes-below : (ss : List Slot) → sum takes ss ≤ sum width ss
+takes-below [] = omega arith
+takes-below (slot true e ∷ ss) = let h = takes-below ss in omega arith
+takes-below (slot false e ∷ ss) = let h = takes-below ss in omega arith
+
+-- ---- five parts one after the other
+
+module _ (p f : List ℕ) (c : ℕ) (b g : List ℕ) (a : ℕ) (lp : length p ≡ 10) (lf : length f ≡ a - 10) (lb : length b ≡ c) (ha : 10 ≤ a) where
+  whole-of : List ℕ
+  whole-of = p ++ (f ++ (c ∷ (b ++ g)))
+
+  front : List ℕ
+  front = p ++ f
+
+  front-length : length front ≡ a
+  unfolding front
+  front-length = length-append p f ∙ omega arith
+
+  as-front : p ++ (f ++ (c ∷ (b ++ g))) ≡ front ++ (c ∷ (b ++ g))
+  unfolding front
+  as-front = sym (append-assoc p f (c ∷ (b ++ g)))
+
+  pub parts-length : length (p ++ (f ++ (c ∷ (b ++ g)))) ≡ a + 1 + c + length g
+  parts-length =
+      let n : length (b ++ g) ≡ length b + length g = length-append b g in
+      ap length as-front ∙ length-append front (c ∷ (b ++ g)) ∙ omega (arith, front-length, n)
+
+  pub parts-fixed : take (a - 10) (drop 10 (p ++ (f ++ (c ∷ (b ++ g))))) ≡ f
+  parts-fixed = ap (take (a - 10)) (drop-at p (f ++ (c ∷ (b ++ g))) 10 lp) ∙ take-at f (c ∷ (b ++ g)) (a - 10) lf
+
+  pub parts-count : getD (p ++ (f ++ (c ∷ (b ++ g)))) a 0 ≡ c
+  parts-count = ap (λ (l : List ℕ). getD l a 0) as-front ∙ getD-at front c (b ++ g) 0 a front-length
+
+  after-count : drop (a + 1) (p ++ (f ++ (c ∷ (b ++ g)))) ≡ b ++ g
+  after-count =
+      ap (drop (a + 1)) as-front
+      ∙ sym (drop-drop 1 a (front ++ (c ∷ (b ++ g))))
+      ∙ ap (drop 1) (drop-at front (c ∷ (b ++ g)) a front-length)
+
+  pub parts-bits : take c (drop (a + 1) (p ++ (f ++ (c ∷ (b ++ g))))) ≡ b
+  parts-bits = ap (take c) after-count ∙ take-at b g c lb
+
+  pub parts-rest : drop (a + 1 + c) (p ++ (f ++ (c ∷ (b ++ g)))) ≡ g
+  parts-rest = sym (drop-drop c (a + 1) (p ++ (f ++ (c ∷ (b ++ g))))) ∙ ap (drop c) after-count ∙ drop-at b g c lb
+
+-- a message is its five parts
+five : (m : List ℕ) (a c : ℕ) → 10 ≤ a → a < length m → getD m a 0 ≡ c
+    → take 10 m ++ (take (a - 10) (drop 10 m) ++ (c ∷ (take c (drop (a + 1) m) ++ drop (a + 1 + c) m))) ≡ m
+five m a c ha la e =
+    let d : take c (drop (a + 1) m) ++ drop (a + 1 + c) m ≡ drop (a + 1) m =
+    ap (λ (l : List ℕ). take c (drop (a + 1) m) ++ l) (sym (drop-drop c (a + 1) m)) ∙ take-append-drop c (drop (a + 1) m) in
+    let s : suc a ≡ a + 1 = omega arith in
+    let h : c ∷ drop (a + 1) m ≡ drop a m = sym (drop-cons m a 0 la ∙ ap₂ (λ (x n : ℕ). x ∷ drop n m) e s) in
+    let k : 10 + (a - 10) ≡ a = omega arith in
+    let q : c ∷ (take c (drop (a + 1) m) ++ drop (a + 1 + c) m) ≡ drop (a - 10) (drop 10 m) =
+    ap (λ (l : List ℕ). c ∷ l) d ∙ h ∙ sym (drop-drop (a - 10) 10 m ∙ ap (λ (n : ℕ). drop n m) k) in
+    ap (λ (l : List ℕ). take 10 m ++ (take (a - 10) (drop 10 m) ++ l)) q
+    ∙ ap (λ (l : List ℕ). take 10 m ++ l) (take-append-drop (a - 10) (drop 10 m))
+    ∙ take-append-drop 10 m
+
+-- ---- what is read is written again
+
+module _ (m : List ℕ) (bytes : Bytes m) (w : Whole m) (exact : length m ≡ totalOf m) (z : readRefusal m ≡ 0) where
+  gathered-again : gathered (slotsOf (typeOf m) (countOf m) (bitsOf m)) (layoutOf (typeOf m) (countOf m) (bitsOf m) (optionalOf m)) ≡ optionalOf m
+  unfolding layoutOf
+  gathered-again =
+      let n = spread-length (slotsOf (typeOf m) (countOf m) (bitsOf m)) (optionalOf m) (omega (arith, good m z .total)) in
+      gathered-front (slotsOf (typeOf m) (countOf m) (bitsOf m)) (spread (slotsOf (typeOf m) (countOf m) (bitsOf m)) (optionalOf m)) (zeros (154 - sum width (slotsOf (typeOf m) (countOf m) (bitsOf m)))) (omega (arith, n))
+      ∙ back (slotsOf (typeOf m) (countOf m) (bitsOf m)) (optionalOf m) (sym (good m z .total))
+
+  long : 10 ≤ length m
+  unfolding totalOf
+  long = omega (arith, w .least, exact)
+
+  optional-length : length (optionalOf m) + (countAt (typeOf m) + 1 + countOf m) ≡ length m
+  unfolding optionalOf
+  optional-length =
+      let n : length (drop (countAt (typeOf m) + 1 + countOf m) m) ≡ length m - (countAt (typeOf m) + 1 + countOf m) = length-drop (countAt (typeOf m) + 1 + countOf m) m in
+      omega (arith, good m z .there)
+
+  pub size-again : sizeOf (recordOf m) ≡ length m
+  unfolding sizeOf recordOf writeSlots
+  size-again = omega (arith, optional-length, good m z .total)
+
+  front-bits : length (take (countOf m) (drop (countAt (typeOf m) + 1) m)) ≡ countOf m
+  front-bits =
+      let n : length (drop (countAt (typeOf m) + 1) m) ≡ length m - (countAt (typeOf m) + 1) = length-drop (countAt (typeOf m) + 1) m in
+      length-take-le (countOf m) (drop (countAt (typeOf m) + 1) m) (omega (arith, good m z .there))
+
+  front-fixed : length (take (countAt (typeOf m) - 10) (drop 10 m)) ≡ countAt (typeOf m) - 10
+  front-fixed =
+      let n : length (drop 10 m) ≡ length m - 10 = length-drop 10 m in
+      length-take-le (countAt (typeOf m) - 10) (drop 10 m) (omega (arith, good m z .there))
+
+  bits-again : take (countOf m) (bitsOf m) ≡ take (countOf m) (drop (countAt (typeOf m) + 1) m)
+  unfolding bitsOf
+  bits-again = take-at (take (countOf m) (drop (countAt (typeOf m) + 1) m)) (zeros (15 - countOf m)) (countOf m) front-bits
+
+  fixed-again : take (countAt (typeOf m) - 10) (fixedOf m) ≡ take (countAt (typeOf m) - 10) (drop 10 m)
+  unfolding fixedOf
+  fixed-again = take-at (take (countAt (typeOf m) - 10) (drop 10 m)) (zeros (69 - countAt (typeOf m))) (countAt (typeOf m) - 10) front-fixed
+
+  head-again : headerBytes (sizeOf (recordOf m) - 2) (typeOf m) (unitOf m) (numberOf m) ≡ take 10 m
+  unfolding totalOf
+  head-again =
+      let n : sizeOf (recordOf m) - 2 ≡ lengthOf m = omega (arith, size-again, exact) in
+      ap (λ (l : ℕ). headerBytes l (typeOf m) (unitOf m) (numberOf m)) n ∙ header-again m long bytes (w .ba0) (w .ba1)
+
+  optional-is : optionalOf m ≡ drop (countAt (typeOf m) + 1 + countOf m) m
+  unfolding optionalOf
+  optional-is = refl
+
+  -- WRITTEN AGAIN: the record of a message that is read has the message's bytes
+  pub written-again : orderBytes (recordOf m) ≡ m
+  unfolding orderBytes recordOf writeSlots
+  written-again =
+      let b = count-bounds (typeOf m) in
+      ap₂ (λ (p f : List ℕ). p ++ (f ++ (countOf m ∷ (take (countOf m) (bitsOf m) ++ gathered (slotsOf (typeOf m) (countOf m) (bitsOf m)) (layoutOf (typeOf m) (countOf m) (bitsOf m) (optionalOf m)))))) head-again fixed-again
+      ∙ ap₂ (λ (x y : List ℕ). take 10 m ++ (take (countAt (typeOf m) - 10) (drop 10 m) ++ (countOf m ∷ (x ++ y)))) bits-again (gathered-again ∙ optional-is)
+      ∙ five m (countAt (typeOf m)) (countOf m) (omega (arith, b .low)) (omega (arith, good m z .there)) refl
+
+  -- and the writer takes it
+  pub taken-again : (room : ℕ) → length m ≤ room → writeRefusal (recordOf m) room ≡ 0
+  unfolding recordOf writeSlots fixedOf bitsOf layoutOf
+  taken-again room h =
+      let y = good m z in
+      is-written (recordOf m) room
+      (record {
+        known = y .known;
+        unit = y .unit;
+        count = y .count;
+        listed = y .listed;
+        required = y .required;
+        fixed = y .fixed;
+        agree = agree-spread (slotsOf (typeOf m) (countOf m) (bitsOf m)) (optionalOf m) (zeros (154 - sum width (slotsOf (typeOf m) (countOf m) (bitsOf m)))) (omega (arith, y .total)) ∙ y .agree;
+        zero-fixed = ap allNul (drop-at (take (countAt (typeOf m) - 10) (drop 10 m)) (zeros (69 - countAt (typeOf m))) (countAt (typeOf m) - 10) front-fixed) ∙ zeros-are-nul (69 - countAt (typeOf m));
+        zero-bits = ap allNul (drop-at (take (countOf m) (drop (countAt (typeOf m) + 1) m)) (zeros (15 - countOf m)) (countOf m) front-bits) ∙ zeros-are-nul (15 - countOf m);
+        zero-slots = spread-zero (slotsOf (typeOf m) (countOf m) (bitsOf m)) (optionalOf m) (154 - sum width (slotsOf (typeOf m) (countOf m) (bitsOf m))) (omega (arith, y .total));
+        has-room = omega (arith, size-again, h);
+      })
+
+-- ---- a record that the writer takes, written and read, is the same record
+
+-- the values of a record's types: its arrays' lengths and its number's range
+pub record Sound (r : Record) : Type 0 where
+  pub fixed-length : length (r .fixed) ≡ 59
+  pub bits-length : length (r .bits) ≡ 15
+  pub slots-length : length (r .slots) ≡ 154
+  pub number-range : r .number < 4294967296
+
+-- zeros after what is kept
+zeros-after : (n k : ℕ) (l : List ℕ) → n ≤ length l → length l ≡ k → allNul (drop n l) ≡ true → take n l ++ zeros (k - n) ≡ l
+zeros-after n k l h e z =
+    let d : length (drop n l) ≡ k - n = length-drop n l ∙ ap (λ (x : ℕ). x - n) e in
+    ap (λ (x : List ℕ). take n l ++ x) (sym (nul-is-zeros (drop n l) z ∙ ap zeros d)) ∙ take-append-drop n l
+
+module _ (r : Record) (room : ℕ) (ok : Sound r) (z : writeRefusal r room ≡ 0) where
+  count-low : 10 ≤ countAt (r .message)
+  count-low = omega (arith, count-bounds (r .message) .low)
+
+  count-small : r .count ≤ 15
+  count-small = omega (arith, fit r room z .count, most-bound (r .message))
+
+  kept-fixed : length (take (countAt (r .message) - 10) (r .fixed)) ≡ countAt (r .message) - 10
+  kept-fixed = length-take-le (countAt (r .message) - 10) (r .fixed) (omega (arith, count-bounds (r .message) .high, ok .fixed-length))
+
+  kept-bits : length (take (r .count) (r .bits)) ≡ r .count
+  kept-bits = length-take-le (r .count) (r .bits) (omega (arith, count-small, ok .bits-length))
+
+  slots-fit : sum width (writeSlots r) ≤ length (r .slots)
+  unfolding writeSlots
+  slots-fit = omega (arith, widths-fit (r .message) (r .count) (r .bits), ok .slots-length)
+
+  given-length : length (gathered (writeSlots r) (r .slots)) ≡ sum takes (writeSlots r)
+  given-length = gathered-length (writeSlots r) (r .slots) slots-fit
+
+  pub bytes-length : length (orderBytes r) ≡ sizeOf r
+  unfolding orderBytes sizeOf
+  bytes-length =
+      parts-length (headerBytes (sizeOf r - 2) (r .message) (r .unit) (r .number)) (take (countAt (r .message) - 10) (r .fixed)) (r .count) (take (r .count) (r .bits)) (gathered (writeSlots r) (r .slots)) (countAt (r .message)) refl kept-fixed kept-bits count-low
+      ∙ ap (λ (n : ℕ). countAt (r .message) + 1 + r .count + n) given-length
+
+  count-is : countOf (orderBytes r) ≡ r .count
+  unfolding orderBytes
+  count-is = parts-count (headerBytes (sizeOf r - 2) (r .message) (r .unit) (r .number)) (take (countAt (r .message) - 10) (r .fixed)) (r .count) (take (r .count) (r .bits)) (gathered (writeSlots r) (r .slots)) (countAt (r .message)) refl kept-fixed kept-bits count-low
+
+  fixed-is : fixedOf (orderBytes r) ≡ r .fixed
+  unfolding orderBytes fixedOf
+  fixed-is =
+      let n : 59 - (countAt (r .message) - 10) ≡ 69 - countAt (r .message) = omega (arith, count-low, count-bounds (r .message) .high) in
+      ap (λ (l : List ℕ). l ++ zeros (69 - countAt (r .message)))
+      (parts-fixed (headerBytes (sizeOf r - 2) (r .message) (r .unit) (r .number)) (take (countAt (r .message) - 10) (r .fixed)) (r .count) (take (r .count) (r .bits)) (gathered (writeSlots r) (r .slots)) (countAt (r .message)) refl kept-fixed kept-bits count-low)
+      ∙ ap (λ (i : ℕ). take (countAt (r .message) - 10) (r .fixed) ++ zeros i) (sym n)
+      ∙ zeros-after (countAt (r .message) - 10) 59 (r .fixed) (omega (arith, count-bounds (r .message) .high, ok .fixed-length)) (ok .fixed-length) (fit r room z .zero-fixed)
+
+  bits-are : bitsOf (orderBytes r) ≡ r .bits
+  unfolding orderBytes bitsOf
+  bits-are =
+      ap (λ (c : ℕ). take c (drop (countAt (r .message) + 1) (orderBytes r)) ++ zeros (15 - c)) count-is
+      ∙ ap (λ (l : List ℕ). l ++ zeros (15 - r .count))
+      (parts-bits (headerBytes (sizeOf r - 2) (r .message) (r .unit) (r .number)) (take (countAt (r .message) - 10) (r .fixed)) (r .count) (take (r .count) (r .bits)) (gathered (writeSlots r) (r .slots)) (countAt (r .message)) refl kept-fixed kept-bits count-low)
+      ∙ zeros-after (r .count) 15 (r .bits) (omega (arith, count-small, ok .bits-length)) (ok .bits-length) (fit r room z .zero-bits)
+
+  optional-are : optionalOf (orderBytes r) ≡ gathered (writeSlots r) (r .slots)
+  unfolding orderBytes optionalOf
+  optional-are =
+      ap (λ (c : ℕ). drop (countAt (r .message) + 1 + c) (orderBytes r)) count-is
+      ∙ parts-rest (headerBytes (sizeOf r - 2) (r .message) (r .unit) (r .number)) (take (countAt (r .message) - 10) (r .fixed)) (r .count) (take (r .count) (r .bits)) (gathered (writeSlots r) (r .slots)) (countAt (r .message)) refl kept-fixed kept-bits count-low
+
+  type-is : typeOf (orderBytes r) ≡ r .message
+  unfolding orderBytes
+  type-is = refl
+
+  unit-is : unitOf (orderBytes r) ≡ r .unit
+  unfolding orderBytes
+  unit-is = refl
+
+  number-is : numberOf (orderBytes r) ≡ r .number
+  unfolding orderBytes
+  number-is = header-number (sizeOf r - 2) (r .message) (r .unit) (r .number) _ (ok .number-range)
+
+  slots-are : slotsOf (typeOf (orderBytes r)) (countOf (orderBytes r)) (bitsOf (orderBytes r)) ≡ writeSlots r
+  unfolding writeSlots
+  slots-are =
+      ap (λ (t : ℕ). slotsOf t (countOf (orderBytes r)) (bitsOf (orderBytes r))) type-is
+      ∙ ap₂ (λ (c : ℕ) (b : List ℕ). slotsOf (r .message) c b) count-is bits-are
+
+  layout-is : layoutOf (typeOf (orderBytes r)) (countOf (orderBytes r)) (bitsOf (orderBytes r)) (optionalOf (orderBytes r)) ≡ r .slots
+  unfolding layoutOf
+  layout-is =
+      ap₂ (λ (ss : List Slot) (o : List ℕ). spread ss o ++ zeros (154 - sum width ss)) slots-are optional-are
+      ∙ ap (λ (n : ℕ). spread (writeSlots r) (gathered (writeSlots r) (r .slots)) ++ zeros (n - sum width (writeSlots r))) (sym (ok .slots-length))
+      ∙ forth (writeSlots r) (r .slots) slots-fit (fit r room z .zero-slots)
+
+  -- READ AGAIN: the record of the bytes that are written is the record
+  pub read-again : recordOf (orderBytes r) ≡ r
+  unfolding recordOf
+  read-again =
+      ap (λ (x : ℕ). record { message = x; unit = unitOf (orderBytes r); number = numberOf (orderBytes r); fixed = fixedOf (orderBytes r); count = countOf (orderBytes r); bits = bitsOf (orderBytes r); slots = layoutOf (typeOf (orderBytes r)) (countOf (orderBytes r)) (bitsOf (orderBytes r)) (optionalOf (orderBytes r)) }) type-is
+      ∙ ap (λ (x : ℕ). record { message = r .message; unit = x; number = numberOf (orderBytes r); fixed = fixedOf (orderBytes r); count = countOf (orderBytes r); bits = bitsOf (orderBytes r); slots = layoutOf (typeOf (orderBytes r)) (countOf (orderBytes r)) (bitsOf (orderBytes r)) (optionalOf (orderBytes r)) }) unit-is
+      ∙ ap (λ (x : ℕ). record { message = r .message; unit = r .unit; number = x; fixed = fixedOf (orderBytes r); count = countOf (orderBytes r); bits = bitsOf (orderBytes r); slots = layoutOf (typeOf (orderBytes r)) (countOf (orderBytes r)) (bitsOf (orderBytes r)) (optionalOf (orderBytes r)) }) number-is
+      ∙ ap (λ (x : List ℕ). record { message = r .message; unit = r .unit; number = r .number; fixed = x; count = countOf (orderBytes r); bits = bitsOf (orderBytes r); slots = layoutOf (typeOf (orderBytes r)) (countOf (orderBytes r)) (bitsOf (orderBytes r)) (optionalOf (orderBytes r)) }) fixed-is
+      ∙ ap (λ (x : List ℕ). record { message = r .message; unit = r .unit; number = r .number; fixed = r .fixed; count = countOf (orderBytes r); bits = bitsOf (orderBytes r); slots = x }) layout-is
+      ∙ ap₂ (λ (x : ℕ) (y : List ℕ). record { message = r .message; unit = r .unit; number = r .number; fixed = r .fixed; count = x; bits = y; slots = r .slots }) count-is bits-are
+
+  size-there : countAt (r .message) + 1 + r .count ≤ sizeOf r
+  unfolding sizeOf
+  size-there = omega arith
+
+  -- and it is read
+  pub read-accepts : readRefusal (orderBytes r) ≡ 0
+  read-accepts =
+      let f = fit r room z in
+      is-read (orderBytes r)
+      (record {
+        known = ap (λ (t : ℕ). ofMember t || ofVenue t) type-is ∙ f .known;
+        unit = ap₂ unitGood type-is unit-is ∙ f .unit;
+        count = rw (count-is, type-is) (f .count);
+        there = rw (count-is, type-is, bytes-length) size-there;
+        listed = ap anyBad slots-are ∙ f .listed;
+        required = ap (λ (t : ℕ). hasRequired t (countOf (orderBytes r)) (bitsOf (orderBytes r))) type-is ∙ ap₂ (hasRequired (r .message)) count-is bits-are ∙ f .required;
+        total = ap (sum takes) slots-are ∙ sym (ap length optional-are ∙ given-length);
+        fixed = ap₂ fixedGood type-is fixed-is ∙ f .fixed;
+        agree = ap₂ agreeSent slots-are optional-are ∙ ap (agreeSent (writeSlots r)) (sym (append-nil (gathered (writeSlots r) (r .slots)))) ∙ agree-gathered (writeSlots r) (r .slots) [] slots-fit ∙ f .agree;
+      })
+
+  -- any bytes after the message play no part: framing answers the message
+  small : sizeOf r ≤ 239
+  unfolding sizeOf
+  small =
+      let n : sum takes (writeSlots r) ≤ 154 = omega (arith, takes-below (writeSlots r), slots-fit, ok .slots-length) in
+      omega (arith, count-bounds (r .message) .high, count-small)
+
+  total-is : (t : List ℕ) → totalOf (orderBytes r ++ t) ≡ sizeOf r
+  unfolding orderBytes
+  total-is t =
+      header-total (sizeOf r - 2) (r .message) (r .unit) (r .number) _ (omega (arith, small))
+      ∙ omega (arith, size-there, count-low)
+
+  pub framed-after : (t : List ℕ) → frameRefusal (orderBytes r ++ t) ≡ 0
+  unfolding orderBytes
+  framed-after t =
+      let l : lengthOf (orderBytes r ++ t) ≡ sizeOf r - 2 = header-length (sizeOf r - 2) (r .message) (r .unit) (r .number) _ (omega (arith, small)) in
+      accepted (orderBytes r ++ t)
+      (record {
+        ba0 = refl;
+        ba1 = refl;
+        least = omega (arith, l, size-there, count-bounds (r .message) .low);
+        most = omega (arith, l, small);
+        fits = omega (arith, total-is t, length-append (orderBytes r) t, bytes-length);
+      })
+
+  pub framed-as-written : (t : List ℕ) → framed (orderBytes r ++ t) ≡ orderBytes r
+  framed-as-written t =
+      framed-is (orderBytes r ++ t) (framed-after t)
+      ∙ take-at (orderBytes r) t (totalOf (orderBytes r ++ t)) (bytes-length ∙ sym (total-is t))

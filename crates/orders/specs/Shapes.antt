@@ -1,0 +1,60 @@
+-- The messages with bitfields: their fixed parts. Definitions alone. Assumes nothing.
+use Prim.Native.Nat.{ℕ, _+_, _-_}
+use mathlib.Core.Bool.{Bool, true, false, cond, _&&_, _||_}
+use mathlib.Core.List.{List}
+use lib.Dec.{leb, eqb}
+use lib.ListN.{take, drop}
+use Rattle.kinds.specs.declared.Kind.the-variants.{Alphanumeric, Identifier}
+use Rattle.kinds.specs.Kinds.{agreesOf, agreesFilledOf}
+use Rattle.numbers.specs.Numbers.{numberAt}
+
+-- New Order and Cancel Order from the member, Order Acknowledgment and Order Execution from the venue
+abbrev pub ofMember : ℕ → Bool
+ofMember message = eqb message 0x38 || eqb message 0x39
+
+abbrev pub ofVenue : ℕ → Bool
+ofVenue message = eqb message 0x25 || eqb message 0x2C
+
+-- where the count of bitfields stands: New Order 35, Cancel Order 30, Order Acknowledgment 47, Order Execution 69
+unfoldable pub countAt : ℕ → ℕ
+countAt message = cond (eqb message 0x38) 35 (cond (eqb message 0x39) 30 (cond (eqb message 0x25) 47 69))
+
+-- the most bitfields: 10, 2, 15 and 15
+unfoldable pub mostOf : ℕ → ℕ
+mostOf message = cond (eqb message 0x38) 10 (cond (eqb message 0x39) 2 15)
+
+-- members' messages carry unit 0, and application messages from the venue a unit 1 to 32; both any number
+unfoldable pub unitGood : ℕ → ℕ → Bool
+unitGood message unit = cond (ofMember message) (eqb unit 0) (leb 1 unit && leb unit 32)
+
+-- the values of the fixed part f, which begins at byte 10 of the message.
+-- New Order: ClOrdID (20), never blank; Side (1), N, never blank; OrderQty (4), 1 to 999,999
+abbrev pub newOrderGood : List ℕ → Bool
+newOrderGood f =
+    agreesFilledOf Identifier (take 20 f)
+    && (agreesFilledOf Alphanumeric (take 1 (drop 20 f))
+    && (leb 1 (numberAt 4 21 f) && leb (numberAt 4 21 f) 999999))
+
+-- Cancel Order: OrigClOrdID (20), never blank
+abbrev pub cancelOrderGood : List ℕ → Bool
+cancelOrderGood f = agreesFilledOf Identifier (take 20 f)
+
+-- Order Acknowledgment: TransactionTime (8); ClOrdID (20), never blank; OrderID (8); a reserved byte
+abbrev pub acknowledgmentGood : List ℕ → Bool
+acknowledgmentGood f = agreesFilledOf Identifier (take 20 (drop 8 f))
+
+-- Order Execution: TransactionTime (8); ClOrdID (20), never blank; ExecID (8); LastShares (4); LastPx (8); LeavesQty (4);
+-- BaseLiquidityIndicator (1), N; SubLiquidityIndicator (1), N; ContraBroker (4), N; a reserved byte
+abbrev pub executionGood : List ℕ → Bool
+executionGood f =
+    agreesFilledOf Identifier (take 20 (drop 8 f))
+    && (agreesOf Alphanumeric (take 1 (drop 52 f))
+    && (agreesOf Alphanumeric (take 1 (drop 53 f))
+    && agreesOf Alphanumeric (take 4 (drop 54 f))))
+
+unfoldable pub fixedGood : ℕ → List ℕ → Bool
+fixedGood message f =
+    cond (eqb message 0x38) (newOrderGood f)
+    (cond (eqb message 0x39) (cancelOrderGood f)
+    (cond (eqb message 0x25) (acknowledgmentGood f)
+    (executionGood f)))

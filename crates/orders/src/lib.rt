@@ -1,0 +1,161 @@
+// Messages with bitfields: New Order, Cancel Order, Order Acknowledgment and Order Execution, as records.
+ghost use mathlib.Core.Path.{_≡_};
+ghost use mathlib.Core.Bool.{_||_};
+ghost use Prim.Native.Nat.{_≤_};
+ghost use lib.ListN.{length};
+ghost use Rattle.orders.specs.Shapes.{ofMember, ofVenue, countAt, mostOf, unitGood, newOrderGood, cancelOrderGood, acknowledgmentGood, executionGood, fixedGood};
+ghost use Rattle.orders.specs.Orders.{blank};
+use kinds::Kind;
+use table::Unit;
+
+// The record of such a message. `fixed` is the fixed part as on the wire, from byte 10 up to the count byte, and zero after it; `slots`
+// are the optional fields in the full layout: every listed bit has a slot of its field's width, in the order of byte and bit.
+pub struct Record {
+    pub message: u8,
+    pub unit: u8,
+    pub number: u32,
+    pub fixed: [u8; 59],
+    pub count: u8,
+    pub bits: [u8; 15],
+    pub slots: [u8; 154],
+}
+
+// What reading answers: 0 and the record, or the refusal and the blank record.
+pub struct Reading {
+    pub refusal: u8,
+    pub order: Record,
+}
+
+// A type of the member's.
+pub fn of_member(message: u8) -> bool
+    ensures { λ r. ⌜ r ≡ ofMember message ⌝ }
+{
+    match message {
+        0x38 | 0x39 => true,
+        _ => false,
+    }
+}
+
+// A type of the venue's.
+pub fn of_venue(message: u8) -> bool
+    ensures { λ r. ⌜ r ≡ ofVenue message ⌝ }
+{
+    match message {
+        0x25 | 0x2C => true,
+        _ => false,
+    }
+}
+
+// A type of either.
+pub fn is_known(message: u8) -> bool
+    ensures { λ r. ⌜ r ≡ (ofMember message || ofVenue message) ⌝ }
+{
+    if of_member(message) {
+        return true;
+    }
+    of_venue(message)
+}
+
+// Where the count of bitfields stands.
+pub fn count_at(message: u8) -> usize
+    ensures { λ r. ⌜ r ≡ countAt message ⌝ }
+{
+    match message {
+        0x38 => 35,
+        0x39 => 30,
+        0x25 => 47,
+        _ => 69,
+    }
+}
+
+// The most bitfields.
+pub fn most_of(message: u8) -> u8
+    ensures { λ r. ⌜ r ≡ mostOf message ⌝ }
+{
+    match message {
+        0x38 => 10,
+        0x39 => 2,
+        _ => 15,
+    }
+}
+
+// Whether a message of a type may carry a unit.
+pub fn unit_good(message: u8, unit: u8) -> bool
+    ensures { λ r. ⌜ r ≡ unitGood message unit ⌝ }
+{
+    if of_member(message) {
+        return unit == 0;
+    }
+    table::unit_refusal(Unit(unit)) == 0
+}
+
+fn new_order_good(f: &[u8]) -> bool
+    requires { ⌜ 25 ≤ length (now f) ⌝ }
+    ensures { λ r. ⌜ r ≡ newOrderGood (now (f .entry)) ⌝ }
+{
+    if kinds::agrees_filled(Kind::Identifier, &f[0..20]) {
+        if kinds::agrees_filled(Kind::Alphanumeric, &f[20..21]) {
+            let quantity = numbers::read_u32(f, 21);
+            if 1 <= quantity {
+                return quantity <= 999999;
+            }
+        }
+    }
+    false
+}
+
+fn cancel_order_good(f: &[u8]) -> bool
+    requires { ⌜ 20 ≤ length (now f) ⌝ }
+    ensures { λ r. ⌜ r ≡ cancelOrderGood (now (f .entry)) ⌝ }
+{
+    kinds::agrees_filled(Kind::Identifier, &f[0..20])
+}
+
+fn acknowledgment_good(f: &[u8]) -> bool
+    requires { ⌜ 28 ≤ length (now f) ⌝ }
+    ensures { λ r. ⌜ r ≡ acknowledgmentGood (now (f .entry)) ⌝ }
+{
+    kinds::agrees_filled(Kind::Identifier, &f[8..28])
+}
+
+fn execution_good(f: &[u8]) -> bool
+    requires { ⌜ 58 ≤ length (now f) ⌝ }
+    ensures { λ r. ⌜ r ≡ executionGood (now (f .entry)) ⌝ }
+{
+    if kinds::agrees_filled(Kind::Identifier, &f[8..28]) {
+        if kinds::agrees(Kind::Alphanumeric, &f[52..53]) {
+            if kinds::agrees(Kind::Alphanumeric, &f[53..54]) {
+                return kinds::agrees(Kind::Alphanumeric, &f[54..58]);
+            }
+        }
+    }
+    false
+}
+
+// Whether the values of a fixed part agree with their kinds and range.
+pub fn fixed_good(message: u8, f: &[u8]) -> bool
+    requires { ⌜ 59 ≤ length (now f) ⌝ }
+    ensures { λ r. ⌜ r ≡ fixedGood message (now (f .entry)) ⌝ }
+{
+    match message {
+        0x38 => new_order_good(f),
+        0x39 => cancel_order_good(f),
+        0x25 => acknowledgment_good(f),
+        _ => execution_good(f),
+    }
+}
+
+// The blank record.
+pub fn blank_record() -> Record
+    ensures { λ r. ⌜ r ≡ blank ⌝ }
+{
+    Record {
+        message: 0,
+        unit: 0,
+        number: 0,
+        fixed: [0; 59],
+        count: 0,
+        bits: [0; 15],
+        slots: [0; 154],
+    }
+}

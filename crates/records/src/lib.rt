@@ -1,0 +1,79 @@
+// A record as bytes, for callers that have numbers and byte buffers only: 235 of them, every part at a place of its own.
+ghost use mathlib.Core.Path.{_≡_};
+ghost use mathlib.Core.List.{_∷_, _++_};
+ghost use Prim.Native.Nat.{_+_, _≤_};
+ghost use lib.ListN.{length};
+ghost use Rattle.numbers.specs.Numbers.{bytesOf, patched};
+ghost use Rattle.records.specs.Records.{recordBytes, recordAt};
+use orders::Record;
+
+// Bytes, and others after them, into the front of a lent tail.
+fn put_two(first: &[u8], n: usize, second: &[u8], tail: &mut [u8])
+    requires { ⌜ (length (now first) ≡ n) × (n + length (now second) ≤ length (now tail)) ⌝ }
+    ensures { λ _. ⌜ now (tail .exit) ≡ patched (now (tail .entry)) 0 (now (first .entry) ++ now (second .entry)) ⌝ }
+{
+    fields::copy(first, tail);
+    fields::copy(second, &mut tail[n..]);
+}
+
+// The count, the bitfields and the layout.
+fn put_block(count: u8, bits: &[u8], slots: &[u8], tail: &mut [u8])
+    requires { ⌜ (length (now bits) ≡ 15) × (length (now slots) ≡ 154) × (170 ≤ length (now tail)) ⌝ }
+    ensures { λ _. ⌜ now (tail .exit) ≡ patched (now (tail .entry)) 0 (count ∷ (now (bits .entry) ++ now (slots .entry))) ⌝ }
+{
+    tail[0] = count;
+    put_two(bits, 15, slots, &mut tail[1..]);
+}
+
+// The fixed part, and these after it.
+fn put_body(fixed: &[u8], count: u8, bits: &[u8], slots: &[u8], tail: &mut [u8])
+    requires { ⌜ (length (now fixed) ≡ 59) × (length (now bits) ≡ 15) × (length (now slots) ≡ 154) × (229 ≤ length (now tail)) ⌝ }
+    ensures { λ _. ⌜ now (tail .exit) ≡ patched (now (tail .entry)) 0 (now (fixed .entry) ++ (count ∷ (now (bits .entry) ++ now (slots .entry)))) ⌝ }
+{
+    fields::copy(fixed, tail);
+    put_block(count, bits, slots, &mut tail[59..]);
+}
+
+// The type, the unit and the number.
+fn put_head(message: u8, unit: u8, number: u32, out: &mut [u8])
+    requires { ⌜ 6 ≤ length (now out) ⌝ }
+    ensures { λ _. ⌜ now (out .exit) ≡ patched (now (out .entry)) 0 (message ∷ unit ∷ bytesOf 4 number) ⌝ }
+{
+    out[0] = message;
+    out[1] = unit;
+    numbers::write_u32(out, 2, number);
+}
+
+// A record into the front of a buffer that has room for it.
+pub fn pack(r: Record, out: &mut [u8])
+    requires { ⌜ 235 ≤ length (now out) ⌝ }
+    ensures { λ _. ⌜ now (out .exit) ≡ patched (now (out .entry)) 0 (recordBytes r) ⌝ }
+{
+    let fixed = r.fixed;
+    let bits = r.bits;
+    let slots = r.slots;
+    put_head(r.message, r.unit, r.number, out);
+    put_body(&fixed, r.count, &bits, &slots, &mut out[6..]);
+}
+
+// The record of the first 235 bytes.
+pub fn unpack(s: &[u8]) -> Record
+    requires { ⌜ 235 ≤ length (now s) ⌝ }
+    ensures { λ r. ⌜ r ≡ recordAt (now (s .entry)) ⌝ }
+{
+    let mut fixed = [0u8; 59];
+    fields::copy(&s[6..65], &mut fixed);
+    let mut bits = [0u8; 15];
+    fields::copy(&s[66..81], &mut bits);
+    let mut slots = [0u8; 154];
+    fields::copy(&s[81..235], &mut slots);
+    Record {
+        message: s[0],
+        unit: s[1],
+        number: numbers::read_u32(s, 2),
+        fixed: fixed,
+        count: s[65],
+        bits: bits,
+        slots: slots,
+    }
+}

@@ -1,0 +1,19 @@
+-- The state of taking, as the code holds it: the struct and the layout that is lent. Definitions alone. Assumes nothing.
+use Prim.Native.Nat.{ℕ}
+use mathlib.Core.Bool.{Bool, true, false}
+use mathlib.Core.List.{List}
+use Rattle.dictionary.specs.declared.Entry.{Entry}
+use Rattle.fields.specs.Places.{selectedAt, entryAt}
+use Rattle.fields.specs.Walk.{walk, Taking, takeEntry}
+use Rattle.spread.specs.declared.Taken.{Taken}
+
+abbrev pub taking : Taken → List ℕ → Taking
+taking t layout = record { at = t .at; agree = t .agree; bad = t .bad; layout = layout }
+
+-- nothing taken yet
+abbrev pub start : List ℕ → Taking
+start layout = record { at = 0; agree = true; bad = false; layout = layout }
+
+-- the walk of n places from k on that takes a message's optional bytes m
+abbrev pub takeWalk : ℕ → ℕ → List ℕ → List ℕ → ℕ → ℕ → Taking → Taking
+takeWalk message count bits m n k st = walk (selectedAt count bits) (λ (i : ℕ). takeEntry m (entryAt message i)) n k st

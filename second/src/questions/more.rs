@@ -1,0 +1,151 @@
+//! Questions past the stored ones, as many as are wanted (README.md, "More questions").
+
+use super::damage::{self, pattern};
+use super::sample::{Sample, ACKNOWLEDGMENT, CANCEL, EXECUTION, NEW_ORDER};
+use super::{read, write};
+use crate::random::Random;
+use crate::rules::layout;
+use std::collections::VecDeque;
+
+/// How often each type comes, in eight.
+const TYPES: [usize; 8] = [
+    NEW_ORDER,
+    NEW_ORDER,
+    NEW_ORDER,
+    CANCEL,
+    ACKNOWLEDGMENT,
+    ACKNOWLEDGMENT,
+    EXECUTION,
+    EXECUTION,
+];
+
+/// Lines without their LF; there is no last one.
+pub struct More {
+    random: Random,
+    waiting: VecDeque<String>,
+}
+
+impl More {
+    pub fn new(seed: u64) -> More {
+        let mut more = More {
+            random: Random::new(seed),
+            waiting: VecDeque::new(),
+        };
+        more.pairs();
+        more
+    }
+
+    /// Every pair of a New Order's listed bits, with what is required besides.
+    fn pairs(&mut self) {
+        let listed = layout::ALL[NEW_ORDER].listed;
+        for (index, second) in listed.iter().enumerate() {
+            for first in &listed[..index] {
+                let mut sample = Sample::any(&mut self.random, NEW_ORDER);
+                sample.clear();
+                sample.select(first.name);
+                sample.select(second.name);
+                sample.require();
+                self.waiting
+                    .push_back(read::line(sample.layout.direction, &sample.bytes()));
+            }
+        }
+    }
+
+    /// A message, its record, and both of them damaged.
+    fn four(&mut self) {
+        let random = &mut self.random;
+        let which = TYPES[random.between(0, TYPES.len() - 1)];
+        let sample = Sample::any(random, which);
+        let direction = sample.layout.direction;
+        let message = sample.bytes();
+        let more = random.between(0, 5);
+        let buffer = pattern(random, message.len() + more);
+        self.waiting.push_back(read::line(direction, &message));
+        self.waiting
+            .push_back(write::line(direction, &sample.record(), &buffer));
+        let (direction, bytes) = damage::message(random, &sample);
+        self.waiting.push_back(read::line(direction, &bytes));
+        let (direction, record, buffer) = damage::record(random, &sample);
+        self.waiting
+            .push_back(write::line(direction, &record, &buffer));
+    }
+}
+
+impl Iterator for More {
+    type Item = String;
+
+    fn next(&mut self) -> Option<String> {
+        if self.waiting.is_empty() {
+            self.four();
+        }
+        self.waiting.pop_front()
+    }
+}
+
+#[cfg(test)]
+mod tests {
+    use super::*;
+    use crate::ask;
+    use crate::hex;
+    use crate::questions::sample::session_type;
+    use std::collections::BTreeSet;
+
+    #[test]
+    fn made_from_the_seed() {
+        let lines = |seed: u64| -> Vec<String> { More::new(seed).take(400).collect() };
+        assert_eq!(lines(7), lines(7));
+        assert_ne!(lines(7), lines(8));
+        let longer: Vec<String> = More::new(7).take(500).collect();
+        assert_eq!(lines(7), longer[..400]);
+    }
+
+    /// All are valid, and each pair is among the bits that one of them has.
+    #[test]
+    fn pairs_of_bits() {
+        let listed = layout::ALL[NEW_ORDER].listed;
+        let mut bitfields = Vec::new();
+        for line in More::new(1).take(190) {
+            assert!(line.starts_with("read 0 BABA"));
+            let answer = ask::answer(line.as_bytes());
+            let record = hex::read(answer.strip_prefix("0 ").unwrap()).unwrap();
+            bitfields.push(record[66..81].to_vec());
+        }
+        for (index, second) in listed.iter().enumerate() {
+            for first in &listed[..index] {
+                let least = bitfields
+                    .iter()
+                    .filter(|bits| first.selected(bits) && second.selected(bits))
+                    .map(|bits| bits.iter().map(|byte| byte.count_ones()).sum::<u32>())
+                    .min();
+                // The pair and at most three that are required.
+                assert!(least.unwrap() <= 5);
+            }
+        }
+        assert_eq!(bitfields.len(), 20 * 19 / 2);
+        assert!(!More::new(1).nth(191).unwrap().starts_with("read"));
+    }
+
+    #[test]
+    fn every_answer_and_no_session_type() {
+        let mut seen = BTreeSet::new();
+        for line in More::new(3).take(6_000) {
+            let answer = ask::answer(line.as_bytes());
+            let words: Vec<&str> = line.split(' ').collect();
+            let number = answer.split(' ').next().unwrap();
+            seen.insert(format!("{} {}", words[0], number));
+            let bytes = hex::read(words[2]).unwrap();
+            let type_place = if words[0] == "read" { 4 } else { 0 };
+            if let Some(type_byte) = bytes.get(type_place) {
+                assert!(!session_type(*type_byte));
+            }
+        }
+        let mut expected = BTreeSet::new();
+        for number in [0, 1, 2, 3, 4, 5, 6, 7, 8, 9, 10] {
+            expected.insert(format!("read {}", number));
+        }
+        for number in [0, 4, 5, 7, 8, 9, 10, 12, 13] {
+            expected.insert(format!("write {}", number));
+        }
+        assert_eq!(seen, expected);
+    }
+}

@@ -1,0 +1,565 @@
+//! Questions about writing records of messages with bitfields.
+
+use super::damage::{self, pattern};
+use super::outside::padded;
+use super::read;
+use super::sample::{self, Sample, ACKNOWLEDGMENT, CANCEL, EXECUTION, NEW_ORDER};
+use crate::examples;
+use crate::hex;
+use crate::random::Random;
+use crate::rules;
+use crate::rules::layout::{self, MEMBER};
+use std::collections::BTreeSet;
+
+const RECORD: usize = 235;
+const COUNT_PLACE: usize = 65;
+const BITFIELDS_PLACE: usize = 66;
+
+pub fn ask(lines: &mut Vec<String>) {
+    let mut random = Random::new(7);
+    records_of_messages(lines, &mut random);
+    for which in 0..layout::ALL.len() {
+        rooms(lines, &mut random, which);
+        sizes(lines, &mut random, which);
+        headers(lines, &mut random, which);
+        counts(lines, &mut random, which);
+        bits(lines, &mut random, which);
+        bad_texts(lines, &mut random, which);
+        unused(lines, &mut random, which);
+        orders(lines, &mut random, which);
+    }
+    quantities(lines, &mut random);
+    required(lines, &mut random);
+    random_records(lines, &mut random);
+    for line in LINES {
+        lines.push(line.to_string());
+    }
+    longest(lines);
+}
+
+pub fn line(direction: u8, record: &[u8], buffer: &[u8]) -> String {
+    format!(
+        "write {} {} {}",
+        direction,
+        hex::write(record),
+        hex::write(buffer)
+    )
+}
+
+fn add(lines: &mut Vec<String>, random: &mut Random, sample: &Sample) {
+    add_record(lines, random, sample, &sample.record());
+}
+
+/// A record made from a sample's, with the buffer that the sample's message takes; in one of three
+/// questions it is empty, so that 13 does not come too early.
+fn add_record(lines: &mut Vec<String>, random: &mut Random, sample: &Sample, record: &[u8]) {
+    let room = match random.below(3) {
+        0 => 0,
+        _ => sample.bytes().len(),
+    };
+    let buffer = pattern(random, room);
+    lines.push(line(sample.layout.direction, record, &buffer));
+}
+
+/// The records of all messages that the questions about reading hold, each once. The buffers are
+/// just long enough, or longer.
+fn records_of_messages(lines: &mut Vec<String>, random: &mut Random) {
+    let mut seen = BTreeSet::new();
+    for (direction, bytes) in read::messages() {
+        if let Ok(record) = rules::read::message(direction, &bytes) {
+            let record = record.bytes();
+            if seen.insert(record.clone()) {
+                let total = usize::from(u16::from_le_bytes([bytes[2], bytes[3]])) + 2;
+                let more = match random.below(4) {
+                    0 => random.between(1, 9),
+                    _ => 0,
+                };
+                let buffer = pattern(random, total + more);
+                lines.push(line(direction, &record, &buffer));
+            }
+        }
+    }
+}
+
+/// Buffers about the size of the message, their bytes all different from what is written there.
+fn rooms(lines: &mut Vec<String>, random: &mut Random, which: usize) {
+    let sample = Sample::any(random, which);
+    let message = sample.bytes();
+    let total = message.len();
+    let rooms: Vec<usize> = match which {
+        CANCEL => (0..=total + 2).collect(),
+        _ => vec![
+            0,
+            1,
+            2,
+            10,
+            total - 2,
+            total - 1,
+            total,
+            total + 1,
+            total + 2,
+            total + 20,
+        ],
+    };
+    for room in rooms {
+        let mut buffer = random.bytes(room);
+        for (place, byte) in buffer.iter_mut().enumerate() {
+            if message.get(place) == Some(byte) {
+                *byte ^= 0xFF;
+            }
+        }
+        lines.push(line(sample.layout.direction, &sample.record(), &buffer));
+    }
+}
+
+/// Records cut, and records with bytes after them; a record too short comes before all else.
+fn sizes(lines: &mut Vec<String>, random: &mut Random, which: usize) {
+    let sample = Sample::any(random, which);
+    let own = sample.layout.direction;
+    let total = sample.bytes().len();
+    let mut longer = sample.record();
+    longer.extend(random.bytes(65));
+    for size in [0, 1, 2, 6, 65, 66, 81, 233, 234, 235, 236, 237, 300] {
+        let buffer = pattern(random, total);
+        lines.push(line(own, &longer[..size], &buffer));
+    }
+    for size in [0, 1, RECORD - 1, RECORD, RECORD + 1] {
+        lines.push(line(own, &longer[..size], &[]));
+        for direction in [1 - own, 2] {
+            let buffer = pattern(random, 3);
+            lines.push(line(direction, &longer[..size], &buffer));
+        }
+    }
+    // Too short, with other faults.
+    let mut record = sample.record();
+    record[1] = 200;
+    record[COUNT_PLACE] = 200;
+    record.truncate(RECORD - 1);
+    lines.push(line(own, &record, &[1, 2, 3]));
+}
+
+fn headers(lines: &mut Vec<String>, random: &mut Random, which: usize) {
+    let least = Sample::least(random, which);
+    let own = least.layout.direction;
+    for unit in [0, 1, 2, 31, 32, 33, 64, 128, 255] {
+        let mut sample = least.clone();
+        sample.unit = unit;
+        add(lines, random, &sample);
+    }
+    for number in [0, 1, 0x0102_0304, 0x8000_0000, 0xFFFF_FFFF] {
+        let mut sample = least.clone();
+        sample.number = number;
+        add(lines, random, &sample);
+    }
+    for direction in [1 - own, 2, 3, 128, 254, 255] {
+        let room = random.between(0, 40);
+        let buffer = pattern(random, room);
+        lines.push(line(direction, &least.record(), &buffer));
+    }
+    for type_byte in [0x00, 0x02, 0x26, 0x2D, 0x38, 0x39, 0x25, 0x2C, 0xFF] {
+        let mut record = least.record();
+        record[0] = type_byte;
+        let room = random.between(0, 40);
+        let buffer = pattern(random, room);
+        lines.push(line(own, &record, &buffer));
+    }
+}
+
+/// Counts up to the most and past it, over zero bitfields and over set ones.
+fn counts(lines: &mut Vec<String>, random: &mut Random, which: usize) {
+    let most = layout::ALL[which].most as u8;
+    let mut all = Sample::least(random, which);
+    all.select_all();
+    for count in 0..=most {
+        all.count = count;
+        add(lines, random, &all);
+    }
+    let mut least = Sample::least(random, which);
+    let far = [32, 127, 128, 255];
+    for count in (0..most + 3).chain(far) {
+        least.count = count;
+        add(lines, random, &least);
+    }
+}
+
+/// Bits that are not listed: all of them where the bitfield has listed ones, else one of them.
+fn bits(lines: &mut Vec<String>, random: &mut Random, which: usize) {
+    let layout = &layout::ALL[which];
+    for byte in 1..=layout.most {
+        let listed: u8 = layout
+            .listed
+            .iter()
+            .filter(|field| field.byte == byte)
+            .map(|field| field.bit)
+            .sum();
+        let one = random.below(8);
+        for shift in (0..8).filter(|shift| listed != 0 || *shift == one) {
+            let bit = 1 << shift;
+            if listed & bit == 0 {
+                let mut sample = Sample::least(random, which);
+                sample.set_bit(byte, bit);
+                add(lines, random, &sample);
+            }
+        }
+    }
+}
+
+/// In each text field: bad bytes first and last, a character after a NUL, and none if there must
+/// be some.
+fn bad_texts(lines: &mut Vec<String>, random: &mut Random, which: usize) {
+    for text in sample::texts(random, which) {
+        let mut sample = text.sample;
+        let good = sample.value(text.name).clone();
+        let last = good.len() - 1;
+        for place in BTreeSet::from([0, last]) {
+            let bad = random.pick(sample::bad_bytes(text.kind));
+            sample.value(text.name)[place] = bad;
+            add(lines, random, &sample);
+            sample.value(text.name).copy_from_slice(&good);
+        }
+        if last > 0 {
+            sample.value(text.name)[random.between(0, last - 1)] = 0;
+            add(lines, random, &sample);
+        }
+        if text.never_blank {
+            sample.value(text.name).fill(0);
+            add(lines, random, &sample);
+        }
+    }
+}
+
+/// The places of a record that a sample's message does not use, in runs that belong together.
+fn unused_places(sample: &Sample) -> Vec<Vec<usize>> {
+    let layout = sample.layout;
+    let mut runs = vec![
+        (6 + layout.fixed_width()..COUNT_PLACE).collect(),
+        (BITFIELDS_PLACE + sample.bitfields.len()..81).collect(),
+    ];
+    let mut place = 81;
+    for field in layout.listed {
+        if !field.selected(&sample.bitfields) {
+            runs.push((place..place + field.width).collect());
+        }
+        place += field.width;
+    }
+    runs.push((place..RECORD).collect());
+    runs.retain(|run: &Vec<usize>| !run.is_empty());
+    runs
+}
+
+/// One byte that is not zero: first and last in each unused run, and inside the longer ones.
+fn unused(lines: &mut Vec<String>, random: &mut Random, which: usize) {
+    let layout = &layout::ALL[which];
+    let sample = Sample::least(random, which);
+    for run in unused_places(&sample) {
+        let mut places = BTreeSet::from([run[0], run[run.len() - 1]]);
+        if run.len() > 20 {
+            places.insert(run[random.between(1, run.len() - 2)]);
+        }
+        for place in places {
+            let mut record = sample.record();
+            record[place] = random.pick(&[1, b'A', b',', 0x7F, 0x80, 255]);
+            add_record(lines, random, &sample, &record);
+        }
+    }
+    // Past the count, listed bits and others are alike, whether their fields are there or not.
+    for byte in sample.bitfields.len() + 1..=15 {
+        let listed: u8 = layout
+            .listed
+            .iter()
+            .filter(|field| field.byte == byte)
+            .map(|field| field.bit)
+            .sum();
+        let mut record = sample.record();
+        record[BITFIELDS_PLACE + byte - 1] = match listed {
+            0 => 1 << random.below(8),
+            _ => listed,
+        };
+        add_record(lines, random, &sample, &record);
+    }
+    let mut longer = sample;
+    for field in layout.listed {
+        longer.set_bit(field.byte, field.bit);
+        let mut record = longer.record();
+        // A field whose bit is past the count, or not set.
+        if random.below(2) == 0 {
+            record[COUNT_PLACE] = field.byte as u8 - 1;
+        } else {
+            record[BITFIELDS_PLACE + field.byte - 1] &= !field.bit;
+        }
+        add_record(lines, random, &longer, &record);
+    }
+}
+
+/// The numbers that a record can be refused with, in the order of writing.
+const ORDER: [u8; 8] = [4, 5, 7, 8, 9, 10, 12, 13];
+
+/// A record and a buffer with a fault for each bit of `faults`, the lowest being the first in the
+/// order.
+fn faulty(random: &mut Random, which: usize, faults: u8) -> (u8, Vec<u8>, Vec<u8>) {
+    let layout = &layout::ALL[which];
+    let mut direction = layout.direction;
+    let mut sample = Sample::least(random, which);
+    let field = &layout.listed[0];
+    sample.set_bit(field.byte, field.bit);
+    let numbers: Vec<u8> = (0..ORDER.len())
+        .filter(|index| faults >> index & 1 != 0)
+        .map(|index| ORDER[index])
+        .collect();
+    if numbers.contains(&4) {
+        direction = random.pick(&[1 - layout.direction, 2]);
+    }
+    if numbers.contains(&5) {
+        sample.unit = layout.greatest_unit + 1;
+    }
+    if numbers.contains(&8) {
+        let (byte, bit) = sample::unlisted_bit(which);
+        sample.set_bit(byte, bit);
+    }
+    if numbers.contains(&9) {
+        let capacity = sample.field("Capacity");
+        sample.bitfields[capacity.byte - 1] &= !capacity.bit;
+    }
+    if numbers.contains(&10) {
+        sample.value(sample::identifier(which))[0] = b';';
+    }
+    let mut record = sample.record();
+    if numbers.contains(&12) {
+        let runs = unused_places(&sample);
+        let run = &runs[random.between(0, runs.len() - 1)];
+        record[run[random.between(0, run.len() - 1)]] = 0x80;
+    }
+    if numbers.contains(&7) {
+        record[COUNT_PLACE] = layout.most as u8 + 1;
+    }
+    let mut room = sample.bytes().len();
+    if numbers.contains(&13) {
+        room = random.between(0, room - 1);
+    }
+    (direction, record, pattern(random, room))
+}
+
+/// Whether a record can have these faults: only a New Order has a field to leave out.
+fn possible(which: usize, faults: u8) -> bool {
+    which == NEW_ORDER || faults & 1 << 4 == 0
+}
+
+/// Every set of faults but those of 4 and 5, which are asked with each of the others and with all;
+/// then a record too short with all.
+fn orders(lines: &mut Vec<String>, random: &mut Random, which: usize) {
+    let all = if which == NEW_ORDER { 255 } else { 239 };
+    let without = (0..64).map(|faults| faults << 2);
+    let pairs = (1..8).map(|shift| 1 | 1 << shift);
+    let other_pairs = (2..8).map(|shift| 2 | 1 << shift);
+    for faults in without
+        .chain([1, 2])
+        .chain(pairs)
+        .chain(other_pairs)
+        .chain([all, all - 1])
+        .filter(|faults| possible(which, *faults))
+    {
+        let (direction, record, buffer) = faulty(random, which, faults);
+        lines.push(line(direction, &record, &buffer));
+    }
+    for faults in [all, all - 1] {
+        let (direction, record, buffer) = faulty(random, which, faults);
+        lines.push(line(direction, &record[..RECORD - 1], &buffer));
+    }
+}
+
+/// OrderQty, which has a range in a New Order alone.
+fn quantities(lines: &mut Vec<String>, random: &mut Random) {
+    for which in [NEW_ORDER, ACKNOWLEDGMENT, EXECUTION] {
+        let mut sample = Sample::least(random, which);
+        if which != NEW_ORDER {
+            sample.select("OrderQty");
+        }
+        for quantity in [0_u32, 1, 999_999, 1_000_000, 4_294_967_295] {
+            let value = sample.value("OrderQty");
+            value.copy_from_slice(&quantity.to_le_bytes());
+            add(lines, random, &sample);
+        }
+    }
+}
+
+fn required(lines: &mut Vec<String>, random: &mut Random) {
+    for choice in 0..16 {
+        let mut sample = Sample::least(random, NEW_ORDER);
+        sample.clear();
+        let names = ["Symbol", "Capacity", "Price", "OrdType"];
+        for (shift, name) in names.into_iter().enumerate() {
+            if choice >> shift & 1 != 0 {
+                sample.select(name);
+            }
+        }
+        add(lines, random, &sample);
+    }
+}
+
+fn random_records(lines: &mut Vec<String>, random: &mut Random) {
+    for (which, count) in [
+        (NEW_ORDER, 80),
+        (CANCEL, 40),
+        (ACKNOWLEDGMENT, 60),
+        (EXECUTION, 60),
+    ] {
+        for _ in 0..count {
+            let sample = Sample::any(random, which);
+            let (direction, record, buffer) = damage::record(random, &sample);
+            lines.push(line(direction, &record, &buffer));
+        }
+    }
+}
+
+/// Lines outside the format; the last four are just inside it.
+const LINES: &[&str] = &[
+    "write",
+    "write 0",
+    "write 0 -",
+    "write - -",
+    "write 0 - ",
+    "write 0 - - -",
+    "write 0 - - 0",
+    "write  0 - -",
+    "write 0  - -",
+    "write 0 -  -",
+    "write 0 - - ",
+    " write 0 - -",
+    "Write 0 - -",
+    "WRITE 0 - -",
+    "writes 0 - -",
+    "write 256 - -",
+    "write 4294967296 - -",
+    "write 18446744073709551616 - -",
+    "write -1 - -",
+    "write +1 - -",
+    "write A - -",
+    "write 000000000000000000001 - -",
+    "write 0 3 -",
+    "write 0 - 3",
+    "write 0 2c -",
+    "write 0 - 2c",
+    "write 0 38-00 -",
+    "write 0 - 00-",
+    "write 0 - -",
+    "write 1 2C 0102",
+    "write 255 - 00",
+    "write 00000000000000000255 38 FF",
+];
+
+/// Long buffers and long records, as long as a line may be, and longer.
+fn longest(lines: &mut Vec<String>) {
+    let record = rules::read::message(MEMBER, &examples::cancel())
+        .expect("a valid message")
+        .bytes();
+    let record = hex::write(&record);
+    lines.push(padded(&format!("write 0 {} FF", record), "", 7_999));
+    let room = "AA".repeat(36);
+    let tail = format!("FF {}", room);
+    lines.push(padded(&format!("write 00 {}", record), &tail, 8_000));
+    lines.push(padded(&format!("write 00 {}", record), &tail, 8_002));
+}
+
+#[cfg(test)]
+mod tests {
+    use super::*;
+    use crate::ask;
+    use std::collections::BTreeMap;
+
+    fn lines() -> Vec<String> {
+        let mut lines = Vec::new();
+        ask(&mut lines);
+        lines
+    }
+
+    /// What each record's type gets, and that what is written reads as the record again.
+    #[test]
+    fn each_type_gets_each_answer() {
+        let mut seen: BTreeMap<(u8, String), usize> = BTreeMap::new();
+        for line in lines() {
+            let answer = ask::answer(line.as_bytes());
+            if answer == "?" {
+                continue;
+            }
+            let words: Vec<&str> = line.split(' ').collect();
+            let direction: u8 = words[1].parse().unwrap();
+            let record = hex::read(words[2]).unwrap();
+            let buffer = hex::read(words[3]).unwrap();
+            let (number, after) = answer.split_once(' ').unwrap();
+            let after = hex::read(after).unwrap();
+            if number == "0" {
+                let again = rules::read::message(direction, &after).unwrap().bytes();
+                assert_eq!(again, record[..RECORD]);
+                let total = usize::from(u16::from_le_bytes([after[2], after[3]])) + 2;
+                assert_eq!(after[total..], buffer[total..]);
+                assert_eq!(after.len(), buffer.len());
+            } else {
+                assert_eq!(after, buffer);
+            }
+            if !record.is_empty() {
+                *seen.entry((record[0], number.to_string())).or_default() += 1;
+            }
+        }
+        for layout in &layout::ALL {
+            for number in ["0", "4", "5", "7", "8", "9", "10", "12", "13"] {
+                let count = seen.get(&(layout.type_byte, number.to_string())).copied();
+                if number == "9" && layout.required.is_empty() {
+                    assert_eq!(count, None);
+                } else {
+                    assert!(count.unwrap_or(0) >= 5, "{} {}", layout.type_byte, number);
+                }
+            }
+        }
+    }
+
+    /// The first fault in the order is the one that is told, and the buffer stays.
+    #[test]
+    fn order_of_writing() {
+        let mut random = Random::new(121);
+        for which in 0..4 {
+            for faults in (0..=255).filter(|faults| possible(which, *faults)) {
+                let (direction, record, before) = faulty(&mut random, which, faults);
+                let mut buffer = before.clone();
+                let expected = match faults {
+                    0 => 0,
+                    _ => ORDER[faults.trailing_zeros() as usize],
+                };
+                let answer = match rules::write::record(direction, &record, &mut buffer) {
+                    Ok(()) => 0,
+                    Err(refusal) => refusal.number(),
+                };
+                assert_eq!(answer, expected, "{} {:08b}", which, faults);
+                assert_eq!(buffer == before, faults != 0);
+                let short = &record[..RECORD - 1];
+                let answer = rules::write::record(direction, short, &mut buffer);
+                assert_eq!(answer, Err(rules::Refusal::Room));
+            }
+        }
+    }
+
+    #[test]
+    fn no_session_types() {
+        for line in lines() {
+            if ask::answer(line.as_bytes()) != "?" {
+                let record = hex::read(line.split(' ').nth(2).unwrap()).unwrap();
+                assert!(record.is_empty() || !sample::session_type(record[0]));
+            }
+        }
+    }
+
+    /// Each valid message that is read is also written.
+    #[test]
+    fn every_valid_message() {
+        let lines = lines();
+        let written: BTreeSet<&str> = lines
+            .iter()
+            .filter(|line| line.starts_with("write "))
+            .filter_map(|line| line.split(' ').nth(2))
+            .collect();
+        for (direction, bytes) in read::messages() {
+            if let Ok(record) = rules::read::message(direction, &bytes) {
+                assert!(written.contains(hex::write(&record.bytes()).as_str()));
+            }
+        }
+    }
+}

@@ -1,0 +1,244 @@
+//! Reading a message with bitfields (document 01, "Numbers of refusal", the reading order).
+
+use super::frame;
+use super::layout::{self, Layout, HEADER};
+use super::record::{Record, BITFIELDS, FIXED, SLOTS};
+use super::Refusal;
+
+/// The record of the first whole message of a buffer. What the message does not hold is zero in
+/// the record; what follows the message plays no part.
+pub fn message(direction: u8, buffer: &[u8]) -> Result<Record, Refusal> {
+    let message = frame::message(buffer)?;
+    let header = frame::header(message);
+    let layout = Layout::of(direction, header.kind)?;
+    layout.check_unit(header.unit)?;
+
+    // The total is judged three times: up to the count byte, up to the end of the bitfields, and
+    // in whole.
+    let first = layout.bitfields_place();
+    layout::check(message.len() >= first, Refusal::Total)?;
+    let count = message[layout.count_place()];
+    layout.check_count(count)?;
+    let end = first + usize::from(count);
+    layout::check(message.len() >= end, Refusal::Total)?;
+    let bitfields = &message[first..end];
+    layout.check_bits(bitfields)?;
+    layout.check_required(bitfields)?;
+    layout::check(message.len() == layout.total(bitfields), Refusal::Total)?;
+
+    let mut record = Record {
+        type_byte: header.kind,
+        unit: header.unit,
+        number: header.number,
+        fixed: [0; FIXED],
+        count,
+        bitfields: [0; BITFIELDS],
+        slots: [0; SLOTS],
+    };
+    let fixed = &message[HEADER..layout.count_place()];
+    layout.check_fixed(fixed)?;
+    record.fixed[..fixed.len()].copy_from_slice(fixed);
+    record.bitfields[..bitfields.len()].copy_from_slice(bitfields);
+    for place in layout.places(bitfields) {
+        let width = place.field.width;
+        let value = &message[place.wire..place.wire + width];
+        layout::check_optional(place.field, value)?;
+        record.slots[place.slot..place.slot + width].copy_from_slice(value);
+    }
+    Ok(record)
+}
+
+#[cfg(test)]
+mod tests {
+    use super::*;
+    use crate::examples;
+    use crate::questions::sample;
+
+    fn refusal(direction: u8, buffer: &[u8]) -> u8 {
+        match message(direction, buffer) {
+            Ok(_) => 0,
+            Err(refusal) => refusal.number(),
+        }
+    }
+
+    #[test]
+    fn p5() {
+        let example = examples::new_order();
+        let layout = Layout::of(0, 0x38).unwrap();
+        let bitfields = [0x04, 0xC1, 0x01];
+        assert_eq!(layout.total(&bitfields), 76);
+        let places: Vec<(&str, usize)> = layout
+            .places(&bitfields)
+            .iter()
+            .map(|place| (place.field.name, place.wire))
+            .collect();
+        assert_eq!(
+            places,
+            [
+                ("Price", 39),
+                ("Symbol", 47),
+                ("Capacity", 55),
+                ("RoutingInst", 56),
+                ("Account", 60)
+            ]
+        );
+
+        let record = message(0, &example).unwrap();
+        assert_eq!((record.type_byte, record.unit), (0x38, 0));
+        assert_eq!(record.number, 100);
+        assert_eq!(record.fixed[..6], *b"ABC123");
+        assert_eq!(record.fixed[20..25], [b'1', 0xE8, 0x03, 0, 0]);
+        assert_eq!((record.count, &record.bitfields[..3]), (3, &bitfields[..]));
+        assert_eq!(record.slots[8..16], [0x44, 0xD6, 0x12, 0, 0, 0, 0, 0]);
+        assert_eq!(record.slots[27..35], *b"MSFT\0\0\0\0");
+        assert_eq!(record.slots[43..48], *b"PR\0\0\0");
+        assert_eq!(record.slots[48..64], *b"DEFG\0\0\0\0\0\0\0\0\0\0\0\0");
+        // Nothing else is in it.
+        let set = record.bytes().iter().filter(|byte| **byte != 0).count();
+        assert_eq!(set, 2 + 6 + 3 + 1 + 3 + 3 + 4 + 2 + 4);
+    }
+
+    #[test]
+    fn p6_to_p10() {
+        assert_eq!(refusal(0, &examples::new_order_of_the_notes()), 6);
+        let cancel = message(0, &examples::cancel()).unwrap();
+        assert_eq!(examples::cancel().len(), 36);
+        assert_eq!((cancel.count, cancel.bitfields[0]), (1, 1));
+        assert_eq!(cancel.slots[..4], *b"TEST");
+        let least = message(0, &examples::cancel_without_bitfields()).unwrap();
+        assert_eq!(examples::cancel_without_bitfields().len(), 31);
+        assert_eq!((least.count, least.fixed), (0, cancel.fixed));
+        assert_eq!(least.slots, [0; SLOTS]);
+        assert_eq!(refusal(0, &examples::cancel_of_another_bit()), 8);
+        assert_eq!(refusal(0, &examples::cancel_of_three_bitfields()), 7);
+    }
+
+    #[test]
+    fn examples_of_the_venue() {
+        let record = message(1, &examples::acknowledgment()).unwrap();
+        assert_eq!((record.unit, record.number, record.count), (3, 100, 3));
+        assert_eq!(record.fixed[8..14], *b"ABC123");
+        assert_eq!(record.bitfields[..3], [0, 0x41, 0x05]);
+        assert_eq!(record.slots[16..20], *b"MSFT");
+        assert_eq!(record.slots[32], b'P');
+        assert_eq!(record.slots[33..36], *b"ABC");
+        let least = message(1, &examples::least_acknowledgment()).unwrap();
+        assert_eq!((least.count, least.fixed), (0, record.fixed));
+        let booked = message(1, &examples::booked_acknowledgment()).unwrap();
+        assert_eq!(booked.slots[1..4], [0x44, 0xD6, 0x12]);
+        let execution = message(1, &examples::execution()).unwrap();
+        assert_eq!(execution.fixed[52..58], *b"A\0BATS");
+        assert_eq!(execution.bitfields[..3], [0, 0, 0x46]);
+        assert_eq!(execution.slots[49..57], *b"TEST123C");
+        assert_eq!(execution.slots[61..65], [120, 0, 0, 0]);
+    }
+
+    /// A New Order whose parts after the fixed one are `tail`; an identifier may start with any
+    /// byte.
+    fn order(unit: u8, first: u8, tail: &[u8]) -> Vec<u8> {
+        let mut message = vec![0xBA, 0xBA, 0, 0, 0x38, unit, 1, 0, 0, 0, first];
+        message.extend([0; 19]);
+        message.extend([b'1', 1, 0, 0, 0]);
+        message.extend(tail);
+        sample::measure(&mut message);
+        message
+    }
+
+    /// One fault after another is taken away, and the next in the order is told.
+    #[test]
+    fn order_of_reading() {
+        let mut bad = order(1, b',', &[]);
+        bad.truncate(34);
+        bad[1] = 0xAB;
+        bad[2..4].copy_from_slice(&[0xFF, 0x07]);
+        assert_eq!(refusal(1, &bad), 1);
+        bad[1] = 0xBA;
+        assert_eq!(refusal(1, &bad), 2);
+        bad[2..4].copy_from_slice(&[33, 0]);
+        assert_eq!(refusal(1, &bad), 3);
+        bad[2..4].copy_from_slice(&[32, 0]);
+        assert_eq!(refusal(1, &bad), 4);
+        assert_eq!(refusal(2, &bad), 4);
+        assert_eq!(refusal(0, &bad), 5);
+        bad[5] = 0;
+        assert_eq!(refusal(0, &bad), 6);
+
+        assert_eq!(refusal(0, &order(0, b',', &[])), 6);
+        assert_eq!(refusal(0, &order(0, b',', &[11])), 7);
+        assert_eq!(refusal(0, &order(0, b',', &[255])), 7);
+        assert_eq!(refusal(0, &order(0, b',', &[10])), 6);
+        assert_eq!(refusal(0, &order(0, b',', &[3, 0, 4])), 6);
+        assert_eq!(refusal(0, &order(0, b',', &[2, 0, 4])), 8);
+        assert_eq!(refusal(0, &order(0, b',', &[2, 4, 0x40])), 9);
+        assert_eq!(refusal(0, &order(0, b',', &[0])), 9);
+        let mut tail = vec![2, 4, 0x41];
+        for _ in 0..17 {
+            assert_eq!(refusal(0, &order(0, b',', &tail)), 6);
+            tail.push(b'A');
+        }
+        assert_eq!(refusal(0, &order(0, b',', &tail)), 10);
+        assert_eq!(refusal(0, &order(0, 0, &tail)), 10);
+        assert_eq!(refusal(0, &order(0, b'A', &tail)), 0);
+        tail.push(b'A');
+        assert_eq!(refusal(0, &order(0, b',', &tail)), 6);
+    }
+
+    /// Trailing zero bitfields stay in the record, with their count.
+    #[test]
+    fn zero_bitfields_are_kept() {
+        let mut fields = vec![b'M'; 17];
+        fields[8] = b'A';
+        for count in 2..=10 {
+            let mut tail = vec![count, 4, 0x41];
+            tail.resize(1 + usize::from(count), 0);
+            tail.extend(&fields);
+            let record = message(0, &order(0, b'A', &tail)).unwrap();
+            assert_eq!(record.count, count);
+            assert_eq!(record.bitfields[..3], [4, 0x41, 0]);
+        }
+    }
+
+    #[test]
+    fn bytes_after_the_message_play_no_part() {
+        let whole = examples::execution();
+        let record = message(1, &whole).unwrap();
+        for more in [vec![0], vec![0xBA], whole.clone()] {
+            let mut buffer = whole.clone();
+            buffer.extend(more);
+            assert_eq!(message(1, &buffer).unwrap(), record);
+        }
+    }
+
+    /// The venue's identifier is judged like the member's, its other texts may be blank, and its
+    /// reserved byte may be any.
+    #[test]
+    fn values_of_the_venue() {
+        for (example, reserved) in [
+            (examples::acknowledgment(), 46),
+            (examples::execution(), 68),
+        ] {
+            for byte in 0..=255 {
+                let mut other = example.clone();
+                other[reserved] = byte;
+                let record = message(1, &other).unwrap();
+                assert_eq!(record.fixed[reserved - 10], byte);
+            }
+            for bad in [0, b' ', b'@', 127] {
+                let mut other = example.clone();
+                other[18] = bad;
+                assert_eq!(refusal(1, &other), 10);
+            }
+            let mut blank = example.clone();
+            blank[18..38].fill(0);
+            assert_eq!(refusal(1, &blank), 10);
+        }
+        let mut execution = examples::execution();
+        execution[62..68].fill(0);
+        assert_eq!(refusal(1, &execution), 0);
+        for place in 62..65 {
+            let mut bad = execution.clone();
+            bad[place] = b'!';
+            assert_eq!(refusal(1, &bad), 10);
+        }
+    }
+}

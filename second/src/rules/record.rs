@@ -1,0 +1,87 @@
+//! The record of a message with bitfields (README.md, "A record"): the same places for all types.
+
+use super::number;
+
+pub const FIXED: usize = 59;
+pub const BITFIELDS: usize = 15;
+pub const SLOTS: usize = 154;
+pub const SIZE: usize = 235;
+
+const NUMBER_PLACE: usize = 2;
+const FIXED_PLACE: usize = 6;
+const COUNT_PLACE: usize = FIXED_PLACE + FIXED;
+const BITFIELDS_PLACE: usize = COUNT_PLACE + 1;
+const SLOTS_PLACE: usize = BITFIELDS_PLACE + BITFIELDS;
+
+#[derive(Clone, Debug, PartialEq, Eq)]
+pub struct Record {
+    pub type_byte: u8,
+    pub unit: u8,
+    pub number: u32,
+    pub fixed: [u8; FIXED],
+    pub count: u8,
+    pub bitfields: [u8; BITFIELDS],
+    pub slots: [u8; SLOTS],
+}
+
+impl Record {
+    /// The record that a buffer begins with; none if the buffer is too short for one.
+    pub fn of_bytes(bytes: &[u8]) -> Option<Record> {
+        if bytes.len() < SIZE {
+            return None;
+        }
+        let mut record = Record {
+            type_byte: bytes[0],
+            unit: bytes[1],
+            number: number::get(bytes, NUMBER_PLACE as u64, 4) as u32,
+            fixed: [0; FIXED],
+            count: bytes[COUNT_PLACE],
+            bitfields: [0; BITFIELDS],
+            slots: [0; SLOTS],
+        };
+        record
+            .fixed
+            .copy_from_slice(&bytes[FIXED_PLACE..COUNT_PLACE]);
+        record
+            .bitfields
+            .copy_from_slice(&bytes[BITFIELDS_PLACE..SLOTS_PLACE]);
+        record.slots.copy_from_slice(&bytes[SLOTS_PLACE..SIZE]);
+        Some(record)
+    }
+
+    pub fn bytes(&self) -> Vec<u8> {
+        let mut bytes = vec![self.type_byte, self.unit];
+        bytes.extend(self.number.to_le_bytes());
+        bytes.extend(self.fixed);
+        bytes.push(self.count);
+        bytes.extend(self.bitfields);
+        bytes.extend(self.slots);
+        bytes
+    }
+}
+
+#[cfg(test)]
+mod tests {
+    use super::*;
+
+    #[test]
+    fn places() {
+        let bytes: Vec<u8> = (0..=235).collect();
+        let record = Record::of_bytes(&bytes).unwrap();
+        assert_eq!((record.type_byte, record.unit), (0, 1));
+        assert_eq!(record.number, 0x05040302);
+        assert_eq!((record.fixed[0], record.fixed[58]), (6, 64));
+        assert_eq!(record.count, 65);
+        assert_eq!((record.bitfields[0], record.bitfields[14]), (66, 80));
+        assert_eq!((record.slots[0], record.slots[153]), (81, 234));
+        assert_eq!(record.bytes(), bytes[..SIZE]);
+    }
+
+    #[test]
+    fn shorter_is_none() {
+        for size in 0..SIZE {
+            assert_eq!(Record::of_bytes(&vec![0; size]), None);
+        }
+        assert!(Record::of_bytes(&[0; SIZE]).is_some());
+    }
+}

@@ -1,0 +1,213 @@
+//! Writing a record of a message with bitfields (document 01, "Numbers of refusal", the writing
+//! order; README.md for what comes before it).
+
+use super::frame::{START, UNCOUNTED};
+use super::kinds;
+use super::layout::{self, Layout, Place};
+use super::record::Record;
+use super::Refusal;
+
+/// Writes the record that `record` begins with to the start of `buffer`. Only the bytes of the
+/// message change, and none if it is refused.
+pub fn record(direction: u8, record: &[u8], buffer: &mut [u8]) -> Result<(), Refusal> {
+    let record = Record::of_bytes(record).ok_or(Refusal::Room)?;
+    let layout = Layout::of(direction, record.type_byte)?;
+    layout.check_unit(record.unit)?;
+    layout.check_count(record.count)?;
+    let count = usize::from(record.count);
+    // The places past the count are no bitfields: what stands there is judged with the unused.
+    let bitfields = &record.bitfields[..count];
+    layout.check_bits(bitfields)?;
+    layout.check_required(bitfields)?;
+
+    let fixed = &record.fixed[..layout.fixed_width()];
+    let places = layout.places(bitfields);
+    layout.check_fixed(fixed)?;
+    for place in &places {
+        layout::check_optional(place.field, value(&record, place))?;
+    }
+    layout::check(unused_is_zero(layout, &record, &places), Refusal::Unused)?;
+
+    let total = layout.total(bitfields);
+    layout::check(buffer.len() >= total, Refusal::Room)?;
+    let mut message = vec![START, START];
+    message.extend((total as u16 - UNCOUNTED as u16).to_le_bytes());
+    message.push(record.type_byte);
+    message.push(record.unit);
+    message.extend(record.number.to_le_bytes());
+    message.extend(fixed);
+    message.push(record.count);
+    message.extend(bitfields);
+    for place in &places {
+        message.extend(value(&record, place));
+    }
+    buffer[..total].copy_from_slice(&message);
+    Ok(())
+}
+
+fn value<'a>(record: &'a Record, place: &Place) -> &'a [u8] {
+    &record.slots[place.slot..place.slot + place.field.width]
+}
+
+/// Whether all places that the message does not take are zero: after the fixed part, after the
+/// bitfields, and every slot that is not selected or belongs to no field.
+fn unused_is_zero(layout: &Layout, record: &Record, places: &[Place]) -> bool {
+    let mut slots = record.slots;
+    for place in places {
+        slots[place.slot..place.slot + place.field.width].fill(0);
+    }
+    kinds::blank(&record.fixed[layout.fixed_width()..])
+        && kinds::blank(&record.bitfields[usize::from(record.count)..])
+        && kinds::blank(&slots)
+}
+
+#[cfg(test)]
+mod tests {
+    use super::*;
+    use crate::examples;
+    use crate::questions::damage;
+    use crate::questions::sample::Sample;
+    use crate::random::Random;
+    use crate::rules::read;
+    use crate::rules::record::SIZE;
+
+    fn refusal(direction: u8, bytes: &[u8], buffer: &mut [u8]) -> u8 {
+        match record(direction, bytes, buffer) {
+            Ok(()) => 0,
+            Err(refusal) => refusal.number(),
+        }
+    }
+
+    #[test]
+    fn examples_come_back() {
+        for (direction, message) in [
+            (0, examples::new_order()),
+            (0, examples::cancel()),
+            (0, examples::cancel_without_bitfields()),
+            (1, examples::acknowledgment()),
+            (1, examples::least_acknowledgment()),
+            (1, examples::booked_acknowledgment()),
+            (1, examples::execution()),
+        ] {
+            let bytes = read::message(direction, &message).unwrap().bytes();
+            let total = message.len();
+            let mut buffer = vec![0xEE; total + 2];
+            assert_eq!(refusal(direction, &bytes, &mut buffer[..total - 1]), 13);
+            assert_eq!(buffer, vec![0xEE; total + 2]);
+            assert_eq!(refusal(direction, &bytes, &mut buffer), 0);
+            assert_eq!(buffer[..total], message);
+            assert_eq!(buffer[total..], [0xEE; 2]);
+            assert_eq!(refusal(direction, &bytes, &mut buffer[..total]), 0);
+        }
+    }
+
+    #[test]
+    fn round_trips() {
+        let mut random = Random::new(130);
+        for round in 0..4_000 {
+            let sample = Sample::any(&mut random, round % 4);
+            let direction = sample.layout.direction;
+            let message = sample.bytes();
+            let first = read::message(direction, &message).unwrap();
+            let mut buffer = vec![0xEE; message.len()];
+            assert_eq!(record(direction, &first.bytes(), &mut buffer), Ok(()));
+            assert_eq!(buffer, message);
+            assert_eq!(read::message(direction, &buffer), Ok(first));
+        }
+    }
+
+    /// The same wherever damage leaves something valid.
+    #[test]
+    fn round_trips_of_the_damaged() {
+        let mut random = Random::new(131);
+        let (mut messages, mut records) = (0, 0);
+        for round in 0..8_000 {
+            let sample = Sample::any(&mut random, round % 4);
+            let (direction, bytes) = damage::message(&mut random, &sample);
+            if let Ok(read) = read::message(direction, &bytes) {
+                let mut buffer = vec![0; bytes.len()];
+                assert_eq!(record(direction, &read.bytes(), &mut buffer), Ok(()));
+                let total = usize::from(buffer[2]) + 2;
+                assert_eq!(buffer[..total], bytes[..total]);
+                messages += 1;
+            }
+            let (direction, bytes, mut buffer) = damage::record(&mut random, &sample);
+            let before = buffer.clone();
+            if record(direction, &bytes, &mut buffer).is_ok() {
+                let again = read::message(direction, &buffer).unwrap();
+                assert_eq!(again.bytes(), bytes[..SIZE]);
+                records += 1;
+            } else {
+                assert_eq!(buffer, before);
+            }
+        }
+        assert!(messages > 500 && records > 500);
+    }
+
+    /// One fault after another is taken away, and the next in the order is told.
+    #[test]
+    fn order_of_writing() {
+        let good = read::message(0, &examples::new_order()).unwrap().bytes();
+        let mut bad = good.clone();
+        let mut buffer = [0xEE; 75];
+        bad[1] = 1;
+        bad[6] = b',';
+        bad[65] = 11;
+        bad[67] = 0xC4;
+        bad[80] = 0x80;
+        assert_eq!(refusal(1, &bad[..234], &mut buffer), 13);
+        assert_eq!(refusal(2, &bad, &mut buffer), 4);
+        assert_eq!(refusal(1, &bad, &mut buffer), 4);
+        assert_eq!(refusal(0, &bad, &mut buffer), 5);
+        bad[1] = 0;
+        assert_eq!(refusal(0, &bad, &mut buffer), 7);
+        bad[65] = 3;
+        assert_eq!(refusal(0, &bad, &mut buffer), 8);
+        bad[67] = 0xC0;
+        assert_eq!(refusal(0, &bad, &mut buffer), 9);
+        bad[67] = 0xC1;
+        assert_eq!(refusal(0, &bad, &mut buffer), 10);
+        bad[6] = b'A';
+        assert_eq!(refusal(0, &bad, &mut buffer), 12);
+        bad[80] = 0;
+        assert_eq!(bad, good);
+        assert_eq!(refusal(0, &bad, &mut buffer), 13);
+        assert_eq!(buffer, [0xEE; 75]);
+        let mut buffer = [0xEE; 76];
+        assert_eq!(refusal(0, &bad, &mut buffer), 0);
+        assert_eq!(buffer[..], examples::new_order());
+    }
+
+    /// Every place of a record that P5 does not use must be zero, and no other place gives 12.
+    #[test]
+    fn unused_places() {
+        let good = read::message(0, &examples::new_order()).unwrap().bytes();
+        let used = [
+            0..31,
+            65..69,
+            81 + 8..81 + 16,
+            81 + 27..81 + 35,
+            81 + 43..81 + 64,
+        ];
+        for place in 0..SIZE {
+            let mut bad = good.clone();
+            bad[place] ^= 0x40;
+            let unused = !used.iter().any(|range| range.contains(&place));
+            let answer = refusal(0, &bad, &mut [0; 76]);
+            assert_eq!(answer == 12, unused, "{} {}", place, answer);
+        }
+    }
+
+    /// Bytes after a record play no part.
+    #[test]
+    fn longer_records() {
+        let good = read::message(0, &examples::cancel()).unwrap().bytes();
+        let mut longer = good.clone();
+        longer.extend([7; 40]);
+        for size in 0..longer.len() {
+            let mut buffer = [0; 36];
+            let expected = if size < SIZE { 13 } else { 0 };
+            assert_eq!(refusal(0, &longer[..size], &mut buffer), expected);
+        }
+    }
+}
