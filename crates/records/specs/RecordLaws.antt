@@ -1,5 +1,5 @@
--- What is true of a record's bytes: written one after the other they are the bytes; packed and unpacked, a record is the same. Assumes
--- nothing.
+-- What is true of a record's bytes as they are stored: an array filled whole or by a part, the head, and the parts that make up a
+-- record. Assumes nothing.
 use mathlib.Core.Path.{_≡_, refl, sym, ap, ap₂, _∙_}
 use mathlib.Core.List.{List, [], _∷_, _++_, append-assoc, append-nil}
 use Prim.Native.Nat.{ℕ, zero, suc, _+_, _-_, _≤_}
