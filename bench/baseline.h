@@ -1,4 +1,5 @@
-/* The plain C reader and writer. The arguments, the answers and the order of refusal are those of boe_read and boe_write. */
+/* The plain C reader and writer. The arguments, the answers and the order of refusal are those of boe_read and boe_write, save that a
+ * session message is of an unknown type. */
 #ifndef BASELINE_H
 #define BASELINE_H
 

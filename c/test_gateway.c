@@ -18,9 +18,12 @@ static void check(int ok, const char *what) {
     }
 }
 
-static uint32_t entry(const uint8_t *table, unsigned unit) {
-    const uint8_t *p = table + 4 * (unit - 1);
+static uint32_t number_at(const uint8_t *p) {
     return p[0] | (uint32_t)p[1] << 8 | (uint32_t)p[2] << 16 | (uint32_t)p[3] << 24;
+}
+
+static uint32_t entry(const uint8_t *table, unsigned unit) {
+    return number_at(table + 4 * (unit - 1));
 }
 
 /* ---- hand-made cases */
@@ -89,34 +92,80 @@ static const uint8_t execution[85] = {
     0x42, 0x41, 0x54, 0x53, 0, 0x03, 0, 0, 0x46, 0x54, 0x45, 0x53, 0x54, 0x31, 0x32, 0x33,
     0x43, 0x78, 0, 0, 0};
 
+/* 000's session examples: its login, its response with the units of its notes, and its Logout with the length of its bytes. */
+static const uint8_t login[69] = {
+    0xBA, 0xBA, 0x43, 0, 0x37, 0, 0, 0, 0, 0, '0', '0', '0', '1', 'T', 'E', 'S', 'T', 'T', 'E', 'S', 'T', 'I', 'N', 'G', 0, 0, 0,
+    3, 0x14, 0, 0x80, 1, 3, 1, 0x4A, 0xBB, 0x01, 0, 2, 0, 0, 0, 0, 4, 0x79, 0xA1, 0, 0, 0x08, 0, 0x81, 0x25, 3, 0, 0x41, 0x05,
+    0x0C, 0, 0x81, 0x2C, 7, 0, 0x41, 0x07, 0, 0x40, 0, 0x01};
+static const uint8_t login_response[138] = {
+    0xBA, 0xBA, 0x88, 0, 0x24, 0, 0, 0, 0, 0, 'A', 'A', 'c', 'c', 'e', 'p', 't', 'e', 'd', 0, 0, 0, 0, 0, 0, 0, 0, 0, 0, 0,
+    0, 0, 0, 0, 0, 0, 0, 0, 0, 0, 0, 0, 0, 0, 0, 0, 0, 0, 0, 0, 0, 0, 0, 0, 0, 0, 0, 0, 0, 0, 0, 0, 0, 0, 0, 0, 0, 0, 0, 0, 0,
+    1, 0x54, 0x4A, 0x02, 0, 4, 1, 0x4A, 0xBB, 0x01, 0, 2, 0, 0, 0, 0, 3, 0, 0, 0, 0, 4, 0x79, 0xA1, 0, 0,
+    3, 0x14, 0, 0x80, 1, 3, 1, 0x4A, 0xBB, 0x01, 0, 2, 0, 0, 0, 0, 4, 0x79, 0xA1, 0, 0, 0x08, 0, 0x81, 0x25, 3, 0, 0x41, 0x05,
+    0x0C, 0, 0x81, 0x2C, 7, 0, 0x41, 0x07, 0, 0x40, 0, 0x01};
+static const uint8_t logout[91] = {
+    0xBA, 0xBA, 0x59, 0, 0x08, 0, 0, 0, 0, 0, 'U', 'U', 's', 'e', 'r', 0, 0, 0, 0, 0, 0, 0, 0, 0, 0, 0, 0, 0, 0, 0,
+    0, 0, 0, 0, 0, 0, 0, 0, 0, 0, 0, 0, 0, 0, 0, 0, 0, 0, 0, 0, 0, 0, 0, 0, 0, 0, 0, 0, 0, 0, 0, 0, 0, 0, 0, 0, 0, 0, 0, 0, 0,
+    0x54, 0x5A, 0x02, 0, 3, 1, 0x4A, 0xBB, 0x01, 0, 2, 0, 0, 0, 0, 4, 0x79, 0xA1, 0, 0};
+static const uint8_t client_heartbeat[10] = {0xBA, 0xBA, 8, 0, 0x03};
+static const uint8_t server_heartbeat[10] = {0xBA, 0xBA, 8, 0, 0x09};
+static const uint8_t replay_complete[10] = {0xBA, 0xBA, 8, 0, 0x13};
+/* 002's login */
+static const uint8_t options_login[63] = {
+    0xBA, 0xBA, 0x3D, 0, 0x37, 0, 0, 0, 0, 0, '0', '0', '0', '1', 'T', 'E', 'S', 'T', 'T', 'E', 'S', 'T', 'I', 'N', 'G', 0, 0, 0,
+    3, 0x0F, 0, 0x80, 1, 2, 1, 0x4A, 0xBB, 0x01, 0, 2, 0, 0, 0, 0, 0x08, 0, 0x81, 0x25, 3, 0, 0x41, 0x05,
+    0x0B, 0, 0x81, 0x2C, 6, 0, 0x41, 0x07, 0, 0x40, 0};
+
+/* The bytes of the record of a type. */
+static size_t record_len(uint8_t type) {
+    switch (type) {
+    case BOE_NEW_ORDER:
+    case BOE_CANCEL_ORDER:
+    case BOE_ACKNOWLEDGMENT:
+    case BOE_EXECUTION:
+        return BOE_ORDER_RECORD_LEN;
+    default:
+        return BOE_RECORD_LEN;
+    }
+}
+
+static int all_are(const uint8_t *bytes, size_t len, uint8_t byte) {
+    for (size_t i = 0; i < len; i++)
+        if (bytes[i] != byte) return 0;
+    return 1;
+}
+
 /* A message read and written again: the same bytes, and bytes after them untouched. */
 static void again(uint8_t direction, const uint8_t *message, size_t len) {
-    uint8_t bytes[300], record[BOE_RECORD_LEN + 3], out[300];
+    uint8_t bytes[600], record[BOE_RECORD_LEN + 3], out[600];
+    size_t own = record_len(message[4]);
     memcpy(bytes, message, len);
     memset(bytes + len, 0xEE, sizeof bytes - len);
     memset(record, 0x5A, sizeof record);
     memset(out, 0x5A, sizeof out);
     check(boe_read(direction, bytes, sizeof bytes, record, sizeof record) == 0, "an example is read, whatever follows it");
-    check(record[BOE_RECORD_LEN] == 0x5A && record[BOE_RECORD_LEN + 2] == 0x5A, "bytes past the record stay");
+    check(all_are(record + own, sizeof record - own, 0x5A), "bytes past the record stay");
     check(boe_write(direction, record, sizeof record, out, len) == 0, "its record is written into a buffer of its length");
     check(memcmp(out, message, len) == 0 && out[len] == 0x5A, "as the same bytes, and no byte more");
     memset(out, 0x5A, sizeof out);
-    check(boe_write(direction, record, sizeof record, out, len - 1) == BOE_NO_ROOM, "one byte short");
+    check(boe_write(direction, record, BOE_RECORD_LEN, out, len - 1) == BOE_NO_ROOM, "one byte short");
     check(boe_write(direction, record, BOE_RECORD_LEN - 1, out, len) == BOE_NO_ROOM, "a short record");
+    check(boe_write(direction, record, BOE_ORDER_RECORD_LEN, out, len) == BOE_NO_ROOM, "an order's record alone is short too");
     check(boe_write((uint8_t)(1 - direction), record, sizeof record, out, len) == BOE_UNKNOWN_TYPE, "the other direction");
     check(boe_write(2, record, sizeof record, out, len) == BOE_UNKNOWN_TYPE, "no direction");
-    check(out[0] == 0x5A && out[len - 1] == 0x5A, "refusals stored nothing");
+    check(all_are(out, sizeof out, 0x5A), "refusals stored nothing");
     memset(record, 0x5A, sizeof record);
     check(boe_read(direction, bytes, len - 1, record, sizeof record) == BOE_INCOMPLETE, "a cut message");
     check(boe_read((uint8_t)(1 - direction), bytes, len, record, sizeof record) == BOE_UNKNOWN_TYPE, "read in the other direction");
     check(boe_read(255, bytes, len, record, sizeof record) == BOE_UNKNOWN_TYPE, "read in no direction");
     check(boe_read(direction, bytes, len, record, BOE_RECORD_LEN - 1) == BOE_NO_ROOM, "a short buffer for the record");
+    check(boe_read(direction, bytes, len, record, BOE_ORDER_RECORD_LEN) == BOE_NO_ROOM, "room for an order's record alone");
     check(boe_read(direction, bytes, 9, record, 0) == BOE_INCOMPLETE, "13 comes after the message's refusals");
-    check(record[0] == 0x5A && record[BOE_RECORD_LEN - 2] == 0x5A, "refusals stored nothing");
+    check(all_are(record, sizeof record, 0x5A), "refusals stored nothing");
 }
 
 static void messages(void) {
-    uint8_t record[BOE_RECORD_LEN], out[300];
+    uint8_t record[BOE_RECORD_LEN], out[600];
     again(BOE_FROM_MEMBER, new_order, sizeof new_order);
     again(BOE_FROM_MEMBER, cancel_order, sizeof cancel_order);
     again(BOE_FROM_VENUE, acknowledgment, sizeof acknowledgment);
@@ -134,6 +183,90 @@ static void messages(void) {
     record[BOE_NEW_ORDER_STOP_PX_AT] = 0;
     record[BOE_RECORD_BITFIELDS_AT + BOE_NEW_ORDER_SYMBOL_BYTE - 1] &= (uint8_t)~BOE_NEW_ORDER_SYMBOL_BIT;
     check(boe_write(BOE_FROM_MEMBER, record, sizeof record, out, sizeof out) == BOE_NOT_SELECTED, "Symbol is required");
+}
+
+/* The body of a session message stands in its record as on the wire, with zeros after it. */
+static void same_body(const uint8_t *record, const uint8_t *message, size_t len) {
+    size_t body = len - 10;
+    check(record[BOE_RECORD_TYPE_AT] == message[4] && all_are(record + BOE_RECORD_UNIT_AT, 5, 0), "type, and no unit or number");
+    check(memcmp(record + BOE_SESSION_BODY_AT, message + 10, body) == 0, "the body as on the wire");
+    check(all_are(record + BOE_SESSION_BODY_AT + body, BOE_SESSION_BODY_LEN - body, 0), "zeros after it");
+}
+
+static void logins(void) {
+    uint8_t record[BOE_RECORD_LEN], out[600], bytes[600];
+    const uint8_t *group = record + BOE_LOGIN_REQUEST_GROUPS_AT;
+    again(BOE_FROM_MEMBER, login, sizeof login);
+    again(BOE_FROM_MEMBER, options_login, sizeof options_login);
+    check(boe_read(BOE_FROM_MEMBER, options_login, sizeof options_login, record, sizeof record) == 0, "002's login");
+    same_body(record, options_login, sizeof options_login);
+    check(memcmp(record + BOE_LOGIN_REQUEST_SESSION_SUB_ID_AT, "0001", BOE_LOGIN_REQUEST_SESSION_SUB_ID_LEN) == 0, "SessionSubID");
+    check(memcmp(record + BOE_LOGIN_REQUEST_USERNAME_AT, "TEST", BOE_LOGIN_REQUEST_USERNAME_LEN) == 0, "Username");
+    check(memcmp(record + BOE_LOGIN_REQUEST_PASSWORD_AT, "TESTING\0\0", BOE_LOGIN_REQUEST_PASSWORD_LEN) == 0, "Password");
+    check(record[BOE_LOGIN_REQUEST_NUMBER_OF_GROUPS_AT] == 3, "three groups");
+    check(group[BOE_UNITS_GROUP_LENGTH_AT] == 15 && group[BOE_UNITS_GROUP_TYPE_AT] == BOE_UNITS_GROUP, "the first has units");
+    check(group[BOE_UNITS_GROUP_FLAG_AT] == 1 && group[BOE_UNITS_GROUP_NUMBER_OF_UNITS_AT] == 2, "flag 1, two of them");
+    check(group[BOE_UNITS_GROUP_PAIRS_AT] == 1 && number_at(group + BOE_UNITS_GROUP_PAIRS_AT + 1) == 113482, "unit 1 at 113,482");
+    group += 15;
+    check(group[BOE_BITFIELDS_GROUP_TYPE_AT] == BOE_BITFIELDS_GROUP, "the second has bitfields");
+    check(group[BOE_BITFIELDS_GROUP_MESSAGE_TYPE_AT] == BOE_ACKNOWLEDGMENT && group[BOE_BITFIELDS_GROUP_COUNT_AT] == 3, "three for 25");
+    check(group[BOE_BITFIELDS_GROUP_BITFIELDS_AT + 1] == 0x41, "its second bitfield");
+    memset(out, 0x5A, sizeof out);
+    record[BOE_LOGIN_REQUEST_GROUPS_AT + BOE_UNITS_GROUP_FLAG_AT] = 2;
+    check(boe_write(BOE_FROM_MEMBER, record, sizeof record, out, sizeof out) == BOE_BAD_GROUP, "flag 2");
+    record[BOE_LOGIN_REQUEST_PASSWORD_AT] = ' ';
+    check(boe_write(BOE_FROM_MEMBER, record, sizeof record, out, sizeof out) == BOE_BAD_VALUE, "10 comes before 11");
+    record[BOE_RECORD_NUMBER_AT] = 1;
+    check(boe_write(BOE_FROM_MEMBER, record, sizeof record, out, sizeof out) == BOE_BAD_UNIT, "5 comes before 10");
+    check(boe_read(BOE_FROM_MEMBER, login, sizeof login, record, sizeof record) == 0, "000's login");
+    record[BOE_RECORD_LEN - 1] = 1;
+    check(boe_write(BOE_FROM_MEMBER, record, sizeof record, out, sizeof out) == BOE_BAD_GROUP, "a byte after the last group");
+    check(all_are(out, sizeof out, 0x5A), "refusals stored nothing");
+
+    again(BOE_FROM_VENUE, login_response, sizeof login_response);
+    check(boe_read(BOE_FROM_VENUE, login_response, sizeof login_response, record, sizeof record) == 0, "Login Response");
+    same_body(record, login_response, sizeof login_response);
+    check(record[BOE_LOGIN_RESPONSE_STATUS_AT] == 'A' && record[BOE_LOGIN_RESPONSE_FLAG_AT] == 1, "its status and flag");
+    check(memcmp(record + BOE_LOGIN_RESPONSE_TEXT_AT, "Accepted", 9) == 0, "its text");
+    check(number_at(record + BOE_LOGIN_RESPONSE_LAST_RECEIVED_NUMBER_AT) == 150100, "its last received number");
+    check(record[BOE_LOGIN_RESPONSE_NUMBER_OF_UNITS_AT] == 4, "four units");
+    check(record[BOE_LOGIN_RESPONSE_PAIRS_AT + 3 * BOE_PAIR_LEN] == 4, "the last is unit 4");
+    check(number_at(record + BOE_LOGIN_RESPONSE_PAIRS_AT + 3 * BOE_PAIR_LEN + 1) == 41337, "at 41,337");
+    check(record[BOE_LOGIN_RESPONSE_PAIRS_AT + 4 * BOE_PAIR_LEN] == 3, "three groups");
+    memcpy(bytes, login_response, sizeof login_response);
+    bytes[87] = bytes[92] = 2;
+    memset(record, 0x5A, sizeof record);
+    check(boe_read(BOE_FROM_VENUE, bytes, sizeof login_response, record, sizeof record) == BOE_BAD_GROUP, "000's bytes: unit 2 three times");
+    check(boe_read(BOE_FROM_VENUE, bytes, sizeof login_response, record, 0) == BOE_BAD_GROUP, "11 comes before 13");
+
+    again(BOE_FROM_VENUE, logout, sizeof logout);
+    memcpy(bytes, logout, sizeof logout);
+    bytes[2] = 0x55;
+    check(boe_read(BOE_FROM_VENUE, bytes, sizeof logout, record, sizeof record) == BOE_BAD_GROUP, "000's length: the pairs do not fit");
+    check(all_are(record, sizeof record, 0x5A), "refusals stored nothing");
+    bytes[2] = 0x59;
+    bytes[10] = '!';
+    check(boe_read(BOE_FROM_VENUE, bytes, sizeof logout, record, sizeof record) == 0, "the reason of a protocol violation");
+    same_body(record, bytes, sizeof logout);
+    check(record[BOE_LOGOUT_REASON_AT] == '!' && memcmp(record + BOE_LOGOUT_TEXT_AT, "User", 5) == 0, "reason and text");
+    check(number_at(record + BOE_LOGOUT_LAST_RECEIVED_NUMBER_AT) == 154196, "its last received number");
+    check(record[BOE_LOGOUT_NUMBER_OF_UNITS_AT] == 3 && record[BOE_LOGOUT_PAIRS_AT + 2 * BOE_PAIR_LEN] == 4, "three units, the last 4");
+}
+
+static void header_alone(uint8_t direction, const uint8_t *message) {
+    uint8_t record[BOE_RECORD_LEN], out[10], bytes[11];
+    again(direction, message, 10);
+    check(boe_read(direction, message, 10, record, sizeof record) == 0, "a message that is its header alone");
+    same_body(record, message, 10);
+    record[BOE_RECORD_LEN - 1] = 1;
+    check(boe_write(direction, record, sizeof record, out, sizeof out) == BOE_NOT_ZERO, "it has no body");
+    check(boe_write(direction, record, sizeof record, out, 0) == BOE_NOT_ZERO, "12 comes before 13");
+    memcpy(bytes, message, 10);
+    bytes[2] = 9;
+    bytes[10] = 0;
+    check(boe_read(direction, bytes, sizeof bytes, record, sizeof record) == BOE_WRONG_TOTAL, "a byte more");
+    bytes[5] = 1;
+    check(boe_read(direction, bytes, sizeof bytes, record, sizeof record) == BOE_BAD_UNIT, "5 comes before 6");
 }
 
 /* ---- the stored questions */
@@ -179,8 +312,7 @@ static int answer(char *question, char *out) {
         size_t total = boe_frame_length(bytes, (size_t)n);
         unsigned refusal = boe_frame_refusal(bytes, (size_t)n);
         if (refusal == 0)
-            sprintf(out, "0 %zu %u %u %lu", total, bytes[4], bytes[5],
-                    (unsigned long)(bytes[6] | (uint32_t)bytes[7] << 8 | (uint32_t)bytes[8] << 16 | (uint32_t)bytes[9] << 24));
+            sprintf(out, "0 %zu %u %u %lu", total, bytes[4], bytes[5], (unsigned long)number_at(bytes + 6));
         else
             sprintf(out, total == 0 ? "%u" : "a refused message has a length: %u", refusal);
         return 1;
@@ -194,14 +326,18 @@ static int answer(char *question, char *out) {
         return 1;
     }
     if (strcmp(call, "read") == 0 && second && !third) {
-        uint8_t record[BOE_RECORD_LEN];
+        uint8_t record[BOE_RECORD_LEN + 1];
         long n = unhex(second, bytes);
         if (n < 0) return 0;
+        memset(record, 0x5A, sizeof record);
         unsigned refusal = boe_read((uint8_t)atoi(first), bytes, (size_t)n, record, sizeof record);
-        if (refusal) {
+        size_t own = refusal ? 0 : record_len(record[BOE_RECORD_TYPE_AT]);
+        if (!all_are(record + own, sizeof record - own, 0x5A)) {
+            sprintf(out, "bytes past the record have changed: %u", refusal);
+        } else if (refusal) {
             sprintf(out, "%u", refusal);
         } else {
-            tohex(record, BOE_RECORD_LEN, hex);
+            tohex(record, (long)own, hex);
             sprintf(out, "0 %s", hex);
         }
         return 1;
@@ -238,7 +374,7 @@ static void stored(FILE *questions, FILE *answers) {
         }
     }
     check(fgets(expected, sizeof expected, answers) == NULL, "more answers than questions");
-    check(asked > 9000, "the stored questions were asked");
+    check(asked > 40000, "the stored questions were asked");
 }
 
 int main(int argc, char **argv) {
@@ -254,6 +390,10 @@ int main(int argc, char **argv) {
     framing();
     steps();
     messages();
+    logins();
+    header_alone(BOE_FROM_MEMBER, client_heartbeat);
+    header_alone(BOE_FROM_VENUE, server_heartbeat);
+    header_alone(BOE_FROM_VENUE, replay_complete);
     stored(questions, answers);
     printf("test_gateway: %lu checks, %lu failed\n", checks, failures);
     return failures == 0 ? 0 : 1;

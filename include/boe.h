@@ -56,8 +56,16 @@ size_t boe_frame_length(const uint8_t *bytes, size_t len);
  * more above it, in this order. Bytes past 128 are not touched. */
 uint8_t boe_table_step(uint8_t *table, size_t table_len, uint8_t unit, uint32_t number);
 
-/* A record of a message with bitfields, BOE_RECORD_LEN bytes. Numbers have the lowest byte first, prices are signed and in
- * ten-thousandths.
+/* The bytes of a record's buffer, which reading and writing want whatever the type. */
+#define BOE_RECORD_LEN 439
+
+/* Every record starts alike; its type says which of the two forms it has. Numbers have the lowest byte first. */
+#define BOE_RECORD_TYPE_AT 0
+#define BOE_RECORD_UNIT_AT 1
+#define BOE_RECORD_NUMBER_AT 2
+
+/* A record of an order message (New Order, Cancel Order, Order Acknowledgment, Order Execution), the first BOE_ORDER_RECORD_LEN bytes of
+ * its buffer. Prices are signed and in ten-thousandths.
  *
  *   place  bytes
  *       0      1   type
@@ -70,27 +78,68 @@ uint8_t boe_table_step(uint8_t *table, size_t table_len, uint8_t unit, uint32_t 
  *                  or not; zero where it is not selected, and zero after the last
  *
  * A field is selected if its bit is set in its bitfield byte and that byte is one of the first `how many` bitfields. */
-#define BOE_RECORD_LEN 235
-#define BOE_RECORD_TYPE_AT 0
-#define BOE_RECORD_UNIT_AT 1
-#define BOE_RECORD_NUMBER_AT 2
+#define BOE_ORDER_RECORD_LEN 235
 #define BOE_RECORD_FIXED_AT 6
 #define BOE_RECORD_COUNT_AT 65
 #define BOE_RECORD_BITFIELDS_AT 66
 #define BOE_RECORD_FIELDS_AT 81
 
+/* A record of a session message (Login Request, Client Heartbeat, Login Response, Logout, Server Heartbeat, Replay Complete), all
+ * BOE_RECORD_LEN bytes of its buffer.
+ *
+ *   place  bytes
+ *       0      1   type
+ *       1      1   unit: 0
+ *       2      4   number: 0
+ *       6    433   the body as on the wire, from byte 10 of the message to its end; zero after it
+ *
+ * A pair is a unit, 1 to 32, and its number (4); no unit stands twice in one list of pairs. A group starts with its length, which counts the
+ * whole group; a login has at most one group of units and at most one group of bitfields for each of the two message types. */
+#define BOE_SESSION_BODY_AT 6
+#define BOE_SESSION_BODY_LEN 433
+#define BOE_PAIR_LEN 5
+
+/* A group of units: place and width in the group. As many pairs as it has units stand from BOE_UNITS_GROUP_PAIRS_AT on. */
+#define BOE_UNITS_GROUP 0x80
+#define BOE_UNITS_GROUP_LENGTH_AT 0
+#define BOE_UNITS_GROUP_LENGTH_LEN 2
+#define BOE_UNITS_GROUP_TYPE_AT 2
+#define BOE_UNITS_GROUP_TYPE_LEN 1
+#define BOE_UNITS_GROUP_FLAG_AT 3
+#define BOE_UNITS_GROUP_FLAG_LEN 1
+#define BOE_UNITS_GROUP_NUMBER_OF_UNITS_AT 4
+#define BOE_UNITS_GROUP_NUMBER_OF_UNITS_LEN 1
+#define BOE_UNITS_GROUP_PAIRS_AT 5
+
+/* A group of bitfields for one message type, 0x25 or 0x2C: place and width in the group. At most 15 bitfields, of any values. */
+#define BOE_BITFIELDS_GROUP 0x81
+#define BOE_BITFIELDS_GROUP_LENGTH_AT 0
+#define BOE_BITFIELDS_GROUP_LENGTH_LEN 2
+#define BOE_BITFIELDS_GROUP_TYPE_AT 2
+#define BOE_BITFIELDS_GROUP_TYPE_LEN 1
+#define BOE_BITFIELDS_GROUP_MESSAGE_TYPE_AT 3
+#define BOE_BITFIELDS_GROUP_MESSAGE_TYPE_LEN 1
+#define BOE_BITFIELDS_GROUP_COUNT_AT 4
+#define BOE_BITFIELDS_GROUP_COUNT_LEN 1
+#define BOE_BITFIELDS_GROUP_BITFIELDS_AT 5
+
 /* The directions. */
 #define BOE_FROM_MEMBER 0
 #define BOE_FROM_VENUE 1
 
-/* Reads the first whole message of the bytes into a record: 0, and the record stands in the first 235 bytes of its buffer. Otherwise
- * the buffer is as it was: 1 to 10 by the message (4 also for a direction that is neither), and after all of these 13 for a buffer under
- * 235 bytes. Bytes after the message and bytes of the buffer past 235 play no part. */
+/* Reads the first whole message of the bytes into a record: 0, and the record stands in its buffer, in the first 235 bytes for an order
+ * message, in the first 439 for a session message; the bytes after these stay. Otherwise the buffer is as it was: 1 to 11 by the message
+ * (4 also for a direction that is neither), and after all of these 13 for a buffer under 439 bytes. Bytes after the message play no part. */
 uint8_t boe_read(uint8_t direction, const uint8_t *bytes, size_t len, uint8_t *record, size_t record_len);
 
 /* Writes the message of a record: 0, and the message stands in the front of the buffer; its length less 2 is in its bytes 2 and 3.
- * Otherwise the buffer is as it was: 13 for a record under 235 bytes, then 4 (also for a direction that is neither), 5, 7, 8, 9, 10, 12,
- * and 13 for a buffer under the message's length, in this order. Bytes of the record past 235 play no part. */
+ * Otherwise the buffer is as it was: 13 for a record under 439 bytes, then 4 (also for a direction that is neither), 5, and then in this
+ * order
+ *   for an order message 7, 8, 9, 10, 12;
+ *   for Login Request, Login Response and Logout 10, 11 (also for a byte that is not zero after the last group or pair);
+ *   for a heartbeat and Replay Complete 12 (a byte of the body that is not zero);
+ * and last 13 for a buffer under the message's length. Bytes past 235 in the record of an order message, and past 439 in any, play no
+ * part. */
 uint8_t boe_write(uint8_t direction, const uint8_t *record, size_t record_len, uint8_t *out, size_t out_len);
 
 /* New Order (0x38), from the member: place and width in a record; for an optional field also its bitfield byte, counted from 1, and its bit */
@@ -348,6 +397,51 @@ uint8_t boe_write(uint8_t direction, const uint8_t *record, size_t record_len, u
 #define BOE_EXECUTION_ORDER_QTY_LEN 4
 #define BOE_EXECUTION_ORDER_QTY_BYTE 3
 #define BOE_EXECUTION_ORDER_QTY_BIT 0x40
+
+/* Login Request (0x37), from the member: place and width in a record. The groups stand one after the other. */
+#define BOE_LOGIN_REQUEST 0x37
+#define BOE_LOGIN_REQUEST_SESSION_SUB_ID_AT 6
+#define BOE_LOGIN_REQUEST_SESSION_SUB_ID_LEN 4
+#define BOE_LOGIN_REQUEST_USERNAME_AT 10
+#define BOE_LOGIN_REQUEST_USERNAME_LEN 4
+#define BOE_LOGIN_REQUEST_PASSWORD_AT 14
+#define BOE_LOGIN_REQUEST_PASSWORD_LEN 10
+#define BOE_LOGIN_REQUEST_NUMBER_OF_GROUPS_AT 24
+#define BOE_LOGIN_REQUEST_NUMBER_OF_GROUPS_LEN 1
+#define BOE_LOGIN_REQUEST_GROUPS_AT 25
+
+/* Login Response (0x24), from the venue: place and width in a record. After the last pair stands the number of groups (1), and after it
+ * the groups: with n units at BOE_LOGIN_RESPONSE_PAIRS_AT + n * BOE_PAIR_LEN. */
+#define BOE_LOGIN_RESPONSE 0x24
+#define BOE_LOGIN_RESPONSE_STATUS_AT 6
+#define BOE_LOGIN_RESPONSE_STATUS_LEN 1
+#define BOE_LOGIN_RESPONSE_TEXT_AT 7
+#define BOE_LOGIN_RESPONSE_TEXT_LEN 60
+#define BOE_LOGIN_RESPONSE_FLAG_AT 67
+#define BOE_LOGIN_RESPONSE_FLAG_LEN 1
+#define BOE_LOGIN_RESPONSE_LAST_RECEIVED_NUMBER_AT 68
+#define BOE_LOGIN_RESPONSE_LAST_RECEIVED_NUMBER_LEN 4
+#define BOE_LOGIN_RESPONSE_NUMBER_OF_UNITS_AT 72
+#define BOE_LOGIN_RESPONSE_NUMBER_OF_UNITS_LEN 1
+#define BOE_LOGIN_RESPONSE_PAIRS_AT 73
+
+/* Logout (0x08), from the venue: place and width in a record */
+#define BOE_LOGOUT 0x08
+#define BOE_LOGOUT_REASON_AT 6
+#define BOE_LOGOUT_REASON_LEN 1
+#define BOE_LOGOUT_TEXT_AT 7
+#define BOE_LOGOUT_TEXT_LEN 60
+#define BOE_LOGOUT_LAST_RECEIVED_NUMBER_AT 67
+#define BOE_LOGOUT_LAST_RECEIVED_NUMBER_LEN 4
+#define BOE_LOGOUT_NUMBER_OF_UNITS_AT 71
+#define BOE_LOGOUT_NUMBER_OF_UNITS_LEN 1
+#define BOE_LOGOUT_PAIRS_AT 72
+
+/* The messages that are their header alone: Client Heartbeat from the member, Server Heartbeat and Replay Complete from the venue */
+#define BOE_CLIENT_HEARTBEAT 0x03
+#define BOE_SERVER_HEARTBEAT 0x09
+#define BOE_REPLAY_COMPLETE 0x13
+
 #ifdef __cplusplus
 }
 #endif

@@ -167,7 +167,7 @@ fn step(mut buffer: Vec<u8>, unit: u8, number: u32) -> String {
 
 fn read(direction: u8, buffer: &[u8]) -> String {
     match read::message(direction, buffer) {
-        Ok(record) => format!("0 {}", hex::write(&record.bytes())),
+        Ok(record) => format!("0 {}", hex::write(&record)),
         Err(refusal) => refusal.number().to_string(),
     }
 }
@@ -238,7 +238,7 @@ mod tests {
         check("silent 4999 0", "0");
     }
 
-    /// P8, its record by the table of README.md, and back.
+    /// P8, its record by the table of README.md, and back; the record's buffer has 439 bytes.
     #[test]
     fn read_and_write() {
         let cancel = format!("BABA1D00390064000000414243313233{}00", "00".repeat(14));
@@ -250,6 +250,7 @@ mod tests {
         check(&format!("read 255 {}", &cancel[..60]), "3");
         check(&format!("read 0 {}", &cancel[..60]), "3");
         let buffer = "EE".repeat(32);
+        let record = format!("{}{}", record, "07".repeat(204));
         check(
             &format!("write 0 {} {}", record, buffer),
             &format!("0 {}EE", cancel),
@@ -267,6 +268,34 @@ mod tests {
         check(&format!("write 9 {} 0102", record), "4 0102");
         check(&format!("write 9 {} 0102", &record[2..]), "13 0102");
         check("write 0 - -", "13 -");
+    }
+
+    /// A session message that is its header alone, and one with text, pairs and groups.
+    #[test]
+    fn read_and_write_of_the_session() {
+        let heartbeat = "BABA0800030000000000";
+        let record = format!("03{}", "00".repeat(438));
+        check(&format!("read 0 {}", heartbeat), &format!("0 {}", record));
+        check(&format!("read 1 {}", heartbeat), "4");
+        check(
+            &format!("write 0 {} {}EE", record, "EE".repeat(10)),
+            &format!("0 {}EE", heartbeat),
+        );
+        check(&format!("write 0 {} -", &record[2..]), "13 -");
+        let body = format!("41{}0100000000012007000000010500800000", "00".repeat(60));
+        let response = format!("BABA560024{}{}", "00".repeat(5), body);
+        assert_eq!(response.len(), 2 * 88);
+        let record = format!("24{}{}{}", "00".repeat(5), body, "00".repeat(433 - 78));
+        assert_eq!(record.len(), 2 * 439);
+        check(&format!("read 1 {}", response), &format!("0 {}", record));
+        check(
+            &format!("write 1 {} {}", record, "EE".repeat(88)),
+            &format!("0 {}", response),
+        );
+        check(
+            &format!("write 1 {} {}", record, "EE".repeat(87)),
+            &format!("13 {}", "EE".repeat(87)),
+        );
     }
 
     #[test]

@@ -1,4 +1,4 @@
-//! The example messages of document 000, and those that document 01 makes of them.
+//! The example messages of documents 000 and 002, and those that document 01 makes of them.
 
 use crate::hex;
 
@@ -129,6 +129,119 @@ pub fn execution() -> Vec<u8> {
     ])
 }
 
+// Session messages.
+
+/// The groups that table 11 sends and table 17 gives back.
+const GROUPS: [(&str, usize); 8] = [
+    ("1400800103", 5),
+    ("014ABB0100", 5),
+    ("0200000000", 5),
+    ("0479A10000", 5),
+    ("0800812503", 5),
+    ("004105", 3),
+    ("0C00812C07", 5),
+    ("00410700400001", 7),
+];
+
+/// Table 11.
+pub fn login() -> Vec<u8> {
+    let mut parts = vec![
+        ("BABA4300370000000000", 10),
+        ("30303031", 4),
+        ("54455354", 4),
+        ("54455354494E47", 10),
+        ("03", 1),
+    ];
+    parts.extend(GROUPS);
+    filled(&parts)
+}
+
+/// The login of document 002; P14.
+pub fn options_login() -> Vec<u8> {
+    filled(&[
+        ("BABA3D00370000000000", 10),
+        ("30303031", 4),
+        ("54455354", 4),
+        ("54455354494E47", 10),
+        ("03", 1),
+        ("0F00800102", 5),
+        ("014ABB0100", 5),
+        ("0200000000", 5),
+        ("0800812503", 5),
+        ("004105", 3),
+        ("0B00812C06", 5),
+        ("004107004000", 6),
+    ])
+}
+
+/// Table 17, its lost status and flag put back: it gives unit 2 three times.
+pub fn login_response() -> Vec<u8> {
+    let mut parts = vec![
+        ("BABA8800240000000000", 10),
+        ("41", 1),
+        ("4163636570746564", 60),
+        ("01", 1),
+        ("544A0200", 4),
+        ("04", 1),
+        ("014ABB0100", 5),
+        ("0200000000", 5),
+        ("0200000000", 5),
+        ("0279A10000", 5),
+        ("03", 1),
+    ];
+    parts.extend(GROUPS);
+    filled(&parts)
+}
+
+/// The same with the units that the notes of table 17 give.
+pub fn login_response_of_the_notes() -> Vec<u8> {
+    let mut message = login_response();
+    message[87] = 3;
+    message[92] = 4;
+    message
+}
+
+/// Table 19: its length is four less than what its three pairs take.
+pub fn logout() -> Vec<u8> {
+    filled(&[
+        ("BABA5500080000000000", 10),
+        ("55", 1),
+        ("55736572", 60),
+        ("545A0200", 4),
+        ("03", 1),
+        ("014ABB0100", 5),
+        ("0200000000", 5),
+        ("0479A10000", 5),
+    ])
+}
+
+/// The same with the length of its bytes.
+pub fn logout_with_its_length() -> Vec<u8> {
+    let mut message = logout();
+    message[2] = 89;
+    message
+}
+
+/// Table 15.
+pub fn client_heartbeat() -> Vec<u8> {
+    filled(&[("BABA0800030000000000", 10)])
+}
+
+/// Table 21.
+pub fn server_heartbeat() -> Vec<u8> {
+    filled(&[("BABA0800090000000000", 10)])
+}
+
+/// Table 23.
+pub fn replay_complete() -> Vec<u8> {
+    filled(&[("BABA0800130000000000", 10)])
+}
+
+/// Table 13: a type that no direction has.
+pub fn logout_request() -> Vec<u8> {
+    filled(&[("BABA0800020000000000", 10)])
+}
+
 #[cfg(test)]
 mod tests {
     use super::*;
@@ -144,9 +257,20 @@ mod tests {
             least_acknowledgment(),
             booked_acknowledgment(),
             execution(),
+            login(),
+            options_login(),
+            login_response(),
+            login_response_of_the_notes(),
+            logout_with_its_length(),
+            client_heartbeat(),
+            server_heartbeat(),
+            replay_complete(),
+            logout_request(),
         ] {
             assert_eq!(message.len(), usize::from(message[2]) + 2);
         }
+        assert_eq!(logout().len(), usize::from(logout()[2]) + 2 + 4);
+        assert_eq!(options_login().len(), 63);
         assert_eq!(new_order().len(), 76);
         assert_eq!(new_order_of_the_notes().len(), 76);
         assert_eq!(cancel().len(), 36);

@@ -9,6 +9,7 @@ mod number;
 mod outside;
 mod read;
 pub mod sample;
+pub mod session;
 mod table;
 mod text;
 mod write;
@@ -24,6 +25,7 @@ pub fn all() -> String {
     outside::ask(&mut lines);
     read::ask(&mut lines);
     write::ask(&mut lines);
+    session::ask(&mut lines);
     let mut output = String::new();
     for line in lines {
         output.push_str(&line);
@@ -46,7 +48,7 @@ mod tests {
     #[test]
     fn plain_text_of_a_fair_size() {
         let questions = all();
-        assert!(questions.len() < 4_000_000);
+        assert!(questions.len() < 9_000_000);
         for byte in questions.bytes() {
             assert!(byte == b'\n' || byte == b'\t' || (32..=126).contains(&byte));
         }
@@ -90,8 +92,8 @@ mod tests {
             ("year", "?"),
             ("due", "0 1 ?"),
             ("silent", "0 1 ?"),
-            ("read", "0 1 2 3 4 5 6 7 8 9 10 ?"),
-            ("write", "0 4 5 7 8 9 10 12 13 ?"),
+            ("read", "0 1 2 3 4 5 6 7 8 9 10 11 ?"),
+            ("write", "0 4 5 7 8 9 10 11 12 13 ?"),
         ] {
             for first in expected.split(' ') {
                 let pair = format!("{} {}", call, first);

@@ -2,6 +2,7 @@
 
 pub mod calendar;
 pub mod frame;
+pub mod groups;
 pub mod kinds;
 pub mod layout;
 pub mod number;
@@ -9,6 +10,7 @@ pub mod price;
 pub mod pulse;
 pub mod read;
 pub mod record;
+pub mod session;
 pub mod table;
 pub mod write;
 
@@ -23,7 +25,7 @@ pub enum Refusal {
     Partial = 3,
     /// The direction has no such type.
     Type = 4,
-    /// The unit is not one that the message may carry.
+    /// The unit or the number is not one that the message may carry.
     Unit = 5,
     /// The message is not as long as its counts and fields make it.
     Total = 6,
@@ -35,6 +37,8 @@ pub enum Refusal {
     Missing = 9,
     /// A value that its field does not take.
     Value = 10,
+    /// A unit pair or a group of a login breaks a rule of its own.
+    Group = 11,
     /// A place of a record that its message does not use is not zero.
     Unused = 12,
     /// The buffer is too short for the result.

@@ -127,6 +127,18 @@ module _ {S : Type 0} (change : Entry → S → S) (message count : ℕ) (bits :
   bits-end j i x value st last h l v e z w =
       sym (byte-done count bits (λ (k : ℕ). change (entryAt message k)) j i st h l (sym (e ∙ ap (λ (y : ℕ). y / 2 ^ i) v) ∙ z)) ∙ w
 
+  -- its end where all eight were looked at
+  pub bits-all : (j i : ℕ) (st last : S) → 8 ≤ i → over (8 - i) (8 * j + i) st ≡ last → st ≡ last
+  unfolding walk
+  bits-all j i st last h w =
+      let n : 8 - i ≡ 0 = omega arith in
+      ap (λ (m : ℕ). over m (8 * j + i) st) (sym n) ∙ w
+
+  -- a byte without a set bit leaves the state
+  pub byte-clear : (j value : ℕ) (st : S) → j < count → value ≡ getD bits j 0 → value ≡ 0 → st ≡ over 8 (8 * j) st
+  byte-clear j value st h v z =
+      bits-end j 0 value value st (over 8 (8 * j) st) h (omega arith) v (first-bit value) z (ap (λ (k : ℕ). over 8 k st) (add-zero (8 * j)))
+
   -- a turn of the loop over the bitfield bytes
   pub byte-turn : (j : ℕ) (st st′ last : S) → j < 15 → st′ ≡ over 8 (8 * j) st → over (120 - 8 * j) (8 * j) st ≡ last → over (120 - 8 * (j + 1)) (8 * (j + 1)) st′ ≡ last
   byte-turn j st st′ last h s w =

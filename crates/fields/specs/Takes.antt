@@ -18,7 +18,7 @@ use Rattle.fields.specs.Slots.{zeros, Slot, slot, widthOf, width, takes,
 use Rattle.fields.specs.SlotLaws.{length-zeros}
 use Rattle.fields.specs.Places.{slotsFrom}
 use Rattle.fields.specs.Walk.{pick, walk, Taking, takeEntry}
-use Rattle.fields.specs.WalkLaws.{walk-slots}
+use Rattle.fields.specs.WalkLaws.{walk-slots, and-move}
 use Rattle.fields.specs.Dictionaries.{before, Placed}
 
 -- what holds after the slots ss from place k on were taken: from the state st to the state r
@@ -92,11 +92,6 @@ module _ (entry : ℕ → Entry) (size : ℕ) (ok : Placed entry size) (m : List
         t .layout-is done z (omega arith) (l ∙ sym b) f (omega arith)
         ∙ ap (λ (i : ℕ). done ++ (spread ss (drop (st .at) m) ++ zeros i)) n;
   }
-
-  and-move : (a b c : Bool) → (a && (b && c)) ≡ ((b && a) && c)
-  and-move a true c = refl
-  and-move true false c = refl
-  and-move false false c = refl
 
   -- a selected field, where the message has its bytes
   module _ (k : ℕ) (small : k < 120) (w : ℕ) (kd : Kind) (p : ℕ) (ss : List Slot) (st r : Taking) (q : Field w kd p ≡ entry k) where

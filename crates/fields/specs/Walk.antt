@@ -2,7 +2,7 @@
 -- taking a message's fields, looking at a record's, giving them to a message. Definitions alone. Assumes nothing.
 use Prim.Native.Nat.{ℕ, zero, suc, _+_}
 use mathlib.Core.Bool.{Bool, true, false, cond, _&&_}
-use mathlib.Core.List.{List, [], _∷_}
+use mathlib.Core.List.{List}
 use lib.Dec.{leb}
 use lib.ListN.{length, take, drop}
 use Rattle.kinds.specs.declared.Kind.{Kind}
@@ -10,6 +10,7 @@ use Rattle.kinds.specs.Kinds.{agreesOf}
 use Rattle.numbers.specs.Numbers.{patched}
 use Rattle.dictionary.specs.declared.Entry.{Entry}
 use Rattle.dictionary.specs.declared.Entry.the-variants.{Refused, Field}
+use Rattle.fields.specs.Slots.{zeros}
 
 abbrev pub pick : {S : Type 0} → Bool → S → S → S
 pick true a b = a
@@ -41,26 +42,21 @@ takeEntry m (Field w k p) st = takeField m w k p st
 
 -- ---- looking: a record's selected fields
 
--- their bytes in all, the sum of these bytes as numbers, whether all agree and whether a bit is bad
+-- their bytes in all, whether all agree and whether a bit is bad, and the layout with the fields that were looked at cleared
 pub record Looking : Type 0 where
   pub total : ℕ
-  pub weight : ℕ
   pub agree : Bool
   pub bad : Bool
+  pub rest : List ℕ
 
--- the sum of bytes as numbers
-abbrev pub weightOf : List ℕ → ℕ
-weightOf [] = 0
-weightOf (b ∷ bs) = b + weightOf bs
-
-unfoldable pub lookEntry : List ℕ → Entry → Looking → Looking
-lookEntry v Refused st = record { total = st .total; weight = st .weight; agree = st .agree; bad = true }
-lookEntry v (Field w k p) st =
+unfoldable pub lookEntry : Entry → Looking → Looking
+lookEntry Refused st = record { total = st .total; agree = st .agree; bad = true; rest = st .rest }
+lookEntry (Field w k p) st =
     record {
       total = st .total + w;
-      weight = st .weight + weightOf (take w (drop p v));
-      agree = agreesOf k (take w (drop p v)) && st .agree;
+      agree = agreesOf k (take w (drop p (st .rest))) && st .agree;
       bad = st .bad;
+      rest = patched (st .rest) p (zeros w);
     }
 
 -- ---- giving: a layout's selected fields into a message

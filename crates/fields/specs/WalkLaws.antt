@@ -1,6 +1,6 @@
 -- What is true of a walk over the places, whatever its state. Assumes nothing.
 use mathlib.Core.Path.{_≡_, refl, sym, ap, _∙_, subst}
-use mathlib.Core.Bool.{Bool, true, false}
+use mathlib.Core.Bool.{Bool, true, false, _&&_}
 use Prim.Native.Nat.{ℕ, zero, suc, _+_, _≤_, _<_}
 use native.Mathlib.Nat.{add-zero, add-suc, suc-add, zero-add}
 use native.Mathlib.Omega.{arith}
@@ -32,6 +32,12 @@ module _ {S : Type 0} (selected : ℕ → Bool) (change : ℕ → S → S) where
   pub walk-one : (n k : ℕ) (st : S) → walk selected change (suc n) k st ≡ walk selected change n (suc k) (pick (selected k) (change k st) st)
   unfolding walk
   walk-one n k st = refl
+
+-- a walk's test of one slot more moves to the front of those of the others
+pub and-move : (a b c : Bool) → (a && (b && c)) ≡ ((b && a) && c)
+and-move a true c = refl
+and-move true false c = refl
+and-move false false c = refl
 
 -- a walk and the slots that it passes go together: what holds of no slot, and of one slot more in front, holds of them all
 pub walk-slots : {S : Type 0} (selected : ℕ → Bool) (entry : ℕ → Entry) (change : Entry → S → S) (R : List Slot → ℕ → S → S → Type 0)

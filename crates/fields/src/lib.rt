@@ -1,11 +1,11 @@
 // The optional block over any dictionary: its definitions and laws (specs/), and the moves of bytes that it needs.
 ghost use mathlib.Core.Path.{_≡_};
 ghost use mathlib.Core.Bool.{_&&_};
-ghost use Prim.Native.Nat.{_*_, _≤_, _<_};
+ghost use Prim.Native.Nat.{_≤_, _<_};
 ghost use lib.ListN.{length, take};
 ghost use Rattle.numbers.specs.Numbers.{patched};
 ghost use Rattle.fields.specs.Places.{selectedAt, hasRequired};
-ghost use Rattle.fields.specs.Walk.{weightOf};
+ghost use Rattle.fields.specs.Slots.{zeros};
 
 // Whether both hold.
 pub fn both(a: bool, b: bool) -> bool
@@ -34,24 +34,36 @@ pub fn copy_front(from: &[u8], n: usize, to: &mut [u8])
     copy(&from[0..n], to);
 }
 
-fn wide(x: u8) -> u64
-    ensures { λ r. ⌜ (r ≡ x) × (r ≤ 255) ⌝ }
+// A field's bytes into the front of a lent tail, through a local that overlaps neither: two moves where the width is known.
+pub fn move_field(from: &[u8], to: &mut [u8])
+    requires { ⌜ (length (now from) ≤ length (now to)) × (length (now from) ≤ 154) ⌝ }
+    ensures { λ _. ⌜ now (to .exit) ≡ patched (now (to .entry)) 0 (now (from .entry)) ⌝ }
 {
-    x as u64
+    let n = from.len();
+    let mut held = [0u8; 154];
+    copy(from, &mut held);
+    copy_front(&held, n, to);
 }
 
-// The sum of bytes as numbers: zero exactly where all of them are.
-pub fn weigh(s: &[u8]) -> u64
-    requires { ⌜ length (now s) ≤ 65536 ⌝ }
-    ensures { λ r. ⌜ (r ≡ weightOf (now (s .entry))) × (r ≤ 255 * length (now (s .entry))) ⌝ }
+// A full layout into the front of a lent tail, in two parts that each are a few moves.
+pub fn copy_layout(from: &[u8], to: &mut [u8])
+    requires { ⌜ (length (now from) ≡ 154) × (154 ≤ length (now to)) ⌝ }
+    ensures { λ _. ⌜ now (to .exit) ≡ patched (now (to .entry)) 0 (now (from .entry)) ⌝ }
 {
-    let mut sum: u64 = 0;
+    copy(&from[0..128], to);
+    copy(&from[128..154], &mut to[128..]);
+}
+
+// Zeros into the front of a lent tail.
+pub fn clear(n: usize, to: &mut [u8])
+    requires { ⌜ n ≤ length (now to) ⌝ }
+    ensures { λ _. ⌜ now (to .exit) ≡ patched (now (to .entry)) 0 (zeros n) ⌝ }
+{
     let mut i: usize = 0;
-    while i < s.len() {
-        sum += wide(s[i]);
+    while i < n {
+        to[i] = 0;
         i += 1;
     }
-    sum
 }
 
 // Whether place k of 120 is selected.

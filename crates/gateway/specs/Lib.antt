@@ -1,4 +1,2 @@
 pub mod TableBytes
 pub mod TableBytesLaws
-pub mod RecordCalls
-pub mod RecordCallLaws

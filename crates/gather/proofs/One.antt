@@ -11,7 +11,8 @@ use Rattle.kinds.specs.Kinds.{agreesOf}
 use Rattle.numbers.specs.Numbers.{patched}
 use Rattle.dictionary.specs.declared.Entry.{Entry}
 use Rattle.dictionary.specs.declared.Entry.the-variants.{Field}
-use Rattle.fields.specs.Walk.{pick, weightOf, Looking, lookEntry, Giving, giveField}
+use Rattle.fields.specs.Slots.{zeros}
+use Rattle.fields.specs.Walk.{pick, Looking, lookEntry, Giving, giveField}
 
 -- ---- a field, which the code has as the part from p to p + w of the layout v
 
@@ -22,14 +23,14 @@ module _ (v : List ℕ) (w p : ℕ) where
   part-is : part ≡ take w (drop p v)
   part-is = let n : p + w - p ≡ w = omega arith in ap (λ (i : ℕ). take i (drop p v)) n
 
-  -- looked at
-  pub looked-is : (k : Kind) (st : Looking) {x : ℕ} {a : Bool} → x ≡ weightOf part → a ≡ (agreesOf k part && st .agree)
-      → _≡_ {A = Looking} (record { total = st .total + w; weight = st .weight + x; agree = a; bad = st .bad }) (lookEntry v (Field w k p) st)
+  -- looked at, and cleared there
+  pub looked-is : (k : Kind) (total : ℕ) (agree bad : Bool) {a : Bool} {l : List ℕ} → a ≡ (agreesOf k part && agree) → l ≡ patched v p (zeros w)
+      → _≡_ {A = Looking} (record { total = total + w; agree = a; bad = bad; rest = l }) (lookEntry (Field w k p) (record { total = total; agree = agree; bad = bad; rest = v }))
   unfolding lookEntry
-  looked-is k st {x} {a} e f =
-      ap₂ (λ (y : ℕ) (b : Bool). record { total = st .total + w; weight = st .weight + y; agree = b; bad = st .bad })
-      (e ∙ ap weightOf part-is)
-      (f ∙ ap (λ (l : List ℕ). agreesOf k l && st .agree) part-is)
+  looked-is k total agree bad e f =
+      ap₂ (λ (b : Bool) (x : List ℕ). record { total = total + w; agree = b; bad = bad; rest = x })
+      (e ∙ ap (λ (x : List ℕ). agreesOf k x && agree) part-is)
+      f
 
   -- given, where the message has room for it
   pub given-is : (st : Giving) {l : List ℕ} → st .at + w ≤ length (st .buffer) → l ≡ patched (st .buffer) (st .at) part

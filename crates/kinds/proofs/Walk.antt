@@ -1,7 +1,7 @@
 -- One more byte of a walk over a field, and the end of the walk: what is left of the list is its next byte and the rest, and each definition computes there.
 -- Assumes nothing.
 use mathlib.Core.Path.{_≡_, refl, sym, ap, _∙_}
-use mathlib.Core.Bool.{Bool, true, false}
+use mathlib.Core.Bool.{Bool, true, false, _&&_}
 use mathlib.Core.List.{List, [], _∷_}
 use Prim.Native.Nat.{ℕ, _+_, _-_, _≤_, _<_}
 use native.Mathlib.Numerals.{add-one}
@@ -31,6 +31,22 @@ module _ (s : List ℕ) (i : ℕ) (h : i < length s) where
 
     pub text-more : (getD s i 0 ≡ 0 → ⊥) → allowed k (getD s i 0) ≡ true → agreesText k (drop i s) ≡ agreesText k (drop (i + 1) s)
     text-more n a = ap (agreesText k) cons-at ∙ rw (ne-eqb _ _ n, a)
+
+swap : (t r o : Bool) → (r && (t && o)) ≡ ((t && r) && o)
+swap true r o = refl
+swap false true o = refl
+swap false false o = refl
+
+-- one more byte of a walk that stops nowhere: f is the byte's test t and what g says of the rest; o is the answer so far, and q the next one
+module _ (f : List ℕ → Bool) (g : ℕ → List ℕ → Bool) (t : ℕ → Bool) (step : (b : ℕ) (bs : List ℕ) → f (b ∷ bs) ≡ (t b && g b bs)) where
+  pub goes-on : (s : List ℕ) (i : ℕ) → i < length s → (o q w : Bool) → q ≡ (t (getD s i 0) && o) → (f (drop i s) && o) ≡ w → (g (getD s i 0) (drop (i + 1) s) && q) ≡ w
+  goes-on s i h o q w n k =
+      let b = getD s i 0 in
+      let bs = drop (i + 1) s in
+      ap (λ x. g b bs && x) n
+      ∙ swap (t b) (g b bs) o
+      ∙ ap (λ x. x && o) (sym (ap f (cons-at s i h) ∙ step b bs))
+      ∙ k
 
 -- the walk has passed every byte
 pub walk-end : {A : Type 0} (f : List ℕ → A) (s : List ℕ) (i : ℕ) → length s ≤ i → f (drop i s) ≡ f []

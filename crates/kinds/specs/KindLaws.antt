@@ -1,13 +1,16 @@
 -- What is true of the data kinds. Assumes nothing.
-use mathlib.Core.Path.{_≡_, refl}
-use mathlib.Core.Bool.{Bool, true, false, cond, not, _&&_, false≢true, and-eq-true-iff}
+use mathlib.Core.Path.{_≡_, refl, sym, ap, _∙_}
+use mathlib.Core.Bool.{Bool, true, false, cond, not, _&&_, _||_, false≢true, and-eq-true-iff}
 use mathlib.Core.List.{List, [], _∷_}
-use Prim.Native.Nat.{ℕ}
+use Prim.Native.Nat.{ℕ, _<_}
+use native.Mathlib.Nat.{not-suc-le-zero}
+use native.Mathlib.Omega.{arith}
 use lib.Dec.{eqb}
-use borrow.Author.Tests.{not-true}
+use lib.ListN.{length, getD}
+use borrow.Author.Tests.{not-true, eqb-true, eq-eqb, ne-eqb}
 use Rattle.kinds.specs.declared.Kind.{Kind}
 use Rattle.kinds.specs.declared.Kind.the-variants.{Letters, Alphanumeric, Text, Identifier, Binary, Price}
-use Rattle.kinds.specs.Kinds.{allNul, agreesText, agreesOf, agreesFilledOf}
+use Rattle.kinds.specs.Kinds.{allowed, allNul, allAllowed, agreesText, agreesOf, agreesFilledOf, follows, steady}
 
 first-holds : (t u v : Bool) → t && u ≡ true → cond t u v ≡ true
 first-holds true u v h = h
@@ -33,3 +36,84 @@ filled-agrees k bs h = and-eq-true-iff (not (allNul bs)) (agreesOf k bs) .0 h .1
 -- a field that agrees and is not blank is not blank
 pub filled-not-blank : (k : Kind) (bs : List ℕ) → agreesFilledOf k bs ≡ true → allNul bs ≡ false
 filled-not-blank k bs h = not-true (allNul bs) (and-eq-true-iff (not (allNul bs)) (agreesOf k bs) .0 h .0)
+
+-- where NUL is not allowed, a field all of whose bytes are allowed agrees as a text
+text-of-allowed : (k : Kind) → allowed k 0 ≡ false → (bs : List ℕ) → allAllowed k bs ≡ true → agreesText k bs ≡ true
+text-of-allowed k n [] h = refl
+text-of-allowed k n (b ∷ bs) h =
+    let p = and-eq-true-iff (allowed k b) (allAllowed k bs) .0 h in
+    rw (ne-eqb b 0 (λ e. false≢true (sym n ∙ ap (allowed k) (sym e) ∙ p .0)), p .0) (text-of-allowed k n bs (p .1))
+
+-- where a kind takes any byte, all bytes of any field are allowed
+allowed-of-any : (k : Kind) → ((b : ℕ) → allowed k b ≡ true) → (bs : List ℕ) → allAllowed k bs ≡ true
+allowed-of-any k n [] = refl
+allowed-of-any k n (b ∷ bs) = rw (n b) (allowed-of-any k n bs)
+
+-- a field all of whose bytes are allowed agrees with its kind
+pub allowed-agrees : (k : Kind) (bs : List ℕ) → allAllowed k bs ≡ true → agreesOf k bs ≡ true
+allowed-agrees Letters bs h = text-of-allowed Letters refl bs h
+allowed-agrees Alphanumeric bs h = text-of-allowed Alphanumeric refl bs h
+allowed-agrees Text bs h = text-of-allowed Text refl bs h
+allowed-agrees Identifier bs h = text-of-allowed Identifier refl bs h
+allowed-agrees Binary bs h = refl
+allowed-agrees Price bs h = refl
+
+-- a field with a byte that is not allowed is of a text kind
+pub other-is-text : (k : Kind) (bs : List ℕ) → allAllowed k bs ≡ false → agreesOf k bs ≡ agreesText k bs
+other-is-text Letters bs h = refl
+other-is-text Alphanumeric bs h = refl
+other-is-text Text bs h = refl
+other-is-text Identifier bs h = refl
+other-is-text Binary bs h = absurd (false≢true (sym h ∙ allowed-of-any Binary (λ b. refl) bs))
+other-is-text Price bs h = absurd (false≢true (sym h ∙ allowed-of-any Price (λ b. refl) bs))
+
+-- after a NUL only NUL follows
+pub steady-nul : (bs : List ℕ) → steady 0 bs ≡ allNul bs
+steady-nul [] = refl
+steady-nul (b ∷ bs) = go (eqb b 0) refl (steady-nul bs)
+  where
+    go : (t : Bool) → eqb b 0 ≡ t → steady 0 bs ≡ allNul bs → steady 0 (b ∷ bs) ≡ allNul (b ∷ bs)
+    go true e h = rw (eqb-true b 0 e) h
+    go false e h = rw e
+
+-- after a byte that is not NUL each byte follows the one before it exactly where the bytes agree with an identifier's kind
+pub steady-text : (p : ℕ) → eqb p 0 ≡ false → (bs : List ℕ) → steady p bs ≡ agreesText Identifier bs
+steady-text p n [] = refl
+steady-text p n (b ∷ bs) = go (eqb b 0) refl (λ e. steady-text b e bs)
+  where
+    go : (t : Bool) → eqb b 0 ≡ t → (eqb b 0 ≡ false → steady b bs ≡ agreesText Identifier bs) → steady p (b ∷ bs) ≡ agreesText Identifier (b ∷ bs)
+    go true e h = rw (eqb-true b 0 e) (steady-nul bs)
+    go false e h = rw (e, n, h e)
+
+-- an identifier that begins with NUL is blank or against its kind
+pub first-nul : (bs : List ℕ) → 0 < length bs → getD bs 0 0 ≡ 0 → agreesFilledOf Identifier bs ≡ false
+first-nul [] h e = absurd (not-suc-le-zero h)
+first-nul (b ∷ bs) h e = rw (eq-eqb b 0 e) (by (allNul bs))
+  where
+    by : (x : Bool) → (not x && x) ≡ false
+    by true = refl
+    by false = refl
+
+-- a field of one byte
+one-by : (c d : Bool) → cond c true (d && true) ≡ (c || d)
+one-by true d = refl
+one-by false true = refl
+one-by false false = refl
+
+or-any : (c : Bool) → true ≡ (c || true)
+or-any true = refl
+or-any false = refl
+
+pub one-agrees : (k : Kind) (b : ℕ) → agreesOf k (b ∷ []) ≡ (eqb b 0 || allowed k b)
+one-agrees Letters b = one-by (eqb b 0) (allowed Letters b)
+one-agrees Alphanumeric b = one-by (eqb b 0) (allowed Alphanumeric b)
+one-agrees Text b = one-by (eqb b 0) (allowed Text b)
+one-agrees Identifier b = one-by (eqb b 0) (allowed Identifier b)
+one-agrees Binary b = or-any (eqb b 0)
+one-agrees Price b = or-any (eqb b 0)
+
+-- bytes that are one byte
+pub one-byte : (bs : List ℕ) → length bs ≡ 1 → bs ≡ getD bs 0 0 ∷ []
+one-byte [] e = absurd (omega (arith, e))
+one-byte (b ∷ []) e = refl
+one-byte (b ∷ c ∷ bs) e = absurd (omega (arith, e))

@@ -53,3 +53,19 @@ agreesOf Price bs = true
 -- never blank: some byte is not NUL, and the bytes agree with the kind
 abbrev pub agreesFilledOf : Kind → List ℕ → Bool
 agreesFilledOf k bs = not (allNul bs) && agreesOf k bs
+
+-- ---- the same tests as the code makes them, which never stops early
+
+-- every byte is one that the kind allows
+abbrev pub allAllowed : Kind → List ℕ → Bool
+allAllowed k [] = true
+allAllowed k (b ∷ bs) = allowed k b && allAllowed k bs
+
+-- a byte b of an identifier may stand after a byte p: NUL after any, a character after any but NUL
+abbrev pub follows : ℕ → ℕ → Bool
+follows p b = eqb b 0 || (not (eqb p 0) && allowed Identifier b)
+
+-- each byte of an identifier follows the one before it, and the first follows p
+abbrev pub steady : ℕ → List ℕ → Bool
+steady p [] = true
+steady p (b ∷ bs) = follows p b && steady b bs

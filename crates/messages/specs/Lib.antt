@@ -1,2 +1,4 @@
 pub mod Messages
+pub mod Stages
 pub mod MessageLaws
+pub mod RoundTrip

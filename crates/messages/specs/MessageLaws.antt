@@ -1,33 +1,35 @@
--- What is true of reading and writing by direction: how the refusals follow each other; what is accepted is written again as the same
--- bytes; a record that the writer takes, written and read, is the same record. Assumes nothing.
-use mathlib.Core.Path.{_≡_, refl, sym, ap, ap₂, _∙_, subst}
-use mathlib.Core.Bool.{Bool, true, false, cond}
-use mathlib.Core.List.{List, [], _∷_, _++_, append-nil}
-use Prim.Native.Nat.{ℕ, suc, _+_, _≤_, _<_}
-use native.Mathlib.Nat.{zero-add}
+-- How reading and writing by direction go on, stage by stage. Assumes nothing.
+use mathlib.Core.Path.{_≡_, refl, sym, ap, _∙_}
+use mathlib.Core.Bool.{Bool, true, false, cond, _||_}
+use mathlib.Core.List.{List}
+use Prim.Native.Nat.{ℕ, _≤_, _<_}
 use native.Mathlib.Omega.{arith}
-use lib.Dec.{eqb}
-use lib.ListN.{length, getD, take, drop, length-append}
-use borrow.Author.Tests.{eq-eqb, ne-eqb, eqb-true, eqb-false}
+use lib.Dec.{eqb, ltb}
+use lib.ListN.{length, getD}
+use borrow.Author.Tests.{eq-eqb, ne-eqb, lt-ltb, le-ltb, eqb-true}
 use Rattle.numbers.specs.Numbers.{patched}
-use Rattle.wire.specs.Header.{typeOf, totalOf}
-use Rattle.wire.specs.HeaderLaws.{Bytes, bytes-front}
+use Rattle.wire.specs.Header.{typeOf}
 use Rattle.wire.specs.Frame.{frameRefusal, framed}
-use Rattle.wire.specs.FrameLaws.{whole, framed-is, framed-length, framed-accepted, framed-again}
-use Rattle.orders.specs.Shapes.{ofMember, ofVenue}
+use Rattle.orders.specs.Shapes as orderTypes
 use Rattle.orders.specs.Orders as orders
-use Rattle.orders.specs.RoundTrip as trip
-use Rattle.orders.specs.declared.Record.{Record}
-use Rattle.orders.specs.declared.Reading.{Reading}
-use Rattle.messages.specs.Messages.{carries, readRefusal, readOf, writeRefusal, writeBuffer}
+use Rattle.records.specs.Records.{recordBytes, recordAt}
+use Rattle.logins.specs.Sessions as sessions
+use Rattle.messages.specs.Messages.{isSession, carries, sessionRecordBytes, sessionAt, ownRefusal, recordOf, readRefusal, readCall, readRecord, ownWrite, messageOf, writeCall, writeOut}
+use Rattle.messages.specs.Stages.{ownRecord, wholeRecord}
+
+pub or-yes : (a b : Bool) → a ≡ true → (a || b) ≡ true
+or-yes a b e = rw e
+
+pub or-no : (a b : Bool) → a ≡ false → (a || b) ≡ b
+or-no a b e = rw e
 
 -- ---- the directions
 
-pub from-member : (direction message : ℕ) → direction ≡ 0 → carries direction message ≡ ofMember message
+pub from-member : (direction message : ℕ) → direction ≡ 0 → carries direction message ≡ (orderTypes.ofMember message || sessions.ofMember message)
 unfolding carries
 from-member direction message e = rw (eq-eqb direction 0 e)
 
-pub from-venue : (direction message : ℕ) → (direction ≡ 0 → ⊥) → direction ≡ 1 → carries direction message ≡ ofVenue message
+pub from-venue : (direction message : ℕ) → (direction ≡ 0 → ⊥) → direction ≡ 1 → carries direction message ≡ (orderTypes.ofVenue message || sessions.ofVenue message)
 unfolding carries
 from-venue direction message n e = rw (ne-eqb direction 0 n, eq-eqb direction 1 e)
 
@@ -35,150 +37,122 @@ pub from-neither : (direction message : ℕ) → (direction ≡ 0 → ⊥) → (
 unfolding carries
 from-neither direction message n k = rw (ne-eqb direction 0 n, ne-eqb direction 1 k)
 
--- ---- reading, in stages
+-- ---- reading, where the buffer has room for any record
 
-abbrev refused : ℕ → Reading
-refused n = record { refusal = n; order = orders.blank }
+-- what a reading of the whole answers
+abbrev pub Reads : ℕ → List ℕ → List ℕ → ℕ → List ℕ → Type 0
+Reads direction s buffer n out = (n ≡ readRefusal direction s) × (out ≡ wholeRecord direction s buffer)
 
--- where the refusal is known to be n
-refused-is : (direction n : ℕ) (s : List ℕ) → readRefusal direction s ≡ n → (n ≡ 0 → ⊥) → readOf direction s ≡ refused n
-unfolding readOf
-refused-is direction n s e k = rw (e, ne-eqb n 0 k)
+refused : (direction : ℕ) (s buffer : List ℕ) {n : ℕ} → n ≡ readRefusal direction s → (n ≡ 0 → ⊥) → Reads direction s buffer n buffer
+unfolding wholeRecord
+refused direction s buffer e k = (e, rw (ne-eqb (readRefusal direction s) 0 (λ z. k (e ∙ z))))
 
-pub frame-stops : (direction n : ℕ) (s : List ℕ) → n ≡ frameRefusal s → (n ≡ 0 → ⊥) → refused n ≡ readOf direction s
+pub frame-stops : (direction : ℕ) (s buffer : List ℕ) {n : ℕ} → n ≡ frameRefusal s → (n ≡ 0 → ⊥) → Reads direction s buffer n buffer
 unfolding readRefusal
-frame-stops direction n s e k =
-    let z : readRefusal direction s ≡ frameRefusal s = rw (ne-eqb (frameRefusal s) 0 (λ x. k (e ∙ x))) in
-    sym (refused-is direction n s (z ∙ sym e) k)
+frame-stops direction s buffer {n} e k =
+    let q : n ≡ readRefusal direction s = rw (ne-eqb (frameRefusal s) 0 (λ z. k (e ∙ z))) e in
+    refused direction s buffer q k
 
-module _ (direction : ℕ) (s : List ℕ) (z : frameRefusal s ≡ 0) where
-  pub type-stops : carries direction (typeOf (framed s)) ≡ false → refused 4 ≡ readOf direction s
+module _ (direction : ℕ) (s buffer : List ℕ) (z : frameRefusal s ≡ 0) where
+  pub type-stops : carries direction (typeOf (framed s)) ≡ false → Reads direction s buffer 4 buffer
   unfolding readRefusal
-  type-stops e = sym (refused-is direction 4 s (rw (eq-eqb (frameRefusal s) 0 z, e)) (λ x. omega (arith, x)))
+  type-stops e =
+      let q : 4 ≡ readRefusal direction s = rw (eq-eqb (frameRefusal s) 0 z, e) in
+      refused direction s buffer q (λ x. omega (arith, x))
 
-  pub same-refusal : carries direction (typeOf (framed s)) ≡ true → readRefusal direction s ≡ orders.readRefusal (framed s)
-  unfolding readRefusal
-  same-refusal e = rw (eq-eqb (frameRefusal s) 0 z, e)
+  module _ (e : carries direction (typeOf (framed s)) ≡ true) where
+    pub own-refusal : readRefusal direction s ≡ ownRefusal (framed s)
+    unfolding readRefusal
+    own-refusal = rw (eq-eqb (frameRefusal s) 0 z, e)
 
-  pub goes-on : carries direction (typeOf (framed s)) ≡ true → orders.readOf (framed s) ≡ readOf direction s
-  unfolding readOf orders.readOf
-  goes-on e = rw (same-refusal e)
+    pub session-reads : isSession (typeOf (framed s)) ≡ true → {n : ℕ} {out : List ℕ}
+        → (n ≡ sessions.readRefusal (framed s)) × (out ≡ ownRecord (sessions.readRefusal (framed s)) (sessionRecordBytes (sessions.recordOf (framed s))) buffer) → Reads direction s buffer n out
+    unfolding wholeRecord ownRefusal recordOf
+    session-reads b h =
+        let q : readRefusal direction s ≡ sessions.readRefusal (framed s) = own-refusal ∙ rw b in
+        (h .0 ∙ sym q, h .1 ∙ rw (q, b))
 
--- ---- writing, in stages
+    pub order-reads : isSession (typeOf (framed s)) ≡ false → {n : ℕ} {out : List ℕ}
+        → (n ≡ orders.readRefusal (framed s)) × (out ≡ ownRecord (orders.readRefusal (framed s)) (recordBytes (orders.recordOf (framed s))) buffer) → Reads direction s buffer n out
+    unfolding wholeRecord ownRefusal recordOf
+    order-reads b h =
+        let q : readRefusal direction s ≡ orders.readRefusal (framed s) = own-refusal ∙ rw b in
+        (h .0 ∙ sym q, h .1 ∙ rw (q, b))
 
-pub write-stops : (direction room : ℕ) (r : Record) → carries direction (r .message) ≡ false → 4 ≡ writeRefusal direction r room
-unfolding writeRefusal
-write-stops direction room r e = rw e
+-- ---- reading into any buffer
 
-pub write-goes : (direction room : ℕ) (r : Record) → carries direction (r .message) ≡ true → orders.writeRefusal r room ≡ writeRefusal direction r room
-unfolding writeRefusal
-write-goes direction room r e = rw e
+-- what a reading answers
+abbrev pub Answers : ℕ → List ℕ → List ℕ → ℕ → List ℕ → Type 0
+Answers direction s buffer n out = (n ≡ readCall direction s (length buffer)) × (out ≡ readRecord direction s buffer)
 
--- a refused call leaves the buffer as it was
-pub write-keeps : (direction : ℕ) (r : Record) (out : List ℕ) {n : ℕ} → n ≡ writeRefusal direction r (length out) → (n ≡ 0 → ⊥) → out ≡ writeBuffer direction r out
-unfolding writeBuffer
-write-keeps direction r out e k = rw (ne-eqb (writeRefusal direction r (length out)) 0 (λ z. k (e ∙ z)))
+module _ (direction : ℕ) (s buffer : List ℕ) where
+  kept : {n : ℕ} → n ≡ readCall direction s (length buffer) → (n ≡ 0 → ⊥) → Answers direction s buffer n buffer
+  unfolding readRecord
+  kept e k = (e, rw (ne-eqb (readCall direction s (length buffer)) 0 (λ z. k (e ∙ z))))
 
-pub write-same : (direction : ℕ) (r : Record) (out : List ℕ) → carries direction (r .message) ≡ true → orders.writeBuffer r out ≡ writeBuffer direction r out
-unfolding writeBuffer orders.writeBuffer
-write-same direction r out e = rw (write-goes direction (length out) r e)
-
--- ---- what is accepted
-
-pub record Accepted (direction : ℕ) (s : List ℕ) : Type 0 where
-  pub frames : frameRefusal s ≡ 0
-  pub carried : carries direction (typeOf (framed s)) ≡ true
-  pub reads : orders.readRefusal (framed s) ≡ 0
-
-pub accepted : (direction : ℕ) (s : List ℕ) → readRefusal direction s ≡ 0 → Accepted direction s
-unfolding readRefusal
-accepted direction s z = by (eqb (frameRefusal s) 0) refl (carries direction (typeOf (framed s))) refl z
-  where
-    by : (b : Bool) → eqb (frameRefusal s) 0 ≡ b → (k : Bool) → carries direction (typeOf (framed s)) ≡ k
-        → cond b (cond k (orders.readRefusal (framed s)) 4) (frameRefusal s) ≡ 0 → Accepted direction s
-    by true p true q y = record { frames = eqb-true (frameRefusal s) 0 p; carried = q; reads = y }
-    by true p false q y = absurd (omega (arith, y))
-    by false p k q y = absurd (eqb-false (frameRefusal s) 0 p y)
-
-pub read-is : (direction : ℕ) (s : List ℕ) → readRefusal direction s ≡ 0 → readOf direction s ≡ record { refusal = 0; order = orders.recordOf (framed s) }
-unfolding readOf
-read-is direction s z = rw (eq-eqb (readRefusal direction s) 0 z)
-
--- ---- what is accepted is written again as the same bytes
-
-module _ (direction : ℕ) (s : List ℕ) (bytes : Bytes s) (z : readRefusal direction s ≡ 0) where
-  alone : frameRefusal (framed s) ≡ 0
-  alone = ap frameRefusal (sym (append-nil (framed s))) ∙ framed-accepted s [] (accepted direction s z .frames)
-
-  same-part : framed (framed s) ≡ framed s
-  same-part = ap framed (sym (append-nil (framed s))) ∙ framed-again s [] (accepted direction s z .frames)
-
-  exact : length (framed s) ≡ totalOf (framed s)
-  exact = ap length (sym same-part) ∙ framed-length (framed s) alone
-
-  part-bytes : Bytes (framed s)
-  part-bytes = subst Bytes (sym (framed-is s (accepted direction s z .frames))) (bytes-front (totalOf s) s bytes)
-
-  type-kept : orders.recordOf (framed s) .message ≡ typeOf (framed s)
-  unfolding orders.recordOf
-  type-kept = refl
-
-  -- the writer takes the record, if it has room for the message
-  pub taken-again : (room : ℕ) → length (framed s) ≤ room → writeRefusal direction (readOf direction s .order) room ≡ 0
-  taken-again room h =
-      let a = accepted direction s z in
-      ap (λ (x : Reading). writeRefusal direction (x .order) room) (read-is direction s z)
-      ∙ sym (write-goes direction room (orders.recordOf (framed s)) (ap (carries direction) type-kept ∙ a .carried))
-      ∙ trip.taken-again (framed s) part-bytes (whole (framed s) alone) exact (a .reads) room h
-
-  -- WRITTEN AGAIN: into any buffer that has room, it writes the bytes that were read, and leaves the rest of the buffer as it was
-  pub written-again : (out : List ℕ) → length (framed s) ≤ length out → writeBuffer direction (readOf direction s .order) out ≡ patched out 0 (framed s)
-  unfolding writeBuffer
-  written-again out h =
-      let a = accepted direction s z in
-      ap (λ (b : Bool). cond b (patched out 0 (orders.orderBytes (readOf direction s .order))) out) (eq-eqb _ 0 (taken-again (length out) h))
-      ∙ ap (λ (x : Reading). patched out 0 (orders.orderBytes (x .order))) (read-is direction s z)
-      ∙ ap (patched out 0) (trip.written-again (framed s) part-bytes (whole (framed s) alone) exact (a .reads))
-
--- ---- a record that the writer takes, written and read, is the same record
-
-module _ (direction : ℕ) (r : Record) (out : List ℕ) (ok : trip.Sound r) (z : writeRefusal direction r (length out) ≡ 0) where
-  carried : carries direction (r .message) ≡ true
-  unfolding writeRefusal
-  carried = by (carries direction (r .message)) refl z
+  same-call : 439 ≤ length buffer → readCall direction s (length buffer) ≡ readRefusal direction s
+  unfolding readCall
+  same-call h = rw (le-ltb (length buffer) 439 h) (by (eqb (readRefusal direction s) 0) refl)
     where
-      by : (k : Bool) → carries direction (r .message) ≡ k → cond k (orders.writeRefusal r (length out)) 4 ≡ 0 → carries direction (r .message) ≡ true
-      by true q y = q
-      by false q y = absurd (omega (arith, y))
+      by : (b : Bool) → eqb (readRefusal direction s) 0 ≡ b → cond b 0 (readRefusal direction s) ≡ readRefusal direction s
+      by true q = sym (eqb-true (readRefusal direction s) 0 q)
+      by false q = refl
 
-  taken : orders.writeRefusal r (length out) ≡ 0
-  taken = write-goes direction (length out) r carried ∙ z
+  pub room-reads : 439 ≤ length buffer → {n : ℕ} {out : List ℕ} → Reads direction s buffer n out → Answers direction s buffer n out
+  unfolding readRecord wholeRecord
+  room-reads h r = (r .0 ∙ sym (same-call h), r .1 ∙ rw (same-call h))
 
-  front : (t : List ℕ) → patched t 0 (orders.orderBytes r) ≡ orders.orderBytes r ++ drop (length (orders.orderBytes r)) t
-  unfolding patched
-  front t = ap (λ (n : ℕ). orders.orderBytes r ++ drop n t) (zero-add (length (orders.orderBytes r)))
+  pub short-refused : length buffer < 439 → {n : ℕ} → n ≡ readRefusal direction s → (n ≡ 0 → ⊥) → Answers direction s buffer n buffer
+  unfolding readCall
+  short-refused h {n} e k =
+      let q : n ≡ readCall direction s (length buffer) = rw (ne-eqb (readRefusal direction s) 0 (λ z. k (e ∙ z))) e in
+      kept q k
 
-  pub written-is : writeBuffer direction r out ≡ patched out 0 (orders.orderBytes r)
-  unfolding writeBuffer
-  written-is = rw (eq-eqb (writeRefusal direction r (length out)) 0 z)
+  pub short-no-room : length buffer < 439 → {n : ℕ} → n ≡ readRefusal direction s → n ≡ 0 → Answers direction s buffer 13 buffer
+  unfolding readCall
+  short-no-room h {n} e z =
+      let q : 13 ≡ readCall direction s (length buffer) = rw (eq-eqb (readRefusal direction s) 0 (sym e ∙ z), lt-ltb (length buffer) 439 h) in
+      kept q (λ x. omega (arith, x))
 
-  type-read : typeOf (orders.orderBytes r) ≡ r .message
-  unfolding orders.recordOf
-  type-read = ap (λ (x : Record). x .message) (trip.read-again r (length out) ok taken)
+-- ---- writing
 
-  -- any bytes after it play no part
-  pub read-after : (t : List ℕ) → readOf direction (orders.orderBytes r ++ t) ≡ record { refusal = 0; order = r }
-  read-after t =
-      let f = trip.framed-as-written r (length out) ok taken t in
-      let a = trip.framed-after r (length out) ok taken t in
-      let q : readRefusal direction (orders.orderBytes r ++ t) ≡ 0 =
-      same-refusal direction (orders.orderBytes r ++ t) a (ap (λ (m : List ℕ). carries direction (typeOf m)) f ∙ ap (carries direction) type-read ∙ carried)
-      ∙ ap orders.readRefusal f
-      ∙ trip.read-accepts r (length out) ok taken in
-      read-is direction (orders.orderBytes r ++ t) q
-      ∙ ap (λ (m : List ℕ). record { refusal = 0; order = orders.recordOf m }) f
-      ∙ ap (λ (x : Record). record { refusal = 0; order = x }) (trip.read-again r (length out) ok taken)
+-- what a writing answers
+abbrev pub Writes : ℕ → List ℕ → List ℕ → ℕ → List ℕ → Type 0
+Writes direction s out n out′ = (n ≡ writeCall direction s (length out)) × (out′ ≡ writeOut direction s out)
 
-  -- READ AGAIN: the buffer, whatever it held, is read as the record
-  pub read-again : readOf direction (writeBuffer direction r out) ≡ record { refusal = 0; order = r }
-  read-again = ap (readOf direction) (written-is ∙ front out) ∙ read-after (drop (length (orders.orderBytes r)) out)
+module _ (direction : ℕ) (s out : List ℕ) where
+  unwritten : {n : ℕ} → n ≡ writeCall direction s (length out) → (n ≡ 0 → ⊥) → Writes direction s out n out
+  unfolding writeOut
+  unwritten e k = (e, rw (ne-eqb (writeCall direction s (length out)) 0 (λ z. k (e ∙ z))))
+
+  pub write-short : length s < 439 → Writes direction s out 13 out
+  unfolding writeCall
+  write-short h =
+      let q : 13 ≡ writeCall direction s (length out) = rw (lt-ltb (length s) 439 h) in
+      unwritten q (λ x. omega (arith, x))
+
+  module _ (h : 439 ≤ length s) where
+    pub write-stops : carries direction (getD s 0 0) ≡ false → Writes direction s out 4 out
+    unfolding writeCall
+    write-stops e =
+        let q : 4 ≡ writeCall direction s (length out) = rw (le-ltb (length s) 439 h, e) in
+        unwritten q (λ x. omega (arith, x))
+
+    module _ (e : carries direction (getD s 0 0) ≡ true) where
+      pub own-write : (room : ℕ) → writeCall direction s room ≡ ownWrite s room
+      unfolding writeCall
+      own-write room = rw (le-ltb (length s) 439 h, e)
+
+      pub session-writes : isSession (getD s 0 0) ≡ true → {n : ℕ} {out′ : List ℕ}
+          → (n ≡ sessions.recordRefusal (sessionAt s) (length out)) × (out′ ≡ sessions.recordBuffer (sessionAt s) out) → Writes direction s out n out′
+      unfolding writeOut ownWrite messageOf sessions.writeBuffer
+      session-writes b w =
+          let q : writeCall direction s (length out) ≡ sessions.recordRefusal (sessionAt s) (length out) = own-write (length out) ∙ rw b in
+          (w .0 ∙ sym q, w .1 ∙ rw (q, b))
+
+      pub order-writes : isSession (getD s 0 0) ≡ false → {n : ℕ} {out′ : List ℕ}
+          → (n ≡ orders.writeRefusal (recordAt s) (length out)) × (out′ ≡ orders.writeBuffer (recordAt s) out) → Writes direction s out n out′
+      unfolding writeOut ownWrite messageOf orders.writeBuffer
+      order-writes b w =
+          let q : writeCall direction s (length out) ≡ orders.writeRefusal (recordAt s) (length out) = own-write (length out) ∙ rw b in
+          (w .0 ∙ sym q, w .1 ∙ rw (q, b))

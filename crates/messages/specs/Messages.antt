@@ -1,41 +1,86 @@
--- Reading and writing by direction: the first whole message of any bytes, and a record of one direction. Definitions alone. Assumes
--- nothing.
+-- Reading and writing by direction: the first whole message of any bytes, and the record of any message, which is bytes in a lent buffer.
+-- Definitions alone. Assumes nothing.
 use Prim.Native.Nat.{ℕ}
-use mathlib.Core.Bool.{Bool, false, cond}
-use mathlib.Core.List.{List}
-use lib.Dec.{eqb}
-use lib.ListN.{length}
-use Rattle.refusals.specs.Names.{unknownType}
-use Rattle.numbers.specs.Numbers.{patched}
+use mathlib.Core.Bool.{Bool, false, cond, _||_}
+use mathlib.Core.List.{List, _∷_, _++_}
+use lib.Dec.{eqb, ltb}
+use lib.ListN.{length, getD, take, drop}
+use Rattle.refusals.specs.Names.{unknownType, noRoom}
+use Rattle.numbers.specs.Numbers.{numberAt, bytesOf, patched}
 use Rattle.wire.specs.Header.{typeOf}
 use Rattle.wire.specs.Frame.{frameRefusal, framed}
-use Rattle.orders.specs.Shapes.{ofMember, ofVenue}
+use Rattle.orders.specs.Shapes as orderTypes
 use Rattle.orders.specs.Orders as orders
-use Rattle.orders.specs.declared.Record.{Record}
-use Rattle.orders.specs.declared.Reading.{Reading}
+use Rattle.records.specs.Records.{recordBytes, recordAt}
+use Rattle.logins.specs.Sessions as sessions
+use Rattle.logins.specs.declared.Record as sessionRecords
+
+-- ---- the types
+
+-- a session message's
+abbrev pub isSession : ℕ → Bool
+isSession message = sessions.ofMember message || sessions.ofVenue message
 
 -- direction 0 is from the member, 1 from the venue; any other has no types
 unfoldable pub carries : ℕ → ℕ → Bool
-carries direction message = cond (eqb direction 0) (ofMember message) (cond (eqb direction 1) (ofVenue message) false)
+carries direction message =
+    cond (eqb direction 0) (orderTypes.ofMember message || sessions.ofMember message)
+    (cond (eqb direction 1) (orderTypes.ofVenue message || sessions.ofVenue message)
+    false)
 
--- reading: 1, 2, 3; 4 by the direction; then the message's own
+-- ---- a session message's record as 439 bytes: type, unit, number, the 433 bytes of the body
+
+unfoldable pub sessionRecordBytes : sessionRecords.Record → List ℕ
+sessionRecordBytes r = (r .message ∷ r .unit ∷ bytesOf 4 (r .number)) ++ r .body
+
+unfoldable pub sessionAt : List ℕ → sessionRecords.Record
+sessionAt s = record { message = getD s 0 0; unit = getD s 1 0; number = numberAt 4 2 s; body = take 433 (drop 6 s) }
+
+-- ---- reading
+
+-- a message's own refusals
+unfoldable pub ownRefusal : List ℕ → ℕ
+ownRefusal m = cond (isSession (typeOf m)) (sessions.readRefusal m) (orders.readRefusal m)
+
+-- its record's bytes: 439 of a session message, 235 of an order
+unfoldable pub recordOf : List ℕ → List ℕ
+recordOf m = cond (isSession (typeOf m)) (sessionRecordBytes (sessions.recordOf m)) (recordBytes (orders.recordOf m))
+
+-- 1, 2, 3; 4 by the direction; then the message's own
 unfoldable pub readRefusal : ℕ → List ℕ → ℕ
 readRefusal direction s =
     cond (eqb (frameRefusal s) 0)
-    (cond (carries direction (typeOf (framed s))) (orders.readRefusal (framed s)) unknownType)
+    (cond (carries direction (typeOf (framed s))) (ownRefusal (framed s)) unknownType)
     (frameRefusal s)
 
--- 0 and the record, or the refusal and the blank record
-unfoldable pub readOf : ℕ → List ℕ → Reading
-readOf direction s =
-    orders.pickReading (eqb (readRefusal direction s) 0)
-    (record { refusal = 0; order = orders.recordOf (framed s) })
-    (record { refusal = readRefusal direction s; order = orders.blank })
+-- then 13 if the record's buffer is under 439 bytes
+unfoldable pub readCall : ℕ → List ℕ → ℕ → ℕ
+readCall direction s room = cond (eqb (readRefusal direction s) 0) (cond (ltb room 439) noRoom 0) (readRefusal direction s)
 
--- writing: 4 by the direction; then the record's own
-unfoldable pub writeRefusal : ℕ → Record → ℕ → ℕ
-writeRefusal direction r room = cond (carries direction (r .message)) (orders.writeRefusal r room) unknownType
+-- the record's buffer after it
+unfoldable pub readRecord : ℕ → List ℕ → List ℕ → List ℕ
+readRecord direction s buffer = cond (eqb (readCall direction s (length buffer)) 0) (patched buffer 0 (recordOf (framed s))) buffer
 
--- the buffer after it
-unfoldable pub writeBuffer : ℕ → Record → List ℕ → List ℕ
-writeBuffer direction r out = cond (eqb (writeRefusal direction r (length out)) 0) (patched out 0 (orders.orderBytes r)) out
+-- ---- writing a record s
+
+-- a record's own refusals, and the bytes of its message
+unfoldable pub ownWrite : List ℕ → ℕ → ℕ
+ownWrite s room = cond (isSession (getD s 0 0)) (sessions.recordRefusal (sessionAt s) room) (orders.writeRefusal (recordAt s) room)
+
+unfoldable pub messageOf : List ℕ → List ℕ
+messageOf s = cond (isSession (getD s 0 0)) (sessions.sessionBytes (sessionAt s)) (orders.orderBytes (recordAt s))
+
+-- 13 if the record is under 439 bytes; 4 by the direction; then the record's own
+unfoldable pub writeCall : ℕ → List ℕ → ℕ → ℕ
+writeCall direction s room =
+    cond (ltb (length s) 439) noRoom
+    (cond (carries direction (getD s 0 0)) (ownWrite s room)
+    unknownType)
+
+-- the output buffer after it
+unfoldable pub writeOut : ℕ → List ℕ → List ℕ → List ℕ
+writeOut direction s out = cond (eqb (writeCall direction s (length out)) 0) (patched out 0 (messageOf s)) out
+
+-- what of a buffer is the record: its first 439 bytes, or of an order its first 235
+unfoldable pub heldIn : List ℕ → List ℕ
+heldIn s = cond (isSession (getD s 0 0)) (take 439 s) (take 235 s)

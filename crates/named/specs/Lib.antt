@@ -1,3 +1,7 @@
 pub mod Named
 pub mod NamedLaws
 pub mod OtherLaws
+pub mod LocalLaws
+pub mod FixedLaws
+pub mod SelectionLaws
+pub mod KeptLaws

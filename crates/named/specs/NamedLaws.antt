@@ -59,7 +59,7 @@ bit-is-set x bit h = by (bitSet x bit) refl
     by true e = e
     by false e = eq-eqb _ _ (added x bit h e)
 
-larger-reaches : (a b : ℕ) → b ≤ larger a b
+pub larger-reaches : (a b : ℕ) → b ≤ larger a b
 larger-reaches a b = by (leb b a) refl
   where
     by : (t : Bool) → leb b a ≡ t → b ≤ cond t a b
@@ -90,7 +90,7 @@ pub record Listed (message byte bit w p : ℕ) (k : Kind) (r : Record) : Type 0 
   pub whole : length (r .slots) ≡ 154
 
 module _ {message byte bit w p : ℕ} {k : Kind} {r : Record} (i : Listed message byte bit w p k r) where
-  set-at : (bytes : List ℕ) → length bytes ≡ w → settingOf message byte bit bytes r ≡ selecting byte bit (storing p bytes r)
+  pub set-at : (bytes : List ℕ) → length bytes ≡ w → settingOf message byte bit bytes r ≡ selecting byte bit (storing p bytes r)
   unfolding settingOf settableOf
   set-at bytes l =
       let e : settableOf message byte bit (length bytes) r ≡ found p =

@@ -1,17 +1,17 @@
 -- A number put into the front of a lent tail, and the tail back in its place: one law for every width.
 -- Assumes nothing.
-use mathlib.Core.Path.{_≡_, refl, sym, ap, _∙_}
+use mathlib.Core.Path.{_≡_, refl, sym, ap, ap₂, _∙_}
 use mathlib.Core.List.{List, [], _∷_, _++_, append-assoc, append-nil}
 use Prim.Native.Nat.{ℕ, _+_, _-_, _≤_, _<_}
 use native.Mathlib.Omega.{arith}
 use mathlib.Core.Logic.{_⊎_, inl, inr, ⊎-elim}
 use mathlib.Core.Bool.{Bool, true, false}
 use lib.Dec.{leb}
-use lib.ListN.{length, take, drop, length-drop, take-append-drop, drop-of-length-le}
+use lib.ListN.{length, take, drop, set, length-drop, take-append-drop, drop-of-length-le}
 use lib.Seq.{sets, take-all, drop-drop}
 use borrow.Author.Tests.{le-leb, lt-leb, leb-true, leb-false}
 use Rattle.numbers.specs.Numbers.{patched, putRefusal, putBuffer}
-use Rattle.numbers.specs.NumberLaws.{put-takes, put-stores, put-refuses, put-keeps, stores-are}
+use Rattle.numbers.specs.NumberLaws.{put-takes, put-stores, put-refuses, put-keeps, stores-are, patched-length, patched-join}
 
 le-by : (b : Bool) (i j : ℕ) → leb i j ≡ b → (i ≤ j) ⊎ (j < i)
 le-by true i j e = inl (leb-true i j e)
@@ -79,3 +79,24 @@ pub stored : (bs xs : List ℕ) → length bs ≤ length xs → (0 ≡ putRefusa
 stored bs xs h =
     let l : 0 + length bs ≤ length xs = omega arith in
     (sym (put-takes xs 0 bs l), stores-are bs xs h ∙ sym (put-stores xs 0 bs l))
+
+-- one part, and then the rest into the tail: the buffer holds the two in a row
+module _ (out out₁ l₁ l₂ : List ℕ) (n : ℕ) (e : length l₁ ≡ n) (room : n + length l₂ ≤ length out) (p : out₁ ≡ patched out 0 l₁) where
+  same : length out₁ ≡ length out
+  same = ap length p ∙ patched-length out 0 l₁ (omega arith)
+
+  pub tail-length : length (take (length out₁ - n) (drop n out₁)) ≡ length out - n
+  tail-length = ap length (tail-is out₁ n (omega (arith, same))) ∙ length-drop n out₁ ∙ ap (λ (k : ℕ). k - n) same
+
+  pub puts-then : {ys : List ℕ} → ys ≡ patched (take (length out₁ - n) (drop n out₁)) 0 l₂ → take n out₁ ++ (ys ++ drop (length out₁ - n) (drop n out₁)) ≡ patched out 0 (l₁ ++ l₂)
+  puts-then {ys} q =
+      let k : n ≡ 0 + length l₁ = omega arith in
+      lent-patched out₁ n l₂ (omega (arith, same)) q
+      ∙ ap₂ (λ (o : List ℕ) (i : ℕ). patched o i l₂) p k
+      ∙ patched-join out 0 l₁ (omega arith) l₂
+
+-- the first byte stored is a run of one
+pub first-stored : (c : ℕ) (out : List ℕ) → 1 ≤ length out → set out 0 c ≡ patched out 0 (c ∷ [])
+unfolding patched
+first-stored c [] h = absurd (omega (arith, h))
+first-stored c (x ∷ out) h = refl

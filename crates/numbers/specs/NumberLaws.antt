@@ -42,6 +42,14 @@ bytes-back (suc n) (b ∷ s) h k =
     let high : (b + 256 * numberAt n 1 (b ∷ s)) / 256 ≡ numberAt n 0 s = omega arith in
     ap₂ (λ (x y : ℕ). x ∷ bytesOf n y) low high ∙ ap (λ (x : List ℕ). b ∷ x) (bytes-back n s (le-of-suc-le-suc h) (λ i. k (suc i)))
 
+-- a number of bytes fits its width
+pub number-fits : (n i : ℕ) (s : List ℕ) → ((j : ℕ) → getD s j 0 < 256) → numberAt n i s < 256 ^ n
+number-fits zero i s k = omega arith
+number-fits (suc n) i s k =
+    let h : numberAt n (i + 1) s < 256 ^ n = number-fits n (i + 1) s k in
+    let b : getD s i 0 < 256 = k i in
+    rw (pow-suc 256 n) (omega arith)
+
 -- past the end there is nothing but zero
 pub number-past : (n i : ℕ) (s : List ℕ) → length s ≤ i → numberAt n i s ≡ 0
 number-past zero i s h = refl
@@ -190,3 +198,18 @@ module _ (xs : List ℕ) (a : ℕ) (bs : List ℕ) (fits : a + length bs ≤ len
   pub number-beyond : (n i : ℕ) → a + length bs ≤ i → numberAt n i (patched xs a bs) ≡ numberAt n i xs
   number-beyond zero i h = refl
   number-beyond (suc n) i h = ap₂ (λ (x y : ℕ). x + 256 * y) (patched-after i h) (number-beyond n (i + 1) (omega arith))
+
+-- ---- bytes that fill a buffer whole
+
+pub patched-whole : (z f : List ℕ) → length z ≡ length f → patched z 0 f ≡ f
+unfolding patched
+patched-whole z f e =
+    ap (λ (n : ℕ). f ++ drop n z) (zero-add (length f))
+    ∙ ap (λ (l : List ℕ). f ++ l) (drop-of-length-le z {i = length f} (omega arith))
+    ∙ append-nil f
+
+-- by a part of others
+pub patched-part : (z s : List ℕ) (w a : ℕ) {ys : List ℕ} → length z ≡ w → a + w ≤ length s → ys ≡ patched z 0 (take w (drop a s)) → ys ≡ take w (drop a s)
+patched-part z s w a l h e =
+    let d : length (drop a s) ≡ length s - a = length-drop a s in
+    e ∙ patched-whole z (take w (drop a s)) (l ∙ sym (length-take-le w (drop a s) (omega arith)))

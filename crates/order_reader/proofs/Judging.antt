@@ -29,9 +29,9 @@ module _ (message count : ℕ) (bits fixed optional : List ℕ) (t : Taken) (lay
   unfolding judgedOf blockRefusal
   judged-is e =
       e
-      ∙ ap₂ (λ (b total : Bool). cond b unlistedBit (cond (not (hasRequired message count bits)) notSelected (last total (fixedGood message fixed) (t .agree)))) (k .bad-is) (k .total-is)
+      ∙ ap₂ (λ (b total : Bool). cond b unlistedBit (cond (not (hasRequired message count bits)) notSelected (last total (fixedGood message fixed) (eqb (t .wrong) 0)))) (k .bad-is) (k .total-is)
       ∙ ap (λ (x : ℕ). cond (anyBad (slotsOf message count bits)) unlistedBit (cond (not (hasRequired message count bits)) notSelected x))
-      (last-same (eqb (sum takes (slotsOf message count bits)) (length optional)) (fixedGood message fixed) (t .agree) (agreeSent (slotsOf message count bits) optional)
+      (last-same (eqb (sum takes (slotsOf message count bits)) (length optional)) (fixedGood message fixed) (eqb (t .wrong) 0) (agreeSent (slotsOf message count bits) optional)
       (λ e. k .agree-is (eqb-true _ _ e)))
 
   -- a block that is not refused has the right total

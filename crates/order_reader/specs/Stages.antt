@@ -1,17 +1,17 @@
 -- The stages of the reader, as its functions have them. Definitions alone. Assumes nothing.
 use Prim.Native.Nat.{ℕ, _+_}
-use mathlib.Core.Bool.{Bool, true, false, cond, not, _&&_}
+use mathlib.Core.Bool.{cond, not, _&&_}
 use mathlib.Core.List.{List}
 use lib.Dec.{ltb, eqb}
 use lib.ListN.{length, getD}
+use Rattle.numbers.specs.Numbers.{patched}
 use Rattle.refusals.specs.Names.{wrongTotal, tooManyBitfields, unlistedBit, notSelected, badValue}
 use Rattle.wire.specs.Header.{typeOf, unitOf, numberOf}
 use Rattle.fields.specs.Places.{hasRequired}
 use Rattle.spread.specs.declared.Taken.{Taken}
-use Rattle.orders.specs.declared.Record.{Record}
-use Rattle.orders.specs.declared.Reading.{Reading}
 use Rattle.orders.specs.Shapes.{mostOf, fixedGood}
-use Rattle.orders.specs.Orders.{blank, blockRefusal, layoutOf, pickReading}
+use Rattle.orders.specs.Orders.{blockRefusal, layoutOf, readRefusal, recordOf}
+use Rattle.records.specs.Records.{recordBytes}
 
 -- 7; 6 if the bitfields do not fit, where the count byte stands at `at`
 unfoldable pub countRefusal : ℕ → ℕ → List ℕ → ℕ
@@ -23,30 +23,29 @@ countRefusal message at m =
 -- 8, 9, 6, 10 by what was taken of an optional block of `have` bytes
 unfoldable pub judgedOf : ℕ → ℕ → List ℕ → List ℕ → Taken → ℕ → ℕ
 judgedOf message count bits fixed t have =
-    cond (t .bad) unlistedBit
+    cond (not (eqb (t .bad) 0)) unlistedBit
     (cond (not (hasRequired message count bits)) notSelected
     (cond (not (eqb (t .at) have)) wrongTotal
-    (cond (not (fixedGood message fixed && t .agree)) badValue
+    (cond (not (fixedGood message fixed && eqb (t .wrong) 0)) badValue
     0)))
 
-abbrev pub refuse : ℕ → Reading
-refuse n = record { refusal = n; order = blank }
-
--- the reading of a message whose head is good
-unfoldable pub bodyOf : List ℕ → ℕ → List ℕ → List ℕ → List ℕ → Reading
-bodyOf m count bits fixed optional =
-    pickReading (eqb (blockRefusal (typeOf m) count bits fixed optional) 0)
+-- the record's buffer after the body of a message whose head is good
+unfoldable pub bodyRecord : List ℕ → ℕ → List ℕ → List ℕ → List ℕ → List ℕ → List ℕ
+bodyRecord m count bits fixed optional buffer =
+    cond (eqb (blockRefusal (typeOf m) count bits fixed optional) 0)
+    (patched buffer 0
+    (recordBytes
     (record {
-      refusal = 0;
-      order =
-          record {
-            message = typeOf m;
-            unit = unitOf m;
-            number = numberOf m;
-            fixed = fixed;
-            count = count;
-            bits = bits;
-            slots = layoutOf (typeOf m) count bits optional;
-          };
-    })
-    (refuse (blockRefusal (typeOf m) count bits fixed optional))
+      message = typeOf m;
+      unit = unitOf m;
+      number = numberOf m;
+      fixed = fixed;
+      count = count;
+      bits = bits;
+      slots = layoutOf (typeOf m) count bits optional;
+    })))
+    buffer
+
+-- the record's buffer after a message: the record's bytes at its front, or as it was where the message is refused
+unfoldable pub readRecord : List ℕ → List ℕ → List ℕ
+readRecord m buffer = cond (eqb (readRefusal m) 0) (patched buffer 0 (recordBytes (recordOf m))) buffer

@@ -5,10 +5,9 @@ ghost use Prim.Native.Nat.{_+_, _-_, _≤_, _<_};
 ghost use lib.ListN.{length, take, drop};
 ghost use Rattle.wire.specs.Header.{typeOf};
 ghost use Rattle.fields.specs.Slots.{zeros};
-ghost use Rattle.orders.specs.Orders.{bitsOf, fixedOf, headRefusal, blockRefusal, layoutOf, readOf};
-ghost use Rattle.order_reader.specs.Stages.{countRefusal, judgedOf, refuse, bodyOf};
-use orders::Reading;
-use orders::Record;
+ghost use Rattle.orders.specs.Shapes.{countAt};
+ghost use Rattle.orders.specs.Orders.{headRefusal, blockRefusal, layoutOf, readRefusal};
+ghost use Rattle.order_reader.specs.Stages.{countRefusal, judgedOf, bodyRecord, readRecord};
 use spread::Taken;
 
 // The bitfields of a message, with zeros after them.
@@ -19,12 +18,6 @@ struct Bitfields {
 // The fixed part of a message, with zeros after it.
 struct Fixed {
     bytes: [u8; 59],
-}
-
-// The optional block: 0 and the full layout, or the refusal.
-struct Block {
-    refusal: u8,
-    slots: [u8; 154],
 }
 
 // 4; 5; 6 if the message ends before its count byte is whole; 7; 6 if the bitfields do not fit.
@@ -74,8 +67,8 @@ fn bits_of(m: &[u8], at: usize, count: u8) -> Bitfields
     Bitfields { bits: bits }
 }
 
-// The fixed part of a message whose head is good.
-fn fixed_part(m: &[u8], at: usize) -> Fixed
+// The fixed part of a message up to a place.
+fn fixed_up_to(m: &[u8], at: usize) -> Fixed
     requires { ⌜ (at ≤ length (now m)) × (10 ≤ at) × (at ≤ 69) ⌝ }
     ensures { λ r. ⌜ r .bytes ≡ take (at - 10) (drop 10 (now (m .entry))) ++ zeros (69 - at) ⌝ }
 {
@@ -84,12 +77,25 @@ fn fixed_part(m: &[u8], at: usize) -> Fixed
     Fixed { bytes: bytes }
 }
 
+// The fixed part of a message whose head is good; its length is a literal, so that the copy is a few moves.
+fn fixed_part(m: &[u8], message: u8) -> Fixed
+    requires { ⌜ countAt message ≤ length (now m) ⌝ }
+    ensures { λ r. ⌜ r .bytes ≡ take (countAt message - 10) (drop 10 (now (m .entry))) ++ zeros (69 - countAt message) ⌝ }
+{
+    match message {
+        0x38 => fixed_up_to(m, 35),
+        0x39 => fixed_up_to(m, 30),
+        0x25 => fixed_up_to(m, 47),
+        _ => fixed_up_to(m, 69),
+    }
+}
+
 // The refusals of the optional block, once its bytes are taken: 8, 9, 6, 10.
 fn judged(message: u8, bits: &[u8; 15], count: u8, fixed: &[u8], t: Taken, have: usize) -> u8
     requires { ⌜ 59 ≤ length (now fixed) ⌝ }
     ensures { λ r. ⌜ r ≡ judgedOf message count (now (bits .entry)) (now (fixed .entry)) t have ⌝ }
 {
-    if t.bad {
+    if t.bad != 0 {
         return refusals::UNLISTED_BIT;
     }
     if !fields::has_required(message, bits, count) {
@@ -101,76 +107,61 @@ fn judged(message: u8, bits: &[u8; 15], count: u8, fixed: &[u8], t: Taken, have:
     if !orders::fixed_good(message, fixed) {
         return refusals::BAD_VALUE;
     }
-    if !t.agree {
+    if t.wrong != 0 {
         return refusals::BAD_VALUE;
     }
     0
 }
 
-// The optional block, whose bytes are handed on to the field reader.
-fn block_of(message: u8, bits: &[u8; 15], count: u8, fixed: &[u8], optional: &[u8]) -> Block
-    requires { ⌜ (59 ≤ length (now fixed)) × (count ≤ 15) ⌝ }
-    ensures { λ r. ⌜ (r .refusal ≡ blockRefusal message count (now (bits .entry)) (now (fixed .entry)) (now (optional .entry))) × (r .refusal ≡ 0 → r .slots ≡ layoutOf message count (now (bits .entry)) (now (optional .entry))) ⌝ }
+// The optional block, whose bytes are handed on to the field reader: its refusal, or 0 and the full layout in a lent array of zeros.
+fn block_of(
+    message: u8,
+    bits: &[u8; 15],
+    count: u8,
+    fixed: &[u8],
+    optional: &[u8],
+    slots: &mut [u8],
+) -> u8
+    requires { ⌜ (59 ≤ length (now fixed)) × (count ≤ 15) × (now slots ≡ zeros 154) ⌝ }
+    ensures { λ r. ⌜ (r ≡ blockRefusal message count (now (bits .entry)) (now (fixed .entry)) (now (optional .entry))) × (r ≡ 0 → now (slots .exit) ≡ layoutOf message count (now (bits .entry)) (now (optional .entry))) ⌝ }
 {
-    let mut slots = [0u8; 154];
-    let t = spread::take_all(message, bits, count, optional, &mut slots);
-    let refusal = judged(message, bits, count, fixed, t, optional.len());
-    Block {
-        refusal: refusal,
-        slots: slots,
-    }
-}
-
-// What a refused message answers.
-pub fn refused(refusal: u8) -> Reading
-    ensures { λ r. ⌜ r ≡ refuse refusal ⌝ }
-{
-    let order = orders::blank_record();
-    Reading {
-        refusal: refusal,
-        order: order,
-    }
+    let t = spread::take_all(message, bits, count, optional, slots);
+    judged(message, bits, count, fixed, t, optional.len())
 }
 
 // The body of a message whose head is good: its bitfields and fixed part are at hand, and its optional bytes start at a place.
-fn body(m: &[u8], count: u8, bits: [u8; 15], fixed: [u8; 59], start: usize) -> Reading
-    requires { ⌜ (start ≤ length (now m)) × (count ≤ 15) ⌝ }
-    ensures { λ r. ⌜ r ≡ bodyOf (now (m .entry)) count bits fixed (drop start (now (m .entry))) ⌝ }
+fn body(m: &[u8], count: u8, bits: &[u8; 15], fixed: &[u8], start: usize, buffer: &mut [u8]) -> u8
+    requires { ⌜ (start ≤ length (now m)) × (count ≤ 15) × (length (now bits) ≡ 15) × (length (now fixed) ≡ 59) × (235 ≤ length (now buffer)) ⌝ }
+    ensures { λ r. ⌜ (r ≡ blockRefusal (typeOf (now (m .entry))) count (now (bits .entry)) (now (fixed .entry)) (drop start (now (m .entry)))) × (now (buffer .exit) ≡ bodyRecord (now (m .entry)) count (now (bits .entry)) (now (fixed .entry)) (drop start (now (m .entry))) (now (buffer .entry))) ⌝ }
 {
     let message = wire::header::type_of(m);
-    let k = block_of(message, &bits, count, &fixed, &m[start..]);
-    let refusal = k.refusal;
+    let mut slots = [0u8; 154];
+    let refusal = block_of(message, bits, count, fixed, &m[start..], &mut slots);
     if refusal != 0 {
-        return refused(refusal);
+        return refusal;
     }
-    let slots = k.slots;
-    Reading {
-        refusal: 0,
-        order: Record {
-            message: message,
-            unit: wire::header::unit_of(m),
-            number: wire::header::number_of(m),
-            fixed: fixed,
-            count: count,
-            bits: bits,
-            slots: slots,
-        },
-    }
+    let unit = wire::header::unit_of(m);
+    let number = wire::header::number_of(m);
+    records::pack_parts(message, unit, number, fixed, count, bits, &slots, buffer);
+    0
 }
 
-// Reads a whole message, as framing answers it: 0 and its record, or the refusal (4 to 10) and the blank record.
-pub fn read_order(m: &[u8]) -> Reading
-    ensures { λ r. ⌜ r ≡ readOf (now (m .entry)) ⌝ }
+// Reads a whole message, as framing answers it, into a buffer that has room for its record: 0, and the record's bytes stand in the front of
+// the buffer; or the refusal (4 to 10), and the buffer is as it was.
+pub fn read_order(m: &[u8], buffer: &mut [u8]) -> u8
+    requires { ⌜ 235 ≤ length (now buffer) ⌝ }
+    ensures { λ r. ⌜ (r ≡ readRefusal (now (m .entry))) × (now (buffer .exit) ≡ readRecord (now (m .entry)) (now (buffer .entry))) ⌝ }
 {
     let refusal = head_refusal(m);
     if refusal != 0 {
-        return refused(refusal);
+        return refusal;
     }
-    let at = orders::count_at(wire::header::type_of(m));
+    let message = wire::header::type_of(m);
+    let at = orders::count_at(message);
     let count = numbers::byte_at(m, at);
     let b = bits_of(m, at, count);
-    let f = fixed_part(m, at);
+    let f = fixed_part(m, message);
     let bits = b.bits;
     let fixed = f.bytes;
-    body(m, count, bits, fixed, at + 1 + (count as usize))
+    body(m, count, &bits, &fixed, at + 1 + (count as usize), buffer)
 }

@@ -1,14 +1,13 @@
--- One part, and then the rest into the tail: the buffer holds the two in a row. Assumes nothing.
+-- The parts of a message in a row. Assumes nothing.
 use mathlib.Core.Path.{_≡_, refl, sym, ap, ap₂, _∙_, subst}
-use mathlib.Core.List.{List, [], _∷_, _++_}
+use mathlib.Core.List.{List, _∷_, _++_}
 use Prim.Native.Nat.{ℕ, _+_, _-_, _≤_}
 use native.Mathlib.Nat.{zero-add}
 use native.Mathlib.Omega.{arith}
-use lib.ListN.{length, take, drop, length-append, length-drop, set}
+use lib.ListN.{length, take, drop, length-append}
 use lib.Seq.{length-take-le}
 use Rattle.numbers.specs.Numbers.{patched}
 use Rattle.numbers.specs.NumberLaws.{patched-length, patched-join}
-use Rattle.numbers.proofs.Tail.{tail-is, lent-patched}
 use Rattle.fields.specs.Slots.{Slot, takes, width, sum, gathered}
 use Rattle.fields.specs.SlotLaws.{gathered-length}
 use Rattle.fields.specs.Places.{selectedAt, entryAt, slotsOf}
@@ -20,20 +19,6 @@ use Rattle.orders.specs.Shapes.{countAt}
 use Rattle.orders.specs.OrderLaws.{count-bounds}
 use Rattle.orders.specs.RoundTrip.{widths-fit}
 use Rattle.order_writer.specs.Stages.{fieldBytes, restBytes}
-
-module _ (out out₁ l₁ l₂ : List ℕ) (n : ℕ) (e : length l₁ ≡ n) (room : n + length l₂ ≤ length out) (p : out₁ ≡ patched out 0 l₁) where
-  same : length out₁ ≡ length out
-  same = ap length p ∙ patched-length out 0 l₁ (omega arith)
-
-  pub tail-length : length (take (length out₁ - n) (drop n out₁)) ≡ length out - n
-  tail-length = ap length (tail-is out₁ n (omega (arith, same))) ∙ length-drop n out₁ ∙ ap (λ (k : ℕ). k - n) same
-
-  pub puts-then : {ys : List ℕ} → ys ≡ patched (take (length out₁ - n) (drop n out₁)) 0 l₂ → take n out₁ ++ (ys ++ drop (length out₁ - n) (drop n out₁)) ≡ patched out 0 (l₁ ++ l₂)
-  puts-then {ys} q =
-      let k : n ≡ 0 + length l₁ = omega arith in
-      lent-patched out₁ n l₂ (omega (arith, same)) q
-      ∙ ap₂ (λ (o : List ℕ) (i : ℕ). patched o i l₂) p k
-      ∙ patched-join out 0 l₁ (omega arith) l₂
 
 -- the selected fields given at a place
 pub fields-given : (message count : ℕ) (bits v out out′ : List ℕ) (at r : ℕ) → length v ≡ 154 → at + sum takes (slotsOf message count bits) ≤ length out
@@ -49,12 +34,6 @@ fields-given message count bits v out out′ at r lv room e =
 -- their length
 pub fields-length : (message count : ℕ) (bits v : List ℕ) → length v ≡ 154 → length (gathered (slotsOf message count bits) v) ≡ sum takes (slotsOf message count bits)
 fields-length message count bits v lv = gathered-length (slotsOf message count bits) v (omega (arith, widths-fit message count bits))
-
--- the first byte stored is a run of one
-pub first-stored : (c : ℕ) (out : List ℕ) → 1 ≤ length out → set out 0 c ≡ patched out 0 (c ∷ [])
-unfolding patched
-first-stored c [] h = absurd (omega (arith, h))
-first-stored c (x ∷ out) h = refl
 
 -- the bitfields copied and the selected fields given after them
 pub fields-put : (message count : ℕ) (bits v out out₁ out′ : List ℕ) (r : ℕ) → length v ≡ 154 → count ≤ length bits → count + sum takes (slotsOf message count bits) ≤ length out

@@ -3,27 +3,27 @@
 use mathlib.Core.Path.{_≡_, refl, sym, ap, ap₂, _∙_}
 use mathlib.Core.Bool.{Bool, true, false, cond, not, _&&_, _||_, or-false, and-true}
 use mathlib.Core.List.{List, [], _∷_, _++_}
-use Prim.Native.Nat.{ℕ, suc, _+_, _-_, _≤_, _<_}
+use Prim.Native.Nat.{ℕ, suc, _+_, _-_, _≤_}
 use native.Mathlib.Nat.{zero-add}
 use native.Mathlib.Omega.{arith}
 use lib.Dec.{ltb, eqb}
-use lib.ListN.{length, take, drop}
-use borrow.Author.Tests.{lt-ltb, le-ltb, ltb-false, eq-eqb, ne-eqb}
-use Rattle.refusals.specs.Names.{unknownType, badUnit, tooManyBitfields, unlistedBit, notSelected, badValue, notZero, noRoom}
+use lib.ListN.{length, drop}
+use borrow.Author.Tests.{ltb-false, eq-eqb, ne-eqb}
+use Rattle.refusals.specs.Names.{unlistedBit, notSelected, badValue, notZero, noRoom}
 use Rattle.numbers.specs.Numbers.{patched}
 use Rattle.kinds.specs.Kinds.{allNul}
 use Rattle.wire.specs.Header.{headerBytes}
 use Rattle.wire.specs.FrameLaws.{passed}
-use Rattle.fields.specs.Slots.{Slot, slot, takes, width, sum, anyBad, agreeHeld, zeroElsewhere}
+use Rattle.fields.specs.Slots.{Slot, slot, takes, width, sum, anyBad, agreeHeld}
 use Rattle.fields.specs.Places.{selectedAt, entryAt, slotsOf, hasRequired}
-use Rattle.fields.specs.Walk.{Looking, weightOf}
-use Rattle.fields.specs.Dictionaries.{before, before-none, dictionary-placed}
-use Rattle.fields.specs.Looks.{looked, selectedWeight, zero-by-weight}
+use Rattle.fields.specs.Walk.{Looking}
+use Rattle.fields.specs.Dictionaries.{before-none, dictionary-placed}
+use Rattle.fields.specs.Looks.{Looked, looked, cleared, zero-by-clearing}
 use Rattle.gather.specs.declared.Seen.{Seen}
 use Rattle.gather.specs.State.{looking, unseen, lookWalk}
 use Rattle.orders.specs.Shapes.{ofMember, ofVenue, countAt, mostOf, unitGood, fixedGood}
 use Rattle.orders.specs.Orders.{writeSlots, zeroUnused, sizeOf, orderBytes, writeRefusal, writeBuffer}
-use Rattle.orders.specs.OrderLaws.{most-bound, count-bounds}
+use Rattle.orders.specs.OrderLaws.{most-bound}
 use Rattle.orders.specs.RoundTrip.{widths-fit}
 use Rattle.orders.specs.declared.Record.{Record}
 use Rattle.order_writer.specs.Stages.{topRefusal, unusedZero, seenRefusal, fieldBytes, restBytes}
@@ -74,55 +74,48 @@ block r bad agree zero rest =
     (cond (not zero) notZero
     rest)))
 
-module _ (r : Record) (s : Seen) (look : looking s ≡ lookWalk (r .message) (r .count) (r .bits) (r .slots) 120 0 unseen) where
-  whole : drop (before (entryAt (r .message)) 0) (r .slots) ≡ r .slots
-  whole = ap (λ (i : ℕ). drop i (r .slots)) (before-none (entryAt (r .message)))
+module _ (r : Record) (s : Seen) (rest : List ℕ) (lv : length (r .slots) ≡ 154)
+    (look : looking s rest ≡ lookWalk (r .message) (r .count) (r .bits) 120 0 (unseen (r .slots))) where
+  seen : Looked (entryAt (r .message)) (slotsOf (r .message) (r .count) (r .bits)) 0 (unseen (r .slots)) (lookWalk (r .message) (r .count) (r .bits) 120 0 (unseen (r .slots)))
+  seen = looked (entryAt (r .message)) 154 (dictionary-placed (r .message)) (selectedAt (r .count) (r .bits)) 120 0 (unseen (r .slots)) (omega arith)
 
-  bad-is : s .bad ≡ anyBad (slotsOf (r .message) (r .count) (r .bits))
-  bad-is =
-      let k = looked (entryAt (r .message)) 154 (dictionary-placed (r .message)) (r .slots) (selectedAt (r .count) (r .bits)) 120 0 unseen (omega arith) in
-      ap (λ (x : Looking). x .bad) look ∙ k .bad-is ∙ or-false (anyBad (slotsOf (r .message) (r .count) (r .bits)))
+  fit : sum width (slotsOf (r .message) (r .count) (r .bits)) ≤ length (r .slots)
+  fit = omega (arith, lv, widths-fit (r .message) (r .count) (r .bits))
+
+  bad-is : not (eqb (s .bad) 0) ≡ anyBad (slotsOf (r .message) (r .count) (r .bits))
+  bad-is = ap (λ (x : Looking). x .bad) look ∙ seen .bad-is ∙ or-false (anyBad (slotsOf (r .message) (r .count) (r .bits)))
 
   pub total-is : s .total ≡ sum takes (slotsOf (r .message) (r .count) (r .bits))
-  total-is =
-      let k = looked (entryAt (r .message)) 154 (dictionary-placed (r .message)) (r .slots) (selectedAt (r .count) (r .bits)) 120 0 unseen (omega arith) in
-      ap (λ (x : Looking). x .total) look ∙ k .total-is ∙ zero-add (sum takes (slotsOf (r .message) (r .count) (r .bits)))
+  total-is = ap (λ (x : Looking). x .total) look ∙ seen .total-is ∙ zero-add (sum takes (slotsOf (r .message) (r .count) (r .bits)))
 
-  agree-is : s .agree ≡ agreeHeld (slotsOf (r .message) (r .count) (r .bits)) (r .slots)
+  agree-is : eqb (s .wrong) 0 ≡ agreeHeld (slotsOf (r .message) (r .count) (r .bits)) (r .slots)
   agree-is =
-      let k = looked (entryAt (r .message)) 154 (dictionary-placed (r .message)) (r .slots) (selectedAt (r .count) (r .bits)) 120 0 unseen (omega arith) in
       ap (λ (x : Looking). x .agree) look
-      ∙ k .agree-is
-      ∙ and-true (agreeHeld (slotsOf (r .message) (r .count) (r .bits)) (drop (before (entryAt (r .message)) 0) (r .slots)))
-      ∙ ap (agreeHeld (slotsOf (r .message) (r .count) (r .bits))) whole
+      ∙ seen .agree-is [] (r .slots) refl (sym (before-none (entryAt (r .message)))) fit
+      ∙ and-true (agreeHeld (slotsOf (r .message) (r .count) (r .bits)) (r .slots))
 
-  weight-is : s .weight ≡ selectedWeight (slotsOf (r .message) (r .count) (r .bits)) (r .slots)
-  weight-is =
-      let k = looked (entryAt (r .message)) 154 (dictionary-placed (r .message)) (r .slots) (selectedAt (r .count) (r .bits)) 120 0 unseen (omega arith) in
-      ap (λ (x : Looking). x .weight) look
-      ∙ k .weight-is
-      ∙ zero-add (selectedWeight (slotsOf (r .message) (r .count) (r .bits)) (drop (before (entryAt (r .message)) 0) (r .slots)))
-      ∙ ap (selectedWeight (slotsOf (r .message) (r .count) (r .bits))) whole
+  rest-is : rest ≡ cleared (slotsOf (r .message) (r .count) (r .bits)) (r .slots)
+  rest-is = ap (λ (x : Looking). x .rest) look ∙ seen .rest-is [] (r .slots) refl (sym (before-none (entryAt (r .message)))) fit
 
-  zero-is : unusedZero (r .message) (r .count) (r .fixed) (r .bits) (r .slots) (s .weight) ≡ zeroUnused r
+  zero-is : unusedZero (r .message) (r .count) (r .fixed) (r .bits) rest ≡ zeroUnused r
   unfolding unusedZero zeroUnused writeSlots
   zero-is =
       ap (λ (x : Bool). allNul (drop (countAt (r .message) - 10) (r .fixed)) && (allNul (drop (r .count) (r .bits)) && x))
-      (ap (eqb (weightOf (r .slots))) weight-is ∙ sym (zero-by-weight (slotsOf (r .message) (r .count) (r .bits)) (r .slots)))
+      (ap allNul rest-is ∙ zero-by-clearing (slotsOf (r .message) (r .count) (r .bits)) (r .slots))
 
   -- what was seen is refused as the record says
-  seen-is : seenRefusal (r .message) (r .count) (r .fixed) (r .bits) (r .slots) s
+  seen-is : seenRefusal (r .message) (r .count) (r .fixed) (r .bits) rest s
       ≡ block r (anyBad (slotsOf (r .message) (r .count) (r .bits))) (agreeHeld (slotsOf (r .message) (r .count) (r .bits)) (r .slots)) (zeroUnused r) 0
   unfolding seenRefusal
   seen-is =
-      ap₂ (λ (b a : Bool). block r b a (unusedZero (r .message) (r .count) (r .fixed) (r .bits) (r .slots) (s .weight)) 0) bad-is agree-is
+      ap₂ (λ (b a : Bool). block r b a (unusedZero (r .message) (r .count) (r .fixed) (r .bits) rest) 0) bad-is agree-is
       ∙ ap (λ (z : Bool). block r (anyBad (slotsOf (r .message) (r .count) (r .bits))) (agreeHeld (slotsOf (r .message) (r .count) (r .bits)) (r .slots)) z 0) zero-is
 
   -- the whole of the refusal
   in-stages : (room : ℕ)
       → writeRefusal r room
       ≡ thenNext (topRefusal (r .message) (r .unit) (r .count))
-      (thenNext (seenRefusal (r .message) (r .count) (r .fixed) (r .bits) (r .slots) s) (cond (ltb room (sizeOf r)) noRoom 0))
+      (thenNext (seenRefusal (r .message) (r .count) (r .fixed) (r .bits) rest s) (cond (ltb room (sizeOf r)) noRoom 0))
   unfolding writeRefusal topRefusal writeSlots
   in-stages room =
       let ss = slotsOf (r .message) (r .count) (r .bits) in
@@ -134,11 +127,11 @@ module _ (r : Record) (s : Seen) (look : looking s ≡ lookWalk (r .message) (r 
       ∙ ap (λ (x : ℕ). thenNext x last) (sym seen-is))
 
   module _ (room : ℕ) (top : topRefusal (r .message) (r .unit) (r .count) ≡ 0) where
-    pub seen-stops : (seenRefusal (r .message) (r .count) (r .fixed) (r .bits) (r .slots) s ≡ 0 → ⊥)
-        → seenRefusal (r .message) (r .count) (r .fixed) (r .bits) (r .slots) s ≡ writeRefusal r room
+    pub seen-stops : (seenRefusal (r .message) (r .count) (r .fixed) (r .bits) rest s ≡ 0 → ⊥)
+        → seenRefusal (r .message) (r .count) (r .fixed) (r .bits) rest s ≡ writeRefusal r room
     seen-stops n = sym (in-stages room ∙ then-go _ _ top ∙ then-stop _ _ n)
 
-    pub room-decides : seenRefusal (r .message) (r .count) (r .fixed) (r .bits) (r .slots) s ≡ 0 → writeRefusal r room ≡ cond (ltb room (sizeOf r)) noRoom 0
+    pub room-decides : seenRefusal (r .message) (r .count) (r .fixed) (r .bits) rest s ≡ 0 → writeRefusal r room ≡ cond (ltb room (sizeOf r)) noRoom 0
     room-decides z = in-stages room ∙ then-go _ _ top ∙ then-go _ _ z
 
   -- the size, as the code sums it

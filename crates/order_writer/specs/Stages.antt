@@ -1,5 +1,5 @@
 -- The stages of the writer, as its functions have them. Definitions alone. Assumes nothing.
-use Prim.Native.Nat.{ℕ, _+_, _-_}
+use Prim.Native.Nat.{ℕ, _-_}
 use mathlib.Core.Bool.{Bool, cond, not, _&&_, _||_}
 use mathlib.Core.List.{List, _∷_, _++_}
 use lib.Dec.{ltb, eqb}
@@ -8,8 +8,8 @@ use Rattle.refusals.specs.Names.{unknownType, badUnit, tooManyBitfields, unlist
 use Rattle.kinds.specs.Kinds.{allNul}
 use Rattle.fields.specs.Slots.{gathered}
 use Rattle.fields.specs.Places.{slotsOf, hasRequired}
-use Rattle.fields.specs.Walk.{weightOf}
 use Rattle.gather.specs.declared.Seen.{Seen}
+use Rattle.orders.specs.declared.Record.{Record}
 use Rattle.orders.specs.Shapes.{ofMember, ofVenue, countAt, mostOf, unitGood, fixedGood}
 
 -- 4, 5, 7
@@ -20,18 +20,17 @@ topRefusal message unit count =
     (cond (ltb (mostOf message) count) tooManyBitfields
     0))
 
--- the unused places are zero, where the selected fields weigh so much
-unfoldable pub unusedZero : ℕ → ℕ → List ℕ → List ℕ → List ℕ → ℕ → Bool
-unusedZero message count fixed bits slots weight =
-    allNul (drop (countAt message - 10) fixed) && (allNul (drop count bits) && eqb (weightOf slots) weight)
+-- the unused places are zero, where `rest` is what is left of the layout without the selected fields
+unfoldable pub unusedZero : ℕ → ℕ → List ℕ → List ℕ → List ℕ → Bool
+unusedZero message count fixed bits rest = allNul (drop (countAt message - 10) fixed) && (allNul (drop count bits) && allNul rest)
 
--- 8, 9, 10, 12 by what was seen of the selected fields
+-- 8, 9, 10, 12 by what was seen of the selected fields and what is left of the layout without them
 unfoldable pub seenRefusal : ℕ → ℕ → List ℕ → List ℕ → List ℕ → Seen → ℕ
-seenRefusal message count fixed bits slots s =
-    cond (s .bad) unlistedBit
+seenRefusal message count fixed bits rest s =
+    cond (not (eqb (s .bad) 0)) unlistedBit
     (cond (not (hasRequired message count bits)) notSelected
-    (cond (not (fixedGood message fixed && s .agree)) badValue
-    (cond (not (unusedZero message count fixed bits slots (s .weight))) notZero
+    (cond (not (fixedGood message fixed && eqb (s .wrong) 0)) badValue
+    (cond (not (unusedZero message count fixed bits rest)) notZero
     0)))
 
 -- the bitfields and the selected fields
@@ -41,3 +40,8 @@ fieldBytes message count bits slots = take count bits ++ gathered (slotsOf messa
 -- the fixed part, the count, and these: all that follows the header
 unfoldable pub restBytes : ℕ → ℕ → List ℕ → List ℕ → List ℕ → List ℕ
 restBytes message count fixed bits slots = take (countAt message - 10) fixed ++ (count ∷ fieldBytes message count bits slots)
+
+-- the record of its parts
+abbrev pub recordFrom : ℕ → ℕ → ℕ → List ℕ → ℕ → List ℕ → List ℕ → Record
+recordFrom message unit number fixed count bits slots =
+    record { message = message; unit = unit; number = number; fixed = fixed; count = count; bits = bits; slots = slots }

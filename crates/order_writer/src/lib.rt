@@ -2,16 +2,17 @@
 ghost use mathlib.Core.Path.{_≡_};
 ghost use mathlib.Core.List.{_∷_, _++_};
 ghost use Prim.Native.Nat.{_+_, _-_, _≤_, _<_};
-ghost use lib.ListN.{length};
+ghost use lib.ListN.{length, drop};
+ghost use Rattle.kinds.specs.Kinds.{allNul};
 ghost use Rattle.numbers.specs.Numbers.{patched};
 ghost use Rattle.wire.specs.Header.{headerBytes};
 ghost use Rattle.fields.specs.Slots.{takes, sum};
 ghost use Rattle.fields.specs.Places.{slotsOf};
 ghost use Rattle.orders.specs.Shapes.{countAt};
 ghost use Rattle.orders.specs.Orders.{writeRefusal, writeBuffer};
-ghost use Rattle.order_writer.specs.Stages.{topRefusal, unusedZero, seenRefusal, fieldBytes, restBytes};
+ghost use Rattle.records.specs.Records.{recordAt};
+ghost use Rattle.order_writer.specs.Stages.{recordFrom, topRefusal, unusedZero, seenRefusal, fieldBytes, restBytes};
 use gather::Seen;
-use orders::Record;
 
 // 4, 5, 7.
 fn top_refusal(message: u8, unit: u8, count: u8) -> u8
@@ -29,28 +30,40 @@ fn top_refusal(message: u8, unit: u8, count: u8) -> u8
     0
 }
 
-// Whether the unused places of a record are zero, where its selected fields weigh so much.
-fn unused_zero(message: u8, count: u8, fixed: &[u8], bits: &[u8], slots: &[u8], weight: u64) -> bool
-    requires { ⌜ (length (now fixed) ≡ 59) × (length (now bits) ≡ 15) × (length (now slots) ≡ 154) × (count ≤ 15) ⌝ }
-    ensures { λ r. ⌜ r ≡ unusedZero message count (now (fixed .entry)) (now (bits .entry)) (now (slots .entry)) weight ⌝ }
+// Whether the places of a fixed part that its message does not use are zero; their number is a literal, so that the test is a few steps.
+fn fixed_blank(message: u8, fixed: &[u8]) -> bool
+    requires { ⌜ length (now fixed) ≡ 59 ⌝ }
+    ensures { λ r. ⌜ r ≡ allNul (drop (countAt message - 10) (now (fixed .entry))) ⌝ }
 {
-    let n = orders::count_at(message) - 10;
-    if !kinds::is_blank(&fixed[n..]) {
+    match message {
+        0x38 => kinds::is_blank(&fixed[25..59]),
+        0x39 => kinds::is_blank(&fixed[20..59]),
+        0x25 => kinds::is_blank(&fixed[37..59]),
+        _ => true,
+    }
+}
+
+// Whether the unused places of a record are zero, where `rest` is what is left of its layout without the selected fields.
+fn unused_zero(message: u8, count: u8, fixed: &[u8], bits: &[u8], rest: &[u8]) -> bool
+    requires { ⌜ (length (now fixed) ≡ 59) × (length (now bits) ≡ 15) × (count ≤ 15) ⌝ }
+    ensures { λ r. ⌜ r ≡ unusedZero message count (now (fixed .entry)) (now (bits .entry)) (now (rest .entry)) ⌝ }
+{
+    if !fixed_blank(message, fixed) {
         return false;
     }
     let k = count as usize;
     if !kinds::is_blank(&bits[k..]) {
         return false;
     }
-    fields::weigh(slots) == weight
+    kinds::is_blank(rest)
 }
 
-// 8, 9, 10, 12, by what was seen of the selected fields.
-fn seen_refusal(message: u8, count: u8, fixed: &[u8], bits: &[u8; 15], slots: &[u8], s: Seen) -> u8
-    requires { ⌜ (length (now fixed) ≡ 59) × (length (now slots) ≡ 154) × (count ≤ 15) ⌝ }
-    ensures { λ r. ⌜ r ≡ seenRefusal message count (now (fixed .entry)) (now (bits .entry)) (now (slots .entry)) s ⌝ }
+// 8, 9, 10, 12, by what was seen of the selected fields and what is left of the layout without them.
+fn seen_refusal(message: u8, count: u8, fixed: &[u8], bits: &[u8; 15], rest: &[u8], s: Seen) -> u8
+    requires { ⌜ (length (now fixed) ≡ 59) × (count ≤ 15) ⌝ }
+    ensures { λ r. ⌜ r ≡ seenRefusal message count (now (fixed .entry)) (now (bits .entry)) (now (rest .entry)) s ⌝ }
 {
-    if s.bad {
+    if s.bad != 0 {
         return refusals::UNLISTED_BIT;
     }
     if !fields::has_required(message, bits, count) {
@@ -59,10 +72,10 @@ fn seen_refusal(message: u8, count: u8, fixed: &[u8], bits: &[u8; 15], slots: &[
     if !orders::fixed_good(message, fixed) {
         return refusals::BAD_VALUE;
     }
-    if !s.agree {
+    if s.wrong != 0 {
         return refusals::BAD_VALUE;
     }
-    if !unused_zero(message, count, fixed, bits, slots, s.weight) {
+    if !unused_zero(message, count, fixed, bits, rest) {
         return refusals::NOT_ZERO;
     }
     0
@@ -98,38 +111,74 @@ fn put_rest(message: u8, count: u8, fixed: &[u8], bits: &[u8; 15], slots: &[u8],
 }
 
 // The header, and these after it: the whole message of `size` bytes.
-fn put_order(r: Record, size: usize, out: &mut [u8])
-    requires { ⌜ (r .count ≤ 15) × (size ≡ countAt (r .message) + 1 + r .count + sum takes (slotsOf (r .message) (r .count) (r .bits))) × (size ≤ length (now out)) × (size ≤ 2048) ⌝ }
-    ensures { λ _. ⌜ now (out .exit) ≡ patched (now (out .entry)) 0 (headerBytes (size - 2) (r .message) (r .unit) (r .number) ++ restBytes (r .message) (r .count) (r .fixed) (r .bits) (r .slots)) ⌝ }
+fn put_order(
+    message: u8,
+    unit: u8,
+    number: u32,
+    fixed: &[u8],
+    count: u8,
+    bits: &[u8; 15],
+    slots: &[u8],
+    size: usize,
+    out: &mut [u8],
+)
+    requires { ⌜ (count ≤ 15) × (length (now fixed) ≡ 59) × (length (now slots) ≡ 154) × (length (now bits) ≡ 15) × (size ≡ countAt message + 1 + count + sum takes (slotsOf message count (now bits))) × (size ≤ length (now out)) × (size ≤ 2048) ⌝ }
+    ensures { λ _. ⌜ now (out .exit) ≡ patched (now (out .entry)) 0 (headerBytes (size - 2) message unit number ++ restBytes message count (now (fixed .entry)) (now (bits .entry)) (now (slots .entry))) ⌝ }
 {
-    let fixed = r.fixed;
-    let bits = r.bits;
-    let slots = r.slots;
-    wire::header::write_header(out, (size - 2) as u16, r.message, r.unit, r.number);
-    put_rest(r.message, r.count, &fixed, &bits, &slots, &mut out[10..]);
+    wire::header::write_header(out, (size - 2) as u16, message, unit, number);
+    put_rest(message, count, fixed, bits, slots, &mut out[10..]);
 }
 
-// Writes a record: 0, and the buffer begins with the message's bytes and is otherwise as it was; or the refusal (4, 5, 7, 8, 9, 10, 12 or
-// 13), and the buffer is as it was.
-pub fn write_order(r: Record, out: &mut [u8]) -> u8
-    ensures { λ n. ⌜ (n ≡ writeRefusal r (length (now (out .entry)))) × (now (out .exit) ≡ writeBuffer r (now (out .entry))) ⌝ }
+// Writes the parts of a record.
+fn write_parts(
+    message: u8,
+    unit: u8,
+    number: u32,
+    fixed: &[u8],
+    count: u8,
+    bits: &[u8; 15],
+    slots: &[u8],
+    out: &mut [u8],
+) -> u8
+    requires { ⌜ (length (now fixed) ≡ 59) × (length (now slots) ≡ 154) × (length (now bits) ≡ 15) ⌝ }
+    ensures { λ n. ⌜ (n ≡ writeRefusal (recordFrom message unit number (now (fixed .entry)) count (now (bits .entry)) (now (slots .entry))) (length (now (out .entry)))) × (now (out .exit) ≡ writeBuffer (recordFrom message unit number (now (fixed .entry)) count (now (bits .entry)) (now (slots .entry))) (now (out .entry))) ⌝ }
 {
-    let top = top_refusal(r.message, r.unit, r.count);
+    let top = top_refusal(message, unit, count);
     if top != 0 {
         return top;
     }
-    let fixed = r.fixed;
-    let bits = r.bits;
-    let slots = r.slots;
-    let s = gather::look_all(r.message, &bits, r.count, &slots);
-    let seen = seen_refusal(r.message, r.count, &fixed, &bits, &slots, s);
+    let mut rest = [0u8; 154];
+    fields::copy(&slots[0..154], &mut rest);
+    let s = gather::look_all(message, bits, count, &mut rest);
+    let seen = seen_refusal(message, count, fixed, bits, &rest, s);
     if seen != 0 {
         return seen;
     }
-    let size = orders::count_at(r.message) + 1 + (r.count as usize) + s.total;
+    let size = orders::count_at(message) + 1 + (count as usize) + s.total;
     if out.len() < size {
         return refusals::NO_ROOM;
     }
-    put_order(r, size, out);
+    put_order(message, unit, number, fixed, count, bits, slots, size, out);
     0
+}
+
+// Writes a record, which is the first 235 bytes given: 0, and the buffer begins with the message's bytes and is otherwise as it was; or the
+// refusal (4, 5, 7, 8, 9, 10, 12 or 13), and the buffer is as it was.
+pub fn write_order(given: &[u8], out: &mut [u8]) -> u8
+    requires { ⌜ 235 ≤ length (now given) ⌝ }
+    ensures { λ n. ⌜ (n ≡ writeRefusal (recordAt (now (given .entry))) (length (now (out .entry)))) × (now (out .exit) ≡ writeBuffer (recordAt (now (given .entry))) (now (out .entry))) ⌝ }
+{
+    let mut bits = [0u8; 15];
+    fields::copy(&given[66..81], &mut bits);
+    let number = numbers::read_u32(given, 2);
+    write_parts(
+        given[0],
+        given[1],
+        number,
+        &given[6..65],
+        given[65],
+        &bits,
+        &given[81..235],
+        out,
+    )
 }

@@ -176,3 +176,21 @@ is-written r room f =
       f .zero-slots,
       le-ltb room (sizeOf r) (f .has-room),
     )
+
+-- ---- where the count stands, by type
+
+pub in-new-order : (message : ℕ) → message ≡ 0x38 → countAt message ≡ 35
+unfolding countAt
+in-new-order message e = rw e
+
+pub in-cancel-order : (message : ℕ) → message ≡ 0x39 → countAt message ≡ 30
+unfolding countAt
+in-cancel-order message e = rw e
+
+pub in-acknowledgment : (message : ℕ) → message ≡ 0x25 → countAt message ≡ 47
+unfolding countAt
+in-acknowledgment message e = rw e
+
+pub in-others : (message : ℕ) → (message ≡ 0x38 → ⊥) → (message ≡ 0x39 → ⊥) → (message ≡ 0x25 → ⊥) → countAt message ≡ 69
+unfolding countAt
+in-others message a b c = rw (ne-eqb message 0x38 a, ne-eqb message 0x39 b, ne-eqb message 0x25 c)

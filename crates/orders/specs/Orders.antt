@@ -12,7 +12,6 @@ use Rattle.fields.specs.Slots.{zeros, Slot, takes, width, sum, anyBad, spread, 
 use Rattle.fields.specs.Places.{slotsOf, hasRequired}
 use Rattle.orders.specs.Shapes.{ofMember, ofVenue, countAt, mostOf, unitGood, fixedGood}
 use Rattle.orders.specs.declared.Record.{Record}
-use Rattle.orders.specs.declared.Reading.{Reading}
 
 -- ---- reading a whole message m
 
@@ -69,15 +68,9 @@ recordOf m =
       slots = layoutOf (typeOf m) (countOf m) (bitsOf m) (optionalOf m);
     }
 
+-- the record with which a new one begins
 abbrev pub blank : Record
 blank = record { message = 0; unit = 0; number = 0; fixed = zeros 59; count = 0; bits = zeros 15; slots = zeros 154 }
-
-abbrev pub pickReading : Bool → Reading → Reading → Reading
-pickReading true a b = a
-pickReading false a b = b
-
-unfoldable pub readOf : List ℕ → Reading
-readOf m = pickReading (eqb (readRefusal m) 0) (record { refusal = 0; order = recordOf m }) (record { refusal = readRefusal m; order = blank })
 
 -- ---- writing a record
 

@@ -11,6 +11,7 @@ use native.Mathlib.Omega.{arith}
 use lib.ListN.{length, getD, take, drop, length-append, length-take, length-drop, take-append-drop}
 use lib.Seq.{length-take-le, take-at, drop-at, drop-drop, drop-cons, getD-at, take-append-le}
 use Rattle.kinds.specs.Kinds.{allNul}
+use Rattle.numbers.specs.NumberLaws.{number-fits}
 use Rattle.wire.specs.Header.{headerBytes, lengthOf, typeOf, unitOf, numberOf, totalOf}
 use Rattle.wire.specs.HeaderLaws.{Bytes, header-length, header-type, header-unit, header-number, header-total, header-again}
 use Rattle.wire.specs.Frame.{frameRefusal, framed}
@@ -182,6 +183,30 @@ pub record Sound (r : Record) : Type 0 where
   pub bits-length : length (r .bits) ≡ 15
   pub slots-length : length (r .slots) ≡ 154
   pub number-range : r .number < 4294967296
+
+-- the record of a message that is read is one
+pub read-sound : (m : List ℕ) → Bytes m → readRefusal m ≡ 0 → Sound (recordOf m)
+unfolding recordOf fixedOf bitsOf layoutOf numberOf
+read-sound m bytes z =
+    let g = good m z in
+    let b = count-bounds (typeOf m) in
+    let ss = slotsOf (typeOf m) (countOf m) (bitsOf m) in
+    let p = padded (countAt (typeOf m) - 10) 10 59 m (omega (arith, g .there, b .low)) (omega (arith, b .high)) in
+    let e : 59 - (countAt (typeOf m) - 10) ≡ 69 - countAt (typeOf m) = omega (arith, b .low) in
+    record {
+      fixed-length = ap (λ (n : ℕ). length (take (countAt (typeOf m) - 10) (drop 10 m) ++ zeros n)) (sym e) ∙ p;
+      bits-length = padded (countOf m) (countAt (typeOf m) + 1) 15 m (omega (arith, g .there)) (omega (arith, g .count, most-bound (typeOf m)));
+      slots-length =
+          let n = spread-length ss (optionalOf m) (omega (arith, g .total)) in
+          length-append (spread ss (optionalOf m)) (zeros (154 - sum width ss)) ∙ omega (arith, n, length-zeros (154 - sum width ss), widths-fit (typeOf m) (countOf m) (bitsOf m));
+      number-range = number-fits 4 6 m bytes;
+    }
+  where
+    padded : (n a k : ℕ) (l : List ℕ) → a + n ≤ length l → n ≤ k → length (take n (drop a l) ++ zeros (k - n)) ≡ k
+    padded n a k l h q =
+        let d : length (drop a l) ≡ length l - a = length-drop a l in
+        let t : length (take n (drop a l)) ≡ n = length-take-le n (drop a l) (omega arith) in
+        length-append (take n (drop a l)) (zeros (k - n)) ∙ omega (arith, t, length-zeros (k - n))
 
 -- zeros after what is kept
 zeros-after : (n k : ℕ) (l : List ℕ) → n ≤ length l → length l ≡ k → allNul (drop n l) ≡ true → take n l ++ zeros (k - n) ≡ l

@@ -20,12 +20,6 @@ pub struct Record {
     pub slots: [u8; 154],
 }
 
-// What reading answers: 0 and the record, or the refusal and the blank record.
-pub struct Reading {
-    pub refusal: u8,
-    pub order: Record,
-}
-
 // A type of the member's.
 pub fn of_member(message: u8) -> bool
     ensures { λ r. ⌜ r ≡ ofMember message ⌝ }
@@ -93,7 +87,7 @@ fn new_order_good(f: &[u8]) -> bool
     requires { ⌜ 25 ≤ length (now f) ⌝ }
     ensures { λ r. ⌜ r ≡ newOrderGood (now (f .entry)) ⌝ }
 {
-    if kinds::agrees_filled(Kind::Identifier, &f[0..20]) {
+    if kinds::identifies(&f[0..20]) {
         if kinds::agrees_filled(Kind::Alphanumeric, &f[20..21]) {
             let quantity = numbers::read_u32(f, 21);
             if 1 <= quantity {
@@ -108,21 +102,21 @@ fn cancel_order_good(f: &[u8]) -> bool
     requires { ⌜ 20 ≤ length (now f) ⌝ }
     ensures { λ r. ⌜ r ≡ cancelOrderGood (now (f .entry)) ⌝ }
 {
-    kinds::agrees_filled(Kind::Identifier, &f[0..20])
+    kinds::identifies(&f[0..20])
 }
 
 fn acknowledgment_good(f: &[u8]) -> bool
     requires { ⌜ 28 ≤ length (now f) ⌝ }
     ensures { λ r. ⌜ r ≡ acknowledgmentGood (now (f .entry)) ⌝ }
 {
-    kinds::agrees_filled(Kind::Identifier, &f[8..28])
+    kinds::identifies(&f[8..28])
 }
 
 fn execution_good(f: &[u8]) -> bool
     requires { ⌜ 58 ≤ length (now f) ⌝ }
     ensures { λ r. ⌜ r ≡ executionGood (now (f .entry)) ⌝ }
 {
-    if kinds::agrees_filled(Kind::Identifier, &f[8..28]) {
+    if kinds::identifies(&f[8..28]) {
         if kinds::agrees(Kind::Alphanumeric, &f[52..53]) {
             if kinds::agrees(Kind::Alphanumeric, &f[53..54]) {
                 return kinds::agrees(Kind::Alphanumeric, &f[54..58]);
@@ -145,7 +139,7 @@ pub fn fixed_good(message: u8, f: &[u8]) -> bool
     }
 }
 
-// The blank record.
+// The blank record, with which a new one begins.
 pub fn blank_record() -> Record
     ensures { λ r. ⌜ r ≡ blank ⌝ }
 {

@@ -6,6 +6,7 @@ use mathlib.Core.List.{List, [], _∷_, _++_, map}
 use Prim.Native.Nat.{ℕ, suc, _+_, _-_, _*_}
 use lib.IntN.{ℤ, pos, negsuc}
 use lib.ListN.{length, take, drop}
+use Rattle.numbers.specs.Numbers.{numberAt}
 use Rattle.numbers.specs.Prices.{priceAt}
 use Rattle.wire.specs.Header.{lengthOf, totalOf, typeOf, numberOf}
 use Rattle.wire.specs.Frame.{notBA, startsBad, lengthBad, cutShort, frameRefusal, framed}
@@ -16,7 +17,9 @@ use Rattle.fields.specs.Slots.{zeros, Slot, takes, width, sum}
 use Rattle.fields.specs.Places.{selectedAt, entryAt, slotsFrom, slotsOf, hasRequired}
 use Rattle.orders.specs.Shapes.{countAt, mostOf, unitGood, fixedGood}
 use Rattle.orders.specs.Orders as orders
-use Rattle.messages.specs.Messages.{carries, readRefusal}
+use Rattle.groups.specs.Groups as groups
+use Rattle.logins.specs.Sessions as sessions
+use Rattle.messages.specs.Messages.{carries, sessionRecordBytes, ownRefusal, recordOf, readRefusal}
 
 -- a line of the table: the example's number, what the definitions answer, what document 01 says
 pub record Example : Type 0 where
@@ -87,6 +90,24 @@ fiveValues =
     0 ∷ 1234500 ∷ 0x4D ∷ 0x53 ∷ 0x46 ∷ 0x54 ∷ zeros 4
     ++ (0x50 ∷ 0x52 ∷ 0 ∷ 0 ∷ 0 ∷ 0x44 ∷ 0x45 ∷ 0x46 ∷ 0x47 ∷ zeros 12)
 
+-- the bytes of 002's Login Request: header; SessionSubID 0001, Username TEST, Password TESTING; three groups, of the units, of 0x25, of 0x2C
+abbrev login : List ℕ
+login =
+    0xBA ∷ 0xBA ∷ 0x3D ∷ 0 ∷ 0x37 ∷ zeros 5
+    ++ (0x30 ∷ 0x30 ∷ 0x30 ∷ 0x31 ∷ test)
+    ++ (0x54 ∷ 0x45 ∷ 0x53 ∷ 0x54 ∷ 0x49 ∷ 0x4E ∷ 0x47 ∷ zeros 3)
+    ++ (0x03 ∷ 0x0F ∷ 0 ∷ 0x80 ∷ 0x01 ∷ 0x02 ∷ 0x01 ∷ 0x4A ∷ 0xBB ∷ 0x01 ∷ 0 ∷ 0x02 ∷ zeros 4)
+    ++ (0x08 ∷ 0 ∷ 0x81 ∷ 0x25 ∷ 0x03 ∷ 0 ∷ 0x41 ∷ 0x05 ∷ [])
+    ++ (0x0B ∷ 0 ∷ 0x81 ∷ 0x2C ∷ 0x06 ∷ 0 ∷ 0x41 ∷ 0x07 ∷ 0 ∷ 0x40 ∷ 0 ∷ [])
+
+-- the kind of the group at the front of s, 1 for the units; and, after its five bytes, the unit of its first pair and that unit's last number
+abbrev firstPair : List ℕ → List ℕ
+firstPair s = groups.groupKey s ∷ groups.unitAt (drop 5 s) 0 ∷ numberAt 4 1 (drop 5 s) ∷ []
+
+-- the units; unit 1 at 113,482
+abbrev unitOne : List ℕ
+unitOne = 1 ∷ 1 ∷ 113482 ∷ []
+
 abbrev pub examples : List Example
 examples =
     -- 12.3400, -12.3400, -0.0001, -922337203685477.5808
@@ -117,9 +138,14 @@ examples =
     ∷ example 12 (yes (heartbeatDue 994 4294967290) ∷ yes (heartbeatDue 993 4294967290) ∷ []) (1 ∷ 0 ∷ [])
     -- no bytes: 3; BA 00: 1
     ∷ example 13 (frameRefusal [] ∷ frameRefusal (0xBA ∷ 0x00 ∷ []) ∷ []) (3 ∷ 1 ∷ [])
+    -- 002's login: accepted, total 63, and so many bytes
+    ∷ example 14 (readRefusal 0 login ∷ totalOf login ∷ length login ∷ []) (0 ∷ 63 ∷ 63 ∷ [])
+    -- and its first group, after header and fixed part, has unit 1 at 113,482, as its record does after type, unit, number and fixed part
+    ∷ example 14 (firstPair (drop (10 + sessions.fixedSize 0x37) login)) unitOne
+    ∷ example 14 (firstPair (drop (6 + sessions.fixedSize 0x37) (recordOf login))) unitOne
     ∷ []
 
 -- every example is answered as document 01 states it
 pub examples-hold : map (λ (e : Example). e .answered) examples ≡ map (λ (e : Example). e .stated) examples
-unfolding lengthOf totalOf notBA startsBad lengthBad cutShort frameRefusal unitRefusal entryRefusal entryOf stepRefusal stepOf elapsedOf heartbeatDue framed carries readRefusal orders.readRefusal orders.headRefusal orders.blockRefusal orders.bitsOf orders.optionalOf orders.fixedOf orders.layoutOf orders.recordOf numberOf countAt mostOf unitGood fixedGood selectedAt entryAt dictionary.entryOf slotsFrom hasRequired
+unfolding lengthOf totalOf notBA startsBad lengthBad cutShort frameRefusal unitRefusal entryRefusal entryOf stepRefusal stepOf elapsedOf heartbeatDue framed carries readRefusal orders.readRefusal orders.headRefusal orders.blockRefusal orders.bitsOf orders.optionalOf orders.fixedOf orders.layoutOf orders.recordOf numberOf countAt mostOf unitGood fixedGood selectedAt entryAt dictionary.entryOf slotsFrom hasRequired ownRefusal recordOf sessionRecordBytes sessions.readRefusal sessions.fixedSize sessions.valuesGood sessions.flagGood sessions.listsEnd sessions.bodyEnd sessions.bodyOf groups.unitsFrom groups.pairsGood groups.bitsGood groups.groupKey groups.groupSize groups.nextSize groups.groupsFrom
 examples-hold = refl

@@ -1,1 +1,1 @@
-// The worked examples of document 01, P1 to P14 as far as their layers stand: one table with a single proof, in specs/Examples.antt.
+// The worked examples of document 01, P1 to P14: one table with a single proof, in specs/Examples.antt.

@@ -7,13 +7,13 @@ ghost use Rattle.numbers.specs.Numbers.{bytesOf, patched};
 ghost use Rattle.records.specs.Records.{recordBytes, recordAt};
 use orders::Record;
 
-// Bytes, and others after them, into the front of a lent tail.
-fn put_two(first: &[u8], n: usize, second: &[u8], tail: &mut [u8])
-    requires { ⌜ (length (now first) ≡ n) × (n + length (now second) ≤ length (now tail)) ⌝ }
-    ensures { λ _. ⌜ now (tail .exit) ≡ patched (now (tail .entry)) 0 (now (first .entry) ++ now (second .entry)) ⌝ }
+// The bitfields, and the layout after them, into the front of a lent tail.
+fn put_fields(bits: &[u8], slots: &[u8], tail: &mut [u8])
+    requires { ⌜ (length (now bits) ≡ 15) × (length (now slots) ≡ 154) × (169 ≤ length (now tail)) ⌝ }
+    ensures { λ _. ⌜ now (tail .exit) ≡ patched (now (tail .entry)) 0 (now (bits .entry) ++ now (slots .entry)) ⌝ }
 {
-    fields::copy(first, tail);
-    fields::copy(second, &mut tail[n..]);
+    fields::copy(bits, tail);
+    fields::copy_layout(slots, &mut tail[15..]);
 }
 
 // The count, the bitfields and the layout.
@@ -22,7 +22,7 @@ fn put_block(count: u8, bits: &[u8], slots: &[u8], tail: &mut [u8])
     ensures { λ _. ⌜ now (tail .exit) ≡ patched (now (tail .entry)) 0 (count ∷ (now (bits .entry) ++ now (slots .entry))) ⌝ }
 {
     tail[0] = count;
-    put_two(bits, 15, slots, &mut tail[1..]);
+    put_fields(bits, slots, &mut tail[1..]);
 }
 
 // The fixed part, and these after it.
@@ -34,14 +34,32 @@ fn put_body(fixed: &[u8], count: u8, bits: &[u8], slots: &[u8], tail: &mut [u8])
     put_block(count, bits, slots, &mut tail[59..]);
 }
 
-// The type, the unit and the number.
-fn put_head(message: u8, unit: u8, number: u32, out: &mut [u8])
+// The type, the unit and the number: the head of any record.
+pub fn put_head(message: u8, unit: u8, number: u32, out: &mut [u8])
     requires { ⌜ 6 ≤ length (now out) ⌝ }
     ensures { λ _. ⌜ now (out .exit) ≡ patched (now (out .entry)) 0 (message ∷ unit ∷ bytesOf 4 number) ⌝ }
 {
     out[0] = message;
     out[1] = unit;
     numbers::write_u32(out, 2, number);
+}
+
+// The parts of a record into the front of a buffer that has room for it.
+pub fn pack_parts(
+    message: u8,
+    unit: u8,
+    number: u32,
+    fixed: &[u8],
+    count: u8,
+    bits: &[u8],
+    slots: &[u8],
+    out: &mut [u8],
+)
+    requires { ⌜ (length (now fixed) ≡ 59) × (length (now bits) ≡ 15) × (length (now slots) ≡ 154) × (235 ≤ length (now out)) ⌝ }
+    ensures { λ _. ⌜ now (out .exit) ≡ patched (now (out .entry)) 0 (recordBytes (record { message = message; unit = unit; number = number; fixed = now (fixed .entry); count = count; bits = now (bits .entry); slots = now (slots .entry) })) ⌝ }
+{
+    put_head(message, unit, number, out);
+    put_body(fixed, count, bits, slots, &mut out[6..]);
 }
 
 // A record into the front of a buffer that has room for it.
@@ -52,8 +70,16 @@ pub fn pack(r: Record, out: &mut [u8])
     let fixed = r.fixed;
     let bits = r.bits;
     let slots = r.slots;
-    put_head(r.message, r.unit, r.number, out);
-    put_body(&fixed, r.count, &bits, &slots, &mut out[6..]);
+    pack_parts(
+        r.message,
+        r.unit,
+        r.number,
+        &fixed,
+        r.count,
+        &bits,
+        &slots,
+        out,
+    );
 }
 
 // The record of the first 235 bytes.

@@ -1,6 +1,6 @@
 -- What taking all fields into a zero layout makes, in the words of the slots. Assumes nothing.
 use mathlib.Core.Path.{_≡_, refl, sym, ap, _∙_, subst}
-use mathlib.Core.Bool.{Bool, true, false, _&&_, _||_, or-false, and-true}
+use mathlib.Core.Bool.{Bool, true, false, not, or-false, and-true}
 use mathlib.Core.List.{List, [], _++_}
 use Prim.Native.Nat.{ℕ, _+_, _-_, _≤_, _<_}
 use native.Mathlib.Nat.{zero-add}
@@ -18,9 +18,9 @@ use Rattle.spread.specs.State.{taking, start, takeWalk}
 
 -- what was taken: whether a bit is bad, whether the total is right, and where it is, whether all agree and what the layout holds
 pub record TookAll (ss : List Slot) (m : List ℕ) (t : Taken) (layout : List ℕ) : Type 0 where
-  pub bad-is : t .bad ≡ anyBad ss
+  pub bad-is : not (eqb (t .bad) 0) ≡ anyBad ss
   pub total-is : eqb (t .at) (length m) ≡ eqb (sum takes ss) (length m)
-  pub agree-is : sum takes ss ≡ length m → t .agree ≡ agreeSent ss m
+  pub agree-is : sum takes ss ≡ length m → eqb (t .wrong) 0 ≡ agreeSent ss m
   pub layout-is : sum takes ss ≡ length m → layout ≡ spread ss m ++ zeros (154 - sum width ss)
 
 module _ (message count : ℕ) (bits m : List ℕ) where

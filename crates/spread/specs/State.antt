@@ -1,14 +1,14 @@
 -- The state of taking, as the code holds it: the struct and the layout that is lent. Definitions alone. Assumes nothing.
 use Prim.Native.Nat.{ℕ}
-use mathlib.Core.Bool.{Bool, true, false}
+use mathlib.Core.Bool.{true, false, not}
 use mathlib.Core.List.{List}
-use Rattle.dictionary.specs.declared.Entry.{Entry}
+use lib.Dec.{eqb}
 use Rattle.fields.specs.Places.{selectedAt, entryAt}
 use Rattle.fields.specs.Walk.{walk, Taking, takeEntry}
 use Rattle.spread.specs.declared.Taken.{Taken}
 
 abbrev pub taking : Taken → List ℕ → Taking
-taking t layout = record { at = t .at; agree = t .agree; bad = t .bad; layout = layout }
+taking t layout = record { at = t .at; agree = eqb (t .wrong) 0; bad = not (eqb (t .bad) 0); layout = layout }
 
 -- nothing taken yet
 abbrev pub start : List ℕ → Taking

@@ -1,5 +1,6 @@
 // Reading the optional block: a walk over the set bits that takes each field of a message into a record's full layout.
 ghost use mathlib.Core.Path.{_≡_};
+ghost use mathlib.Core.Bool.{_&&_};
 ghost use Prim.Native.Nat.{_+_, _*_, _%_, _≤_, _<_};
 ghost use lib.Dec.{eqb};
 ghost use lib.ListN.{length, getD};
@@ -9,28 +10,38 @@ ghost use Rattle.spread.specs.State.{taking, start, takeWalk};
 use dictionary::Entry;
 use kinds::Kind;
 
-// How far a message's optional bytes are taken (one past their end where they are too few), whether every field so far agrees with
-// its kind, and whether a set bit is not listed.
+// How far a message's optional bytes are taken (one past their end where they are too few), 1 where a field so far is against its kind,
+// and 1 where a set bit is not listed. Numbers, since a struct with gaps costs copies.
 pub struct Taken {
     pub at: usize,
-    pub agree: bool,
-    pub bad: bool,
+    pub wrong: usize,
+    pub bad: usize,
+}
+
+// 1 where a field is against its kind or one before it was.
+fn worse(wrong: usize, agree: bool) -> usize
+    ensures { λ r. ⌜ eqb r 0 ≡ (agree && eqb wrong 0) ⌝ }
+{
+    if agree {
+        return wrong;
+    }
+    1
 }
 
 // A field that the message has no bytes for.
 fn lost(msg: &[u8], t: Taken) -> Taken
-    ensures { λ r. ⌜ (r .at ≡ length (now (msg .entry)) + 1) × (r .agree ≡ t .agree) × (r .bad ≡ t .bad) ⌝ }
+    ensures { λ r. ⌜ (r .at ≡ length (now (msg .entry)) + 1) × (r .wrong ≡ t .wrong) × (r .bad ≡ t .bad) ⌝ }
 {
     Taken {
         at: msg.len() + 1,
-        agree: t.agree,
+        wrong: t.wrong,
         bad: t.bad,
     }
 }
 
 // One field, from the message's tail into the layout's tail.
 fn take_field(width: u8, kind: Kind, place: u8, msg: &[u8], t: Taken, layout: &mut [u8]) -> Taken
-    requires { ⌜ place + width ≤ length (now layout) ⌝ }
+    requires { ⌜ (place + width ≤ length (now layout)) × (length (now layout) ≡ 154) ⌝ }
     ensures { λ r. ⌜ taking r (now (layout .exit)) ≡ takeField (now (msg .entry)) width kind place (taking t (now (layout .entry))) ⌝ }
 {
     let w = width as usize;
@@ -44,11 +55,11 @@ fn take_field(width: u8, kind: Kind, place: u8, msg: &[u8], t: Taken, layout: &m
     }
     let end = at + w;
     let field = &msg[at..end];
-    fields::copy(field, &mut layout[p..]);
-    let agree = fields::both(kinds::agrees(kind, field), t.agree);
+    fields::move_field(field, &mut layout[p..]);
+    let wrong = worse(t.wrong, kinds::agrees(kind, field));
     Taken {
         at: end,
-        agree: agree,
+        wrong: wrong,
         bad: t.bad,
     }
 }
@@ -63,8 +74,8 @@ fn take_bit(message: u8, byte: u8, bit: u8, x: u8, msg: &[u8], t: Taken, layout:
         match e {
             Entry::Refused => Taken {
                 at: t.at,
-                agree: t.agree,
-                bad: true,
+                wrong: t.wrong,
+                bad: 1,
             },
             Entry::Field { width, kind, place } => take_field(width, kind, place, msg, t, layout),
         }
@@ -73,7 +84,101 @@ fn take_bit(message: u8, byte: u8, bit: u8, x: u8, msg: &[u8], t: Taken, layout:
     }
 }
 
-// The fields of bitfield byte j, counted from 0, which is `value`.
+// The fields of bitfield byte j, counted from 0, which is `value`; its places end at `end`. Where message and byte are literals the compiler
+// unrolls the loop and folds the dictionary away.
+fn take_bits(
+    message: u8,
+    bits: &[u8; 15],
+    count: u8,
+    j: u8,
+    end: u8,
+    value: u8,
+    msg: &[u8],
+    t: Taken,
+    layout: &mut [u8],
+) -> Taken
+    requires { ⌜ (length (now layout) ≡ 154) × (j < count) × (count ≤ 15) × (value ≡ getD (now bits) j 0) × (end ≡ 8 * j + 8) ⌝ }
+    ensures { λ r. ⌜ taking r (now (layout .exit)) ≡ takeWalk message count (now (bits .entry)) (now (msg .entry)) 8 (8 * j) (taking t (now (layout .entry))) ⌝ }
+{
+    let n = end - 8 * j;
+    let mut x = value;
+    let mut bit: u8 = 0;
+    let mut r = t;
+    while bit < n {
+        r = take_bit(message, j + 1, bit, x, msg, r, layout);
+        x = x / 2;
+        bit += 1;
+    }
+    r
+}
+
+// The same for New Order, whose bytes 1, 2, 3, 6 and 10 have listed bits.
+fn take_new_order(
+    bits: &[u8; 15],
+    count: u8,
+    j: u8,
+    value: u8,
+    msg: &[u8],
+    t: Taken,
+    layout: &mut [u8],
+) -> Taken
+    requires { ⌜ (length (now layout) ≡ 154) × (j < count) × (count ≤ 15) × (value ≡ getD (now bits) j 0) ⌝ }
+    ensures { λ r. ⌜ taking r (now (layout .exit)) ≡ takeWalk 0x38 count (now (bits .entry)) (now (msg .entry)) 8 (8 * j) (taking t (now (layout .entry))) ⌝ }
+{
+    match j {
+        0 => take_bits(0x38, bits, count, 0, 8, value, msg, t, layout),
+        1 => take_bits(0x38, bits, count, 1, 16, value, msg, t, layout),
+        2 => take_bits(0x38, bits, count, 2, 24, value, msg, t, layout),
+        5 => take_bits(0x38, bits, count, 5, 48, value, msg, t, layout),
+        9 => take_bits(0x38, bits, count, 9, 80, value, msg, t, layout),
+        _ => take_bits(0x38, bits, count, j, 8 * j + 8, value, msg, t, layout),
+    }
+}
+
+// The same for Order Acknowledgment: bytes 1, 2, 3 and 5.
+fn take_acknowledgment(
+    bits: &[u8; 15],
+    count: u8,
+    j: u8,
+    value: u8,
+    msg: &[u8],
+    t: Taken,
+    layout: &mut [u8],
+) -> Taken
+    requires { ⌜ (length (now layout) ≡ 154) × (j < count) × (count ≤ 15) × (value ≡ getD (now bits) j 0) ⌝ }
+    ensures { λ r. ⌜ taking r (now (layout .exit)) ≡ takeWalk 0x25 count (now (bits .entry)) (now (msg .entry)) 8 (8 * j) (taking t (now (layout .entry))) ⌝ }
+{
+    match j {
+        0 => take_bits(0x25, bits, count, 0, 8, value, msg, t, layout),
+        1 => take_bits(0x25, bits, count, 1, 16, value, msg, t, layout),
+        2 => take_bits(0x25, bits, count, 2, 24, value, msg, t, layout),
+        4 => take_bits(0x25, bits, count, 4, 40, value, msg, t, layout),
+        _ => take_bits(0x25, bits, count, j, 8 * j + 8, value, msg, t, layout),
+    }
+}
+
+// The same for Order Execution: bytes 1, 2 and 3.
+fn take_execution(
+    bits: &[u8; 15],
+    count: u8,
+    j: u8,
+    value: u8,
+    msg: &[u8],
+    t: Taken,
+    layout: &mut [u8],
+) -> Taken
+    requires { ⌜ (length (now layout) ≡ 154) × (j < count) × (count ≤ 15) × (value ≡ getD (now bits) j 0) ⌝ }
+    ensures { λ r. ⌜ taking r (now (layout .exit)) ≡ takeWalk 0x2C count (now (bits .entry)) (now (msg .entry)) 8 (8 * j) (taking t (now (layout .entry))) ⌝ }
+{
+    match j {
+        0 => take_bits(0x2C, bits, count, 0, 8, value, msg, t, layout),
+        1 => take_bits(0x2C, bits, count, 1, 16, value, msg, t, layout),
+        2 => take_bits(0x2C, bits, count, 2, 24, value, msg, t, layout),
+        _ => take_bits(0x2C, bits, count, j, 8 * j + 8, value, msg, t, layout),
+    }
+}
+
+// The fields of bitfield byte j of any message.
 fn take_byte(
     message: u8,
     bits: &[u8; 15],
@@ -87,15 +192,15 @@ fn take_byte(
     requires { ⌜ (length (now layout) ≡ 154) × (j < count) × (count ≤ 15) × (value ≡ getD (now bits) j 0) ⌝ }
     ensures { λ r. ⌜ taking r (now (layout .exit)) ≡ takeWalk message count (now (bits .entry)) (now (msg .entry)) 8 (8 * j) (taking t (now (layout .entry))) ⌝ }
 {
-    let mut x = value;
-    let mut bit: u8 = 0;
-    let mut r = t;
-    while x != 0 {
-        r = take_bit(message, j + 1, bit, x, msg, r, layout);
-        x = x / 2;
-        bit += 1;
+    if value == 0 {
+        return t;
     }
-    r
+    match message {
+        0x38 => take_new_order(bits, count, j, value, msg, t, layout),
+        0x25 => take_acknowledgment(bits, count, j, value, msg, t, layout),
+        0x2C => take_execution(bits, count, j, value, msg, t, layout),
+        _ => take_bits(message, bits, count, j, 8 * j + 8, value, msg, t, layout),
+    }
 }
 
 // All fields that the first `count` bitfield bytes select, into a layout.
@@ -106,8 +211,8 @@ pub fn take_all(message: u8, bits: &[u8; 15], count: u8, msg: &[u8], layout: &mu
     let mut j: u8 = 0;
     let mut r = Taken {
         at: 0,
-        agree: true,
-        bad: false,
+        wrong: 0,
+        bad: 0,
     };
     while j < count {
         let value = bits[j as usize];

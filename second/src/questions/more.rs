@@ -1,13 +1,16 @@
 //! Questions past the stored ones, as many as are wanted (README.md, "More questions").
 
-use super::damage::{self, pattern};
+use super::damage::{self, lent, pattern};
 use super::sample::{Sample, ACKNOWLEDGMENT, CANCEL, EXECUTION, NEW_ORDER};
-use super::{read, write};
+use super::session::sample::{
+    Sample as Session, CLIENT_HEARTBEAT, LOGIN, LOGOUT, REPLAY_COMPLETE, RESPONSE, SERVER_HEARTBEAT,
+};
+use super::{read, session, write};
 use crate::random::Random;
 use crate::rules::layout;
 use std::collections::VecDeque;
 
-/// How often each type comes, in eight.
+/// How often each type of the messages with bitfields comes, in eight.
 const TYPES: [usize; 8] = [
     NEW_ORDER,
     NEW_ORDER,
@@ -17,6 +20,22 @@ const TYPES: [usize; 8] = [
     ACKNOWLEDGMENT,
     EXECUTION,
     EXECUTION,
+];
+
+/// How often each type of the session messages comes, in twelve.
+const SESSION_TYPES: [usize; 12] = [
+    LOGIN,
+    LOGIN,
+    LOGIN,
+    LOGIN,
+    RESPONSE,
+    RESPONSE,
+    RESPONSE,
+    LOGOUT,
+    LOGOUT,
+    CLIENT_HEARTBEAT,
+    SERVER_HEARTBEAT,
+    REPLAY_COMPLETE,
 ];
 
 /// Lines without their LF; there is no last one.
@@ -51,8 +70,15 @@ impl More {
         }
     }
 
-    /// A message, its record, and both of them damaged.
+    /// A message, its record, and both of them damaged; one time in three of the session.
     fn four(&mut self) {
+        match self.random.below(3) {
+            0 => self.four_of_the_session(),
+            _ => self.four_with_bitfields(),
+        }
+    }
+
+    fn four_with_bitfields(&mut self) {
         let random = &mut self.random;
         let which = TYPES[random.between(0, TYPES.len() - 1)];
         let sample = Sample::any(random, which);
@@ -60,12 +86,31 @@ impl More {
         let message = sample.bytes();
         let more = random.between(0, 5);
         let buffer = pattern(random, message.len() + more);
+        let record = lent(random, &sample.record());
         self.waiting.push_back(read::line(direction, &message));
         self.waiting
-            .push_back(write::line(direction, &sample.record(), &buffer));
+            .push_back(write::line(direction, &record, &buffer));
         let (direction, bytes) = damage::message(random, &sample);
         self.waiting.push_back(read::line(direction, &bytes));
         let (direction, record, buffer) = damage::record(random, &sample);
+        self.waiting
+            .push_back(write::line(direction, &record, &buffer));
+    }
+
+    fn four_of_the_session(&mut self) {
+        let random = &mut self.random;
+        let which = SESSION_TYPES[random.between(0, SESSION_TYPES.len() - 1)];
+        let sample = Session::any(random, which);
+        let direction = sample.session.direction;
+        let message = sample.bytes();
+        let more = random.between(0, 5);
+        let buffer = pattern(random, message.len() + more);
+        self.waiting.push_back(read::line(direction, &message));
+        self.waiting
+            .push_back(write::line(direction, &sample.record(), &buffer));
+        let (direction, bytes) = session::damage::message(random, &sample);
+        self.waiting.push_back(read::line(direction, &bytes));
+        let (direction, record, buffer) = session::damage::record(random, &sample);
         self.waiting
             .push_back(write::line(direction, &record, &buffer));
     }
@@ -87,7 +132,7 @@ mod tests {
     use super::*;
     use crate::ask;
     use crate::hex;
-    use crate::questions::sample::session_type;
+    use crate::rules;
     use std::collections::BTreeSet;
 
     #[test]
@@ -125,10 +170,13 @@ mod tests {
         assert!(!More::new(1).nth(191).unwrap().starts_with("read"));
     }
 
+    /// Each answer comes, and about a third of the questions are of the session.
     #[test]
-    fn every_answer_and_no_session_type() {
+    fn every_answer_and_every_type() {
         let mut seen = BTreeSet::new();
-        for line in More::new(3).take(6_000) {
+        let mut types = BTreeSet::new();
+        let mut of_the_session = 0;
+        for line in More::new(3).skip(190).take(6_000) {
             let answer = ask::answer(line.as_bytes());
             let words: Vec<&str> = line.split(' ').collect();
             let number = answer.split(' ').next().unwrap();
@@ -136,16 +184,24 @@ mod tests {
             let bytes = hex::read(words[2]).unwrap();
             let type_place = if words[0] == "read" { 4 } else { 0 };
             if let Some(type_byte) = bytes.get(type_place) {
-                assert!(!session_type(*type_byte));
+                let found = rules::session::ALL
+                    .iter()
+                    .any(|session| session.type_byte == *type_byte);
+                of_the_session += usize::from(found);
+                if number == "0" {
+                    types.insert(*type_byte);
+                }
             }
         }
         let mut expected = BTreeSet::new();
-        for number in [0, 1, 2, 3, 4, 5, 6, 7, 8, 9, 10] {
+        for number in 0..=11 {
             expected.insert(format!("read {}", number));
         }
-        for number in [0, 4, 5, 7, 8, 9, 10, 12, 13] {
+        for number in [0, 4, 5, 7, 8, 9, 10, 11, 12, 13] {
             expected.insert(format!("write {}", number));
         }
         assert_eq!(seen, expected);
+        assert_eq!(types.len(), 10);
+        assert!((1_700..2_300).contains(&of_the_session));
     }
 }

@@ -1,14 +1,19 @@
 //! Lines outside the format, and lines that are just inside it.
 
+use crate::examples;
+use crate::hex;
+use crate::rules::layout::MEMBER;
+use crate::rules::read;
+use crate::rules::record::LENT;
+
 pub fn ask(lines: &mut Vec<String>) {
-    for line in OUTSIDE {
-        lines.push(line.to_string());
-    }
-    for line in INSIDE {
+    for line in OUTSIDE.iter().chain(INSIDE).chain(READ).chain(WRITE) {
         lines.push(line.to_string());
     }
     sizes(lines);
     longest(lines);
+    longest_of_reading(lines);
+    longest_of_writing(lines);
 }
 
 const OUTSIDE: &[&str] = &[
@@ -187,8 +192,84 @@ const INSIDE: &[&str] = &[
     "step - 032 04294967295",
 ];
 
+/// Of reading; the last five are just inside the format.
+const READ: &[&str] = &[
+    "read",
+    "read ",
+    "read 0",
+    "read -",
+    "read 0 ",
+    "read 0 - -",
+    "read 0 - 0",
+    "read 0 1 -",
+    "read  0 -",
+    "read 0  -",
+    "read 0 - ",
+    " read 0 -",
+    "Read 0 -",
+    "READ 0 -",
+    "reads 0 -",
+    "read - 0",
+    "read 256 -",
+    "read 257 BABA",
+    "read 4294967296 -",
+    "read 18446744073709551616 -",
+    "read -1 -",
+    "read +1 -",
+    "read 0x1 -",
+    "read A -",
+    "read 000000000000000000001 -",
+    "read 0 B",
+    "read 0 BAB",
+    "read 0 ba",
+    "read 0 BAbA",
+    "read 0 BABA 08",
+    "read 0 0",
+    "read 0 -",
+    "read 1 BA00",
+    "read 255 BABA",
+    "read 00 -",
+    "read 00000000000000000255 BABA0700",
+];
+
+/// Of writing; the last four are just inside the format.
+const WRITE: &[&str] = &[
+    "write",
+    "write 0",
+    "write 0 -",
+    "write - -",
+    "write 0 - ",
+    "write 0 - - -",
+    "write 0 - - 0",
+    "write  0 - -",
+    "write 0  - -",
+    "write 0 -  -",
+    "write 0 - - ",
+    " write 0 - -",
+    "Write 0 - -",
+    "WRITE 0 - -",
+    "writes 0 - -",
+    "write 256 - -",
+    "write 4294967296 - -",
+    "write 18446744073709551616 - -",
+    "write -1 - -",
+    "write +1 - -",
+    "write A - -",
+    "write 000000000000000000001 - -",
+    "write 0 3 -",
+    "write 0 - 3",
+    "write 0 2c -",
+    "write 0 - 2c",
+    "write 0 38-00 -",
+    "write 0 - 00-",
+    "write 0 - -",
+    "write 1 2C 0102",
+    "write 255 - 00",
+    "write 00000000000000000255 38 FF",
+];
+
 /// A line of `size` characters: `head`, the zero bytes that fill it, `tail`.
-pub fn padded(head: &str, tail: &str, size: usize) -> String {
+fn padded(head: &str, tail: &str, size: usize) -> String {
     let count = (size - head.len() - tail.len()) / 2;
     let line = format!("{}{}{}", head, "00".repeat(count), tail);
     assert_eq!(line.len(), size);
@@ -215,4 +296,27 @@ fn longest(lines: &mut Vec<String>) {
     lines.push(padded("step ", " 32 1", 8_002));
     lines.push(padded("kind T 41", "", 7_999));
     lines.push(padded("kind T 41", "", 8_001));
+}
+
+/// A valid message and zeros after it, in a line as long as it may be, and in a longer one.
+fn longest_of_reading(lines: &mut Vec<String>) {
+    let cancel = hex::write(&examples::cancel());
+    lines.push(padded(&format!("read 00 {}", cancel), "", 8_000));
+    lines.push(padded(&format!("read 0 {}", cancel), "", 8_001));
+    let login = hex::write(&examples::login());
+    lines.push(padded(&format!("read 00 {}", login), "", 8_000));
+    lines.push(padded(&format!("read 0 {}", login), "", 8_001));
+}
+
+/// Long buffers and long records, as long as a line may be, and longer.
+fn longest_of_writing(lines: &mut Vec<String>) {
+    for (message, total) in [(examples::cancel(), 36), (examples::login(), 69)] {
+        let mut record = read::message(MEMBER, &message).expect("a valid message");
+        record.resize(LENT, 0);
+        let record = hex::write(&record);
+        lines.push(padded(&format!("write 0 {} FF", record), "", 7_999));
+        let tail = format!("FF {}", "AA".repeat(total));
+        lines.push(padded(&format!("write 00 {}", record), &tail, 8_000));
+        lines.push(padded(&format!("write 00 {}", record), &tail, 8_002));
+    }
 }

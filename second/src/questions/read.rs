@@ -1,7 +1,6 @@
 //! Questions about reading messages with bitfields.
 
 use super::damage;
-use super::outside::padded;
 use super::sample::{self, Sample, ACKNOWLEDGMENT, CANCEL, EXECUTION, NEW_ORDER};
 use crate::examples;
 use crate::hex;
@@ -17,10 +16,6 @@ pub fn ask(lines: &mut Vec<String>) {
     for (direction, bytes) in messages() {
         lines.push(line(direction, &bytes));
     }
-    for line in LINES {
-        lines.push(line.to_string());
-    }
-    longest(lines);
 }
 
 pub fn line(direction: u8, bytes: &[u8]) -> String {
@@ -541,10 +536,10 @@ fn reserved_bytes(asked: &mut Asked, random: &mut Random) {
     }
 }
 
-/// Every type but those of the session, in a header alone.
+/// Every type in a header alone, with a number that the session messages do not have.
 fn types(asked: &mut Asked) {
     for direction in [MEMBER, VENUE] {
-        for type_byte in (0..=255).filter(|byte| !sample::session_type(*byte)) {
+        for type_byte in 0..=255 {
             let message = [0xBA, 0xBA, 8, 0, type_byte, direction, 1, 0, 0, 0];
             asked.push((direction, message.to_vec()));
         }
@@ -579,53 +574,6 @@ fn random_messages(asked: &mut Asked, random: &mut Random) {
             }
         }
     }
-}
-
-/// Lines outside the format; the last five are just inside it.
-const LINES: &[&str] = &[
-    "read",
-    "read ",
-    "read 0",
-    "read -",
-    "read 0 ",
-    "read 0 - -",
-    "read 0 - 0",
-    "read 0 1 -",
-    "read  0 -",
-    "read 0  -",
-    "read 0 - ",
-    " read 0 -",
-    "Read 0 -",
-    "READ 0 -",
-    "reads 0 -",
-    "read - 0",
-    "read 256 -",
-    "read 257 BABA",
-    "read 4294967296 -",
-    "read 18446744073709551616 -",
-    "read -1 -",
-    "read +1 -",
-    "read 0x1 -",
-    "read A -",
-    "read 000000000000000000001 -",
-    "read 0 B",
-    "read 0 BAB",
-    "read 0 ba",
-    "read 0 BAbA",
-    "read 0 BABA 08",
-    "read 0 0",
-    "read 0 -",
-    "read 1 BA00",
-    "read 255 BABA",
-    "read 00 -",
-    "read 00000000000000000255 BABA0700",
-];
-
-/// A valid message and zeros after it, in a line as long as it may be, and in a longer one.
-fn longest(lines: &mut Vec<String>) {
-    let cancel = hex::write(&examples::cancel());
-    lines.push(padded(&format!("read 00 {}", cancel), "", 8_000));
-    lines.push(padded(&format!("read 0 {}", cancel), "", 8_001));
 }
 
 #[cfg(test)]
@@ -675,13 +623,6 @@ mod tests {
                 };
                 assert_eq!(answer, expected, "{} {:07b}", which, faults);
             }
-        }
-    }
-
-    #[test]
-    fn no_session_types() {
-        for (_, bytes) in messages() {
-            assert!(bytes.len() <= 4 || !sample::session_type(bytes[4]));
         }
     }
 }

@@ -1,5 +1,5 @@
-//! Messages in parts, from which the questions about reading and writing are made. Here the parts
-//! are put together by the places of README.md and not by the reader or the writer.
+//! Messages with bitfields in parts, from which the questions about reading and writing are made.
+//! Here the parts are put together by the places of README.md and not by the reader or the writer.
 
 use crate::random::Random;
 use crate::rules::kinds::Kind;
@@ -9,13 +9,6 @@ pub const NEW_ORDER: usize = 0;
 pub const CANCEL: usize = 1;
 pub const ACKNOWLEDGMENT: usize = 2;
 pub const EXECUTION: usize = 3;
-
-/// The types of the session messages, of which nothing is asked yet.
-const SESSION_TYPES: [u8; 6] = [0x03, 0x08, 0x09, 0x13, 0x24, 0x37];
-
-pub fn session_type(type_byte: u8) -> bool {
-    SESSION_TYPES.contains(&type_byte)
-}
 
 /// Valid as it is made; a question may then make its parts disagree.
 #[derive(Clone)]
@@ -182,7 +175,7 @@ impl Sample {
         message
     }
 
-    /// The record; bitfields past its last place are left out.
+    /// The record, its 235 bytes alone; bitfields past its last place are left out.
     pub fn record(&self) -> Vec<u8> {
         let mut record = vec![self.layout.type_byte, self.unit];
         record.extend(self.number.to_le_bytes());
@@ -317,12 +310,12 @@ pub fn textual(kind: Kind) -> bool {
     kind != Kind::Binary && kind != Kind::Price
 }
 
-fn full_value(random: &mut Random, kind: Kind, width: usize) -> Vec<u8> {
+pub fn full_value(random: &mut Random, kind: Kind, width: usize) -> Vec<u8> {
     (0..width).map(|_| good_byte(random, kind)).collect()
 }
 
 /// Texts of `least` characters or more, half of them full; numbers with their ends among them.
-fn some_value(random: &mut Random, kind: Kind, width: usize, least: usize) -> Vec<u8> {
+pub fn some_value(random: &mut Random, kind: Kind, width: usize, least: usize) -> Vec<u8> {
     if !textual(kind) {
         return match random.below(8) {
             0 => vec![0; width],
@@ -351,6 +344,7 @@ fn quantity(random: &mut Random) -> Vec<u8> {
 #[cfg(test)]
 mod tests {
     use super::*;
+    use crate::rules::record::LENT;
     use crate::rules::{kinds, read, write};
     use std::collections::BTreeSet;
 
@@ -404,7 +398,7 @@ mod tests {
         for which in 0..4 {
             let sample = Sample::least(&mut random, which);
             let record = read::message(sample.layout.direction, &sample.bytes()).unwrap();
-            assert_eq!(record.bytes(), sample.record());
+            assert_eq!(record, sample.record());
         }
         let order = Sample::least(&mut random, NEW_ORDER);
         assert_eq!(order.bitfields, [0x04, 0x41]);
@@ -419,11 +413,9 @@ mod tests {
             let sample = Sample::any(&mut random, round % 4);
             let direction = sample.layout.direction;
             let message = sample.bytes();
-            let record = sample.record();
-            assert_eq!(
-                read::message(direction, &message).map(|record| record.bytes()),
-                Ok(record.clone())
-            );
+            let mut record = sample.record();
+            assert_eq!(read::message(direction, &message), Ok(record.clone()));
+            record.resize(LENT, 0xFF);
             let mut buffer = vec![0x5A; message.len() + 3];
             assert_eq!(write::record(direction, &record, &mut buffer), Ok(()));
             assert_eq!(buffer[..message.len()], message);

@@ -1,17 +1,15 @@
 //! Questions about writing records of messages with bitfields.
 
-use super::damage::{self, pattern};
-use super::outside::padded;
+use super::damage::{self, lent, pattern};
 use super::read;
 use super::sample::{self, Sample, ACKNOWLEDGMENT, CANCEL, EXECUTION, NEW_ORDER};
-use crate::examples;
 use crate::hex;
 use crate::random::Random;
 use crate::rules;
-use crate::rules::layout::{self, MEMBER};
+use crate::rules::layout;
+use crate::rules::record::{LENT, SIZE};
 use std::collections::BTreeSet;
 
-const RECORD: usize = 235;
 const COUNT_PLACE: usize = 65;
 const BITFIELDS_PLACE: usize = 66;
 
@@ -31,10 +29,6 @@ pub fn ask(lines: &mut Vec<String>) {
     quantities(lines, &mut random);
     required(lines, &mut random);
     random_records(lines, &mut random);
-    for line in LINES {
-        lines.push(line.to_string());
-    }
-    longest(lines);
 }
 
 pub fn line(direction: u8, record: &[u8], buffer: &[u8]) -> String {
@@ -50,15 +44,16 @@ fn add(lines: &mut Vec<String>, random: &mut Random, sample: &Sample) {
     add_record(lines, random, sample, &sample.record());
 }
 
-/// A record made from a sample's, with the buffer that the sample's message takes; in one of three
-/// questions it is empty, so that 13 does not come too early.
+/// A record made from a sample's 235 bytes, with the buffer that the sample's message takes; in one
+/// of three questions it is empty, so that 13 does not come too early.
 fn add_record(lines: &mut Vec<String>, random: &mut Random, sample: &Sample, record: &[u8]) {
     let room = match random.below(3) {
         0 => 0,
         _ => sample.bytes().len(),
     };
     let buffer = pattern(random, room);
-    lines.push(line(sample.layout.direction, record, &buffer));
+    let record = lent(random, record);
+    lines.push(line(sample.layout.direction, &record, &buffer));
 }
 
 /// The records of all messages that the questions about reading hold, each once. The buffers are
@@ -67,7 +62,6 @@ fn records_of_messages(lines: &mut Vec<String>, random: &mut Random) {
     let mut seen = BTreeSet::new();
     for (direction, bytes) in read::messages() {
         if let Ok(record) = rules::read::message(direction, &bytes) {
-            let record = record.bytes();
             if seen.insert(record.clone()) {
                 let total = usize::from(u16::from_le_bytes([bytes[2], bytes[3]])) + 2;
                 let more = match random.below(4) {
@@ -75,7 +69,7 @@ fn records_of_messages(lines: &mut Vec<String>, random: &mut Random) {
                     _ => 0,
                 };
                 let buffer = pattern(random, total + more);
-                lines.push(line(direction, &record, &buffer));
+                lines.push(line(direction, &lent(random, &record), &buffer));
             }
         }
     }
@@ -108,7 +102,8 @@ fn rooms(lines: &mut Vec<String>, random: &mut Random, which: usize) {
                 *byte ^= 0xFF;
             }
         }
-        lines.push(line(sample.layout.direction, &sample.record(), &buffer));
+        let record = lent(random, &sample.record());
+        lines.push(line(sample.layout.direction, &record, &buffer));
     }
 }
 
@@ -117,13 +112,15 @@ fn sizes(lines: &mut Vec<String>, random: &mut Random, which: usize) {
     let sample = Sample::any(random, which);
     let own = sample.layout.direction;
     let total = sample.bytes().len();
-    let mut longer = sample.record();
-    longer.extend(random.bytes(65));
-    for size in [0, 1, 2, 6, 65, 66, 81, 233, 234, 235, 236, 237, 300] {
+    let mut longer = lent(random, &sample.record());
+    longer.extend(random.bytes(61));
+    for size in [
+        0, 1, 2, 6, 65, 66, 81, 234, 235, 236, 300, 437, 438, 439, 440, 441, 500,
+    ] {
         let buffer = pattern(random, total);
         lines.push(line(own, &longer[..size], &buffer));
     }
-    for size in [0, 1, RECORD - 1, RECORD, RECORD + 1] {
+    for size in [0, 1, SIZE - 1, SIZE, LENT - 1, LENT, LENT + 1] {
         lines.push(line(own, &longer[..size], &[]));
         for direction in [1 - own, 2] {
             let buffer = pattern(random, 3);
@@ -131,11 +128,12 @@ fn sizes(lines: &mut Vec<String>, random: &mut Random, which: usize) {
         }
     }
     // Too short, with other faults.
-    let mut record = sample.record();
+    let mut record = lent(random, &sample.record());
     record[1] = 200;
     record[COUNT_PLACE] = 200;
-    record.truncate(RECORD - 1);
-    lines.push(line(own, &record, &[1, 2, 3]));
+    for size in [SIZE - 1, SIZE, LENT - 1] {
+        lines.push(line(own, &record[..size], &[1, 2, 3]));
+    }
 }
 
 fn headers(lines: &mut Vec<String>, random: &mut Random, which: usize) {
@@ -154,10 +152,13 @@ fn headers(lines: &mut Vec<String>, random: &mut Random, which: usize) {
     for direction in [1 - own, 2, 3, 128, 254, 255] {
         let room = random.between(0, 40);
         let buffer = pattern(random, room);
-        lines.push(line(direction, &least.record(), &buffer));
+        let record = lent(random, &least.record());
+        lines.push(line(direction, &record, &buffer));
     }
-    for type_byte in [0x00, 0x02, 0x26, 0x2D, 0x38, 0x39, 0x25, 0x2C, 0xFF] {
-        let mut record = least.record();
+    for type_byte in [
+        0x00, 0x02, 0x26, 0x2D, 0x38, 0x39, 0x25, 0x2C, 0x37, 0x24, 0x03, 0x09, 0xFF,
+    ] {
+        let mut record = lent(random, &least.record());
         record[0] = type_byte;
         let room = random.between(0, 40);
         let buffer = pattern(random, room);
@@ -242,7 +243,7 @@ fn unused_places(sample: &Sample) -> Vec<Vec<usize>> {
         }
         place += field.width;
     }
-    runs.push((place..RECORD).collect());
+    runs.push((place..SIZE).collect());
     runs.retain(|run: &Vec<usize>| !run.is_empty());
     runs
 }
@@ -336,7 +337,7 @@ fn faulty(random: &mut Random, which: usize, faults: u8) -> (u8, Vec<u8>, Vec<u8
     if numbers.contains(&13) {
         room = random.between(0, room - 1);
     }
-    (direction, record, pattern(random, room))
+    (direction, lent(random, &record), pattern(random, room))
 }
 
 /// Whether a record can have these faults: only a New Order has a field to leave out.
@@ -363,7 +364,7 @@ fn orders(lines: &mut Vec<String>, random: &mut Random, which: usize) {
     }
     for faults in [all, all - 1] {
         let (direction, record, buffer) = faulty(random, which, faults);
-        lines.push(line(direction, &record[..RECORD - 1], &buffer));
+        lines.push(line(direction, &record[..LENT - 1], &buffer));
     }
 }
 
@@ -411,55 +412,6 @@ fn random_records(lines: &mut Vec<String>, random: &mut Random) {
     }
 }
 
-/// Lines outside the format; the last four are just inside it.
-const LINES: &[&str] = &[
-    "write",
-    "write 0",
-    "write 0 -",
-    "write - -",
-    "write 0 - ",
-    "write 0 - - -",
-    "write 0 - - 0",
-    "write  0 - -",
-    "write 0  - -",
-    "write 0 -  -",
-    "write 0 - - ",
-    " write 0 - -",
-    "Write 0 - -",
-    "WRITE 0 - -",
-    "writes 0 - -",
-    "write 256 - -",
-    "write 4294967296 - -",
-    "write 18446744073709551616 - -",
-    "write -1 - -",
-    "write +1 - -",
-    "write A - -",
-    "write 000000000000000000001 - -",
-    "write 0 3 -",
-    "write 0 - 3",
-    "write 0 2c -",
-    "write 0 - 2c",
-    "write 0 38-00 -",
-    "write 0 - 00-",
-    "write 0 - -",
-    "write 1 2C 0102",
-    "write 255 - 00",
-    "write 00000000000000000255 38 FF",
-];
-
-/// Long buffers and long records, as long as a line may be, and longer.
-fn longest(lines: &mut Vec<String>) {
-    let record = rules::read::message(MEMBER, &examples::cancel())
-        .expect("a valid message")
-        .bytes();
-    let record = hex::write(&record);
-    lines.push(padded(&format!("write 0 {} FF", record), "", 7_999));
-    let room = "AA".repeat(36);
-    let tail = format!("FF {}", room);
-    lines.push(padded(&format!("write 00 {}", record), &tail, 8_000));
-    lines.push(padded(&format!("write 00 {}", record), &tail, 8_002));
-}
-
 #[cfg(test)]
 mod tests {
     use super::*;
@@ -488,8 +440,8 @@ mod tests {
             let (number, after) = answer.split_once(' ').unwrap();
             let after = hex::read(after).unwrap();
             if number == "0" {
-                let again = rules::read::message(direction, &after).unwrap().bytes();
-                assert_eq!(again, record[..RECORD]);
+                let again = rules::read::message(direction, &after).unwrap();
+                assert_eq!(again, record[..again.len()]);
                 let total = usize::from(u16::from_le_bytes([after[2], after[3]])) + 2;
                 assert_eq!(after[total..], buffer[total..]);
                 assert_eq!(after.len(), buffer.len());
@@ -530,19 +482,9 @@ mod tests {
                 };
                 assert_eq!(answer, expected, "{} {:08b}", which, faults);
                 assert_eq!(buffer == before, faults != 0);
-                let short = &record[..RECORD - 1];
+                let short = &record[..LENT - 1];
                 let answer = rules::write::record(direction, short, &mut buffer);
                 assert_eq!(answer, Err(rules::Refusal::Room));
-            }
-        }
-    }
-
-    #[test]
-    fn no_session_types() {
-        for line in lines() {
-            if ask::answer(line.as_bytes()) != "?" {
-                let record = hex::read(line.split(' ').nth(2).unwrap()).unwrap();
-                assert!(record.is_empty() || !sample::session_type(record[0]));
             }
         }
     }
@@ -553,12 +495,12 @@ mod tests {
         let lines = lines();
         let written: BTreeSet<&str> = lines
             .iter()
-            .filter(|line| line.starts_with("write "))
             .filter_map(|line| line.split(' ').nth(2))
+            .filter_map(|record| record.get(..2 * SIZE))
             .collect();
         for (direction, bytes) in read::messages() {
             if let Ok(record) = rules::read::message(direction, &bytes) {
-                assert!(written.contains(hex::write(&record.bytes()).as_str()));
+                assert!(written.contains(hex::write(&record).as_str()));
             }
         }
     }

@@ -1,16 +1,26 @@
-//! Reading a message with bitfields (document 01, "Numbers of refusal", the reading order).
+//! Reading a message (document 01, "Numbers of refusal", the reading order).
 
 use super::frame;
 use super::layout::{self, Layout, HEADER};
 use super::record::{Record, BITFIELDS, FIXED, SLOTS};
+use super::session::Session;
 use super::Refusal;
 
 /// The record of the first whole message of a buffer. What the message does not hold is zero in
 /// the record; what follows the message plays no part.
-pub fn message(direction: u8, buffer: &[u8]) -> Result<Record, Refusal> {
+pub fn message(direction: u8, buffer: &[u8]) -> Result<Vec<u8>, Refusal> {
     let message = frame::message(buffer)?;
+    let type_byte = frame::header(message).kind;
+    if let Some(session) = Session::of(direction, type_byte) {
+        return session.read(message);
+    }
+    let layout = Layout::of(direction, type_byte)?;
+    Ok(with_bitfields(layout, message)?.bytes())
+}
+
+/// The record of a whole message with bitfields.
+fn with_bitfields(layout: &Layout, message: &[u8]) -> Result<Record, Refusal> {
     let header = frame::header(message);
-    let layout = Layout::of(direction, header.kind)?;
     layout.check_unit(header.unit)?;
 
     // The total is judged three times: up to the count byte, up to the end of the bitfields, and
@@ -54,6 +64,11 @@ mod tests {
     use crate::examples;
     use crate::questions::sample;
 
+    /// The record of a message with bitfields.
+    fn record_of(direction: u8, buffer: &[u8]) -> Record {
+        Record::of_bytes(&message(direction, buffer).unwrap())
+    }
+
     fn refusal(direction: u8, buffer: &[u8]) -> u8 {
         match message(direction, buffer) {
             Ok(_) => 0,
@@ -83,7 +98,7 @@ mod tests {
             ]
         );
 
-        let record = message(0, &example).unwrap();
+        let record = record_of(0, &example);
         assert_eq!((record.type_byte, record.unit), (0x38, 0));
         assert_eq!(record.number, 100);
         assert_eq!(record.fixed[..6], *b"ABC123");
@@ -101,11 +116,11 @@ mod tests {
     #[test]
     fn p6_to_p10() {
         assert_eq!(refusal(0, &examples::new_order_of_the_notes()), 6);
-        let cancel = message(0, &examples::cancel()).unwrap();
+        let cancel = record_of(0, &examples::cancel());
         assert_eq!(examples::cancel().len(), 36);
         assert_eq!((cancel.count, cancel.bitfields[0]), (1, 1));
         assert_eq!(cancel.slots[..4], *b"TEST");
-        let least = message(0, &examples::cancel_without_bitfields()).unwrap();
+        let least = record_of(0, &examples::cancel_without_bitfields());
         assert_eq!(examples::cancel_without_bitfields().len(), 31);
         assert_eq!((least.count, least.fixed), (0, cancel.fixed));
         assert_eq!(least.slots, [0; SLOTS]);
@@ -115,18 +130,18 @@ mod tests {
 
     #[test]
     fn examples_of_the_venue() {
-        let record = message(1, &examples::acknowledgment()).unwrap();
+        let record = record_of(1, &examples::acknowledgment());
         assert_eq!((record.unit, record.number, record.count), (3, 100, 3));
         assert_eq!(record.fixed[8..14], *b"ABC123");
         assert_eq!(record.bitfields[..3], [0, 0x41, 0x05]);
         assert_eq!(record.slots[16..20], *b"MSFT");
         assert_eq!(record.slots[32], b'P');
         assert_eq!(record.slots[33..36], *b"ABC");
-        let least = message(1, &examples::least_acknowledgment()).unwrap();
+        let least = record_of(1, &examples::least_acknowledgment());
         assert_eq!((least.count, least.fixed), (0, record.fixed));
-        let booked = message(1, &examples::booked_acknowledgment()).unwrap();
+        let booked = record_of(1, &examples::booked_acknowledgment());
         assert_eq!(booked.slots[1..4], [0x44, 0xD6, 0x12]);
-        let execution = message(1, &examples::execution()).unwrap();
+        let execution = record_of(1, &examples::execution());
         assert_eq!(execution.fixed[52..58], *b"A\0BATS");
         assert_eq!(execution.bitfields[..3], [0, 0, 0x46]);
         assert_eq!(execution.slots[49..57], *b"TEST123C");
@@ -192,7 +207,7 @@ mod tests {
             let mut tail = vec![count, 4, 0x41];
             tail.resize(1 + usize::from(count), 0);
             tail.extend(&fields);
-            let record = message(0, &order(0, b'A', &tail)).unwrap();
+            let record = record_of(0, &order(0, b'A', &tail));
             assert_eq!(record.count, count);
             assert_eq!(record.bitfields[..3], [4, 0x41, 0]);
         }
@@ -201,11 +216,11 @@ mod tests {
     #[test]
     fn bytes_after_the_message_play_no_part() {
         let whole = examples::execution();
-        let record = message(1, &whole).unwrap();
+        let record = record_of(1, &whole);
         for more in [vec![0], vec![0xBA], whole.clone()] {
             let mut buffer = whole.clone();
             buffer.extend(more);
-            assert_eq!(message(1, &buffer).unwrap(), record);
+            assert_eq!(record_of(1, &buffer), record);
         }
     }
 
@@ -220,7 +235,7 @@ mod tests {
             for byte in 0..=255 {
                 let mut other = example.clone();
                 other[reserved] = byte;
-                let record = message(1, &other).unwrap();
+                let record = record_of(1, &other);
                 assert_eq!(record.fixed[reserved - 10], byte);
             }
             for bad in [0, b' ', b'@', 127] {

@@ -1,4 +1,5 @@
-//! The record of a message with bitfields (README.md, "A record"): the same places for all types.
+//! Records (README.md, "Records"). This is the one of a message with bitfields: the same places for
+//! all types.
 
 use super::number;
 
@@ -6,6 +7,11 @@ pub const FIXED: usize = 59;
 pub const BITFIELDS: usize = 15;
 pub const SLOTS: usize = 154;
 pub const SIZE: usize = 235;
+
+/// The bytes that a call wants for a record of any type: those of a session message's record.
+pub const LENT: usize = 439;
+/// Where the body of a session message stands in its record.
+pub const BODY_PLACE: usize = 6;
 
 const NUMBER_PLACE: usize = 2;
 const FIXED_PLACE: usize = 6;
@@ -25,11 +31,8 @@ pub struct Record {
 }
 
 impl Record {
-    /// The record that a buffer begins with; none if the buffer is too short for one.
-    pub fn of_bytes(bytes: &[u8]) -> Option<Record> {
-        if bytes.len() < SIZE {
-            return None;
-        }
+    /// The record that a buffer begins with; the buffer has at least its bytes.
+    pub fn of_bytes(bytes: &[u8]) -> Record {
         let mut record = Record {
             type_byte: bytes[0],
             unit: bytes[1],
@@ -46,7 +49,7 @@ impl Record {
             .bitfields
             .copy_from_slice(&bytes[BITFIELDS_PLACE..SLOTS_PLACE]);
         record.slots.copy_from_slice(&bytes[SLOTS_PLACE..SIZE]);
-        Some(record)
+        record
     }
 
     pub fn bytes(&self) -> Vec<u8> {
@@ -67,7 +70,7 @@ mod tests {
     #[test]
     fn places() {
         let bytes: Vec<u8> = (0..=235).collect();
-        let record = Record::of_bytes(&bytes).unwrap();
+        let record = Record::of_bytes(&bytes);
         assert_eq!((record.type_byte, record.unit), (0, 1));
         assert_eq!(record.number, 0x05040302);
         assert_eq!((record.fixed[0], record.fixed[58]), (6, 64));
@@ -75,13 +78,5 @@ mod tests {
         assert_eq!((record.bitfields[0], record.bitfields[14]), (66, 80));
         assert_eq!((record.slots[0], record.slots[153]), (81, 234));
         assert_eq!(record.bytes(), bytes[..SIZE]);
-    }
-
-    #[test]
-    fn shorter_is_none() {
-        for size in 0..SIZE {
-            assert_eq!(Record::of_bytes(&vec![0; size]), None);
-        }
-        assert!(Record::of_bytes(&[0; SIZE]).is_some());
     }
 }

@@ -1,17 +1,28 @@
-//! Writing a record of a message with bitfields (document 01, "Numbers of refusal", the writing
-//! order; README.md for what comes before it).
+//! Writing a record (document 01, "Numbers of refusal", the writing order; README.md for what comes
+//! before it).
 
 use super::frame::{START, UNCOUNTED};
 use super::kinds;
 use super::layout::{self, Layout, Place};
-use super::record::Record;
+use super::record::{Record, LENT};
+use super::session::Session;
 use super::Refusal;
 
 /// Writes the record that `record` begins with to the start of `buffer`. Only the bytes of the
 /// message change, and none if it is refused.
 pub fn record(direction: u8, record: &[u8], buffer: &mut [u8]) -> Result<(), Refusal> {
-    let record = Record::of_bytes(record).ok_or(Refusal::Room)?;
-    let layout = Layout::of(direction, record.type_byte)?;
+    layout::check(record.len() >= LENT, Refusal::Room)?;
+    let message = match Session::of(direction, record[0]) {
+        Some(session) => session.write(record)?,
+        None => with_bitfields(Layout::of(direction, record[0])?, &Record::of_bytes(record))?,
+    };
+    layout::check(buffer.len() >= message.len(), Refusal::Room)?;
+    buffer[..message.len()].copy_from_slice(&message);
+    Ok(())
+}
+
+/// The message of a record with bitfields.
+fn with_bitfields(layout: &Layout, record: &Record) -> Result<Vec<u8>, Refusal> {
     layout.check_unit(record.unit)?;
     layout.check_count(record.count)?;
     let count = usize::from(record.count);
@@ -24,14 +35,13 @@ pub fn record(direction: u8, record: &[u8], buffer: &mut [u8]) -> Result<(), Ref
     let places = layout.places(bitfields);
     layout.check_fixed(fixed)?;
     for place in &places {
-        layout::check_optional(place.field, value(&record, place))?;
+        layout::check_optional(place.field, value(record, place))?;
     }
-    layout::check(unused_is_zero(layout, &record, &places), Refusal::Unused)?;
+    layout::check(unused_is_zero(layout, record, &places), Refusal::Unused)?;
 
-    let total = layout.total(bitfields);
-    layout::check(buffer.len() >= total, Refusal::Room)?;
+    let length = (layout.total(bitfields) as u16) - UNCOUNTED as u16;
     let mut message = vec![START, START];
-    message.extend((total as u16 - UNCOUNTED as u16).to_le_bytes());
+    message.extend(length.to_le_bytes());
     message.push(record.type_byte);
     message.push(record.unit);
     message.extend(record.number.to_le_bytes());
@@ -39,10 +49,9 @@ pub fn record(direction: u8, record: &[u8], buffer: &mut [u8]) -> Result<(), Ref
     message.push(record.count);
     message.extend(bitfields);
     for place in &places {
-        message.extend(value(&record, place));
+        message.extend(value(record, place));
     }
-    buffer[..total].copy_from_slice(&message);
-    Ok(())
+    Ok(message)
 }
 
 fn value<'a>(record: &'a Record, place: &Place) -> &'a [u8] {
@@ -71,6 +80,13 @@ mod tests {
     use crate::rules::read;
     use crate::rules::record::SIZE;
 
+    /// The record of a message, in as many bytes as are wanted for one.
+    fn lent(direction: u8, message: &[u8]) -> Vec<u8> {
+        let mut bytes = read::message(direction, message).unwrap();
+        bytes.resize(LENT, 0);
+        bytes
+    }
+
     fn refusal(direction: u8, bytes: &[u8], buffer: &mut [u8]) -> u8 {
         match record(direction, bytes, buffer) {
             Ok(()) => 0,
@@ -88,8 +104,15 @@ mod tests {
             (1, examples::least_acknowledgment()),
             (1, examples::booked_acknowledgment()),
             (1, examples::execution()),
+            (0, examples::login()),
+            (0, examples::options_login()),
+            (0, examples::client_heartbeat()),
+            (1, examples::login_response_of_the_notes()),
+            (1, examples::logout_with_its_length()),
+            (1, examples::server_heartbeat()),
+            (1, examples::replay_complete()),
         ] {
-            let bytes = read::message(direction, &message).unwrap().bytes();
+            let bytes = lent(direction, &message);
             let total = message.len();
             let mut buffer = vec![0xEE; total + 2];
             assert_eq!(refusal(direction, &bytes, &mut buffer[..total - 1]), 13);
@@ -108,11 +131,11 @@ mod tests {
             let sample = Sample::any(&mut random, round % 4);
             let direction = sample.layout.direction;
             let message = sample.bytes();
-            let first = read::message(direction, &message).unwrap();
+            let first = lent(direction, &message);
             let mut buffer = vec![0xEE; message.len()];
-            assert_eq!(record(direction, &first.bytes(), &mut buffer), Ok(()));
+            assert_eq!(record(direction, &first, &mut buffer), Ok(()));
             assert_eq!(buffer, message);
-            assert_eq!(read::message(direction, &buffer), Ok(first));
+            assert_eq!(lent(direction, &buffer), first);
         }
     }
 
@@ -124,9 +147,10 @@ mod tests {
         for round in 0..8_000 {
             let sample = Sample::any(&mut random, round % 4);
             let (direction, bytes) = damage::message(&mut random, &sample);
-            if let Ok(read) = read::message(direction, &bytes) {
+            if read::message(direction, &bytes).is_ok() {
                 let mut buffer = vec![0; bytes.len()];
-                assert_eq!(record(direction, &read.bytes(), &mut buffer), Ok(()));
+                let read = lent(direction, &bytes);
+                assert_eq!(record(direction, &read, &mut buffer), Ok(()));
                 let total = usize::from(buffer[2]) + 2;
                 assert_eq!(buffer[..total], bytes[..total]);
                 messages += 1;
@@ -135,7 +159,7 @@ mod tests {
             let before = buffer.clone();
             if record(direction, &bytes, &mut buffer).is_ok() {
                 let again = read::message(direction, &buffer).unwrap();
-                assert_eq!(again.bytes(), bytes[..SIZE]);
+                assert_eq!(again, bytes[..again.len()]);
                 records += 1;
             } else {
                 assert_eq!(buffer, before);
@@ -147,7 +171,7 @@ mod tests {
     /// One fault after another is taken away, and the next in the order is told.
     #[test]
     fn order_of_writing() {
-        let good = read::message(0, &examples::new_order()).unwrap().bytes();
+        let good = lent(0, &examples::new_order());
         let mut bad = good.clone();
         let mut buffer = [0xEE; 75];
         bad[1] = 1;
@@ -155,7 +179,7 @@ mod tests {
         bad[65] = 11;
         bad[67] = 0xC4;
         bad[80] = 0x80;
-        assert_eq!(refusal(1, &bad[..234], &mut buffer), 13);
+        assert_eq!(refusal(1, &bad[..438], &mut buffer), 13);
         assert_eq!(refusal(2, &bad, &mut buffer), 4);
         assert_eq!(refusal(1, &bad, &mut buffer), 4);
         assert_eq!(refusal(0, &bad, &mut buffer), 5);
@@ -181,7 +205,7 @@ mod tests {
     /// Every place of a record that P5 does not use must be zero, and no other place gives 12.
     #[test]
     fn unused_places() {
-        let good = read::message(0, &examples::new_order()).unwrap().bytes();
+        let good = lent(0, &examples::new_order());
         let used = [
             0..31,
             65..69,
@@ -198,16 +222,17 @@ mod tests {
         }
     }
 
-    /// Bytes after a record play no part.
+    /// Any record must have the bytes of the longest; what follows its own plays no part.
     #[test]
     fn longer_records() {
-        let good = read::message(0, &examples::cancel()).unwrap().bytes();
-        let mut longer = good.clone();
-        longer.extend([7; 40]);
-        for size in 0..longer.len() {
-            let mut buffer = [0; 36];
-            let expected = if size < SIZE { 13 } else { 0 };
-            assert_eq!(refusal(0, &longer[..size], &mut buffer), expected);
+        for message in [examples::cancel(), examples::options_login()] {
+            let mut longer = read::message(0, &message).unwrap();
+            longer.resize(500, 7);
+            for size in 0..longer.len() {
+                let mut buffer = [0; 63];
+                let expected = if size < 439 { 13 } else { 0 };
+                assert_eq!(refusal(0, &longer[..size], &mut buffer), expected);
+            }
         }
     }
 }

@@ -1,9 +1,10 @@
--- `gather::look_all` meets its contract. The loop's invariant: the total and the weight are at most 2040 and 520200 a byte, and the walk over the
+-- `gather::look_all` meets its contract. The loop's invariant: the layout keeps its length, the total is at most 2040 a byte, and the walk over the
 -- places of the other bytes, from the state reached, ends as the walk over all 120. The measure is the count of bytes that are left.
 -- Assumes nothing.
-use mathlib.Core.Path.{_≡_, refl}
+use mathlib.Core.Path.{_≡_, refl, sym, _∙_}
 use Prim.Native.Nat.{_*_, _-_, _≤_}
 use native.Mathlib.Omega.{arith}
+use lib.ListN.{length}
 use denote.Ref.{now}
 use Rattle.fields.specs.Walk.{lookEntry}
 use Rattle.fields.specs.Loops.{byte-turn, bytes-end}
@@ -12,30 +13,29 @@ use Rattle.gather.proofs.look_all.Statement.{statement}
 use Rattle.gather.proofs.look_all.Tie as tie
 
 abbrev Inv-loop : tie.InvT-loop
-Inv-loop message bits count layout j₀ r₀ j r =
+Inv-loop message bits count rest₀ j₀ r₀ rest j r =
     (j ≤ count)
+    × (length rest ≡ 154)
     × (r .total ≤ 2040 * j)
-    × (r .weight ≤ 520200 * j)
-    × (lookWalk message count bits layout (120 - 8 * j) (8 * j) (looking r) ≡ lookWalk message count bits layout 120 0 unseen)
+    × (lookWalk message count bits (120 - 8 * j) (8 * j) (looking r rest) ≡ lookWalk message count bits 120 0 (unseen rest₀))
 
 abbrev μ-loop : tie.MeasureT-loop
-μ-loop message bits count layout j₀ r₀ j r = count - j
+μ-loop message bits count rest₀ j₀ r₀ rest j r = count - j
 
 loop-holds : tie.Need-loop-holds Inv-loop μ-loop
-loop-holds c = (omega arith, omega arith, omega arith, refl)
+loop-holds c = (omega arith, c .before .pre .0, omega arith, refl)
 
 cast-value : tie.Need-cast-value Inv-loop μ-loop
 cast-value c = omega arith
 
 element-copy-out-value : tie.Need-element-copy-out-value Inv-loop μ-loop
-element-copy-out-value c = omega arith
+element-copy-out-value c = omega (arith, c .before .before .before .pre .1)
 
 look-byte-requires : tie.Need-look-byte-requires Inv-loop μ-loop
 look-byte-requires c κs =
-    let in-loop = c .before in
-    let start = in-loop .before .before .before in
+    let in-loop = c .before .before in
     let inv = in-loop .before .loop .inv in
-    (start .pre .0, in-loop .loop-test .taken, start .pre .1, refl, inv .1, inv .2)
+    (inv .1, in-loop .loop-test .taken, in-loop .before .before .before .pre .1, refl, inv .2)
 
 add-j : tie.Need-add-j Inv-loop μ-loop
 add-j c = omega arith
@@ -45,21 +45,25 @@ loop-less c = omega arith
 
 loop-again : tie.Need-loop-again Inv-loop μ-loop
 loop-again c =
-    let at-loop = c .before .before .before in
+    let looked = c .before .before in
+    let at-loop = looked .before .before .before .before in
     let start = at-loop .before .before in
     let a = start .args in
-    let looked = c .look-byte .ensures in (
+    let inv = at-loop .loop .inv in (
       omega arith,
-      looked .1,
-      looked .2,
-      byte-turn (lookEntry (now (a .layout))) (a .message) (a .count) (now (a .bits)) (at-loop .loop .j) (looking (at-loop .loop .r)) _ _ (omega arith) (looked .0) (at-loop .loop .inv .3),
+      looked .look-byte .kept .1 .1 .1 .1 .1 .0 ∙ inv .1,
+      looked .look-byte .ensures .1,
+      byte-turn lookEntry (a .message) (a .count) (now (a .bits)) (at-loop .loop .j) (looking (at-loop .loop .r) (at-loop .loop .rest)) _ _ (omega (arith, start .pre .1)) (looked .look-byte .ensures .0) (inv .3),
     )
+
+same-length : tie.Need-same-length Inv-loop μ-loop
+same-length c = c .before .loop .inv .1 ∙ sym (c .before .before .before .pre .0)
 
 returns : tie.Need-returns Inv-loop μ-loop
 returns c =
     let at-loop = c .before in
     let a = at-loop .before .before .args in
-    bytes-end (lookEntry (now (a .layout))) (a .message) (a .count) (now (a .bits)) (at-loop .loop .j) (looking (at-loop .loop .r)) _ (c .loop-test .left) (at-loop .loop .inv .3)
+    bytes-end lookEntry (a .message) (a .count) (now (a .bits)) (at-loop .loop .j) (looking (at-loop .loop .r) (at-loop .loop .rest)) _ (c .loop-test .left) (at-loop .loop .inv .3)
 
 pub look-all-spec : {M : Type 1} → statement M
 look-all-spec =
@@ -74,4 +78,5 @@ look-all-spec =
     add-j
     loop-less
     loop-again
+    same-length
     returns)

@@ -3,12 +3,12 @@
 use mathlib.Core.Path.{refl, sym, _∙_}
 use native.Mathlib.Omega.{arith}
 use borrow.Author.Tests.{eq-eqb, ne-eqb}
-use borrow.Author.Needs.{needs}
 use denote.Ref.{now}
 use Rattle.fields.specs.Dictionaries.{field-fits}
 use Rattle.fields.specs.Walk.{lookEntry}
 use Rattle.gather.specs.State.{looking}
 use Rattle.gather.proofs.One.{set-is, unset-is}
+use borrow.Author.Needs.{needs}
 use Rattle.gather.proofs.look_bit.Statement.{statement}
 use Rattle.gather.proofs.look_bit.Tie as tie
 
@@ -23,42 +23,38 @@ enum-known-e c = search needs
 
 look-field-requires : tie.Need-look-field-requires
 look-field-requires c κs =
-    let known = c .before in
+    let known = c .before .before in
     let looked = known .before .before in
-    let start = looked .before .before .before in (
-      omega (arith, field-fits _ _ _ (sym (known .e .given .1) ∙ looked .entry-of .ensures)),
-      start .pre .1,
-      start .pre .2,
-    )
+    let start = looked .before .before .before in
+    (omega (arith, field-fits _ _ _ (sym (known .e .given .1) ∙ looked .entry-of .ensures)), start .pre .1)
 
 returns : tie.Need-returns
 unfolding lookEntry
 returns c =
     let looked = c .before .before in
     let a = looked .before .before .before .args in (
-      set-is (lookEntry (now (a .layout))) _ _ (looking (a .s)) (eq-eqb _ _ (looked .before .if1 .taken)) (sym (c .enum-told .given .1) ∙ looked .entry-of .ensures) refl,
-      omega arith,
+      set-is lookEntry _ _ (looking (a .s) (now (a .rest))) (eq-eqb _ _ (looked .before .if1 .taken)) (sym (c .enum-told .given .1) ∙ looked .entry-of .ensures) refl,
       omega arith,
     )
 
+same-length : tie.Need-same-length
+same-length c = search needs
+
 returns-2 : tie.Need-returns-2
 returns-2 c =
-    let known = c .before .before in
+    let given = c .before .before in
+    let known = given .before .before .before in
     let looked = known .before .before in
     let a = looked .before .before .before .args in
-    let field = c .look-field .ensures in (
-      set-is (lookEntry (now (a .layout))) _ _ (looking (a .s)) (eq-eqb _ _ (looked .before .if1 .taken)) (sym (known .e .given .1) ∙ looked .entry-of .ensures) (field .0),
+    let field = given .look-field .ensures in (
+      set-is lookEntry _ _ (looking (a .s) (now (a .rest))) (eq-eqb _ _ (looked .before .if1 .taken)) (sym (known .e .given .1) ∙ looked .entry-of .ensures) (field .0),
       field .1,
-      field .2,
     )
 
 returns-3 : tie.Need-returns-3
 returns-3 c =
-    let a = c .before .before .args in (
-      unset-is (lookEntry (now (a .layout))) _ _ (looking (a .s)) (ne-eqb _ _ (c .if1 .left)),
-      omega arith,
-      omega arith,
-    )
+    let a = c .before .before .args in
+    (unset-is lookEntry _ _ (looking (a .s) (now (a .rest))) (ne-eqb _ _ (c .if1 .left)), omega arith)
 
 pub look-bit-spec : {M : Type 1} → statement M
 look-bit-spec =
@@ -69,5 +65,6 @@ look-bit-spec =
     enum-known-e
     look-field-requires
     returns
+    same-length
     returns-2
     returns-3)

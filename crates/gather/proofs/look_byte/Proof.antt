@@ -1,98 +1,366 @@
--- `gather::look_byte` meets its contract. The loop's invariant: `x` is what is left of the byte after `bit` halvings, the total and the weight grew
--- by at most 255 and 65025 a bit, and the walk over the byte's other bits, from the state reached, ends as the walk over all eight. The measure
--- is `x`. Assumes nothing.
-use mathlib.Core.Path.{_≡_, ap, _∙_}
-use Prim.Native.Nat.{ℕ, _+_, _*_, _-_, _/_, _^_, _≤_, _<_}
+-- `gather::look_byte` meets its contract: a byte that is zero selects nothing, and in each arm the fact of the call with literals is that of the
+-- message and the byte that they are. Assumes nothing.
+use mathlib.Core.Path.{refl}
 use native.Mathlib.Omega.{arith}
-use native.Mathlib.Nat.{add-zero}
 use denote.Ref.{now}
 use Rattle.fields.specs.Walk.{lookEntry}
-use Rattle.fields.specs.Loops.{halved, bit-left, first-bit, bit-turn, bits-end}
-use Rattle.gather.specs.State.{looking, lookWalk}
+use Rattle.gather.specs.State.{looking}
+use Rattle.gather.proofs.Bytes.{none-set, look-at, look-told}
 use Rattle.gather.proofs.look_byte.Statement.{statement}
 use Rattle.gather.proofs.look_byte.Tie as tie
 
-abbrev Inv-loop : tie.InvT-loop
-Inv-loop message bits count j value layout x₀ bit₀ r₀ x bit r =
-    (bit ≤ 8)
-    × (x ≡ value / 2 ^ bit)
-    × (r .total ≤ 2040 * j + 255 * bit)
-    × (r .weight ≤ 520200 * j + 65025 * bit)
-    × (lookWalk message count bits layout (8 - bit) (8 * j + bit) (looking r) ≡ lookWalk message count bits layout 8 (8 * j) (looking r₀))
-
-abbrev μ-loop : tie.MeasureT-loop
-μ-loop message bits count j value layout x₀ bit₀ r₀ x bit r = x
-
--- while something is left, there is a bit to look at
-a-bit : (c : tie.In-loop Inv-loop μ-loop) → c .before .loop .bit < 8
-a-bit c =
-    let inv = c .before .loop .inv in
-    let a = c .before .before .before .args in
-    bit-left (a .value) (c .before .loop .bit) (omega arith) (inv .0) (λ z. c .loop-test .taken (inv .1 ∙ z))
-
-loop-holds : tie.Need-loop-holds Inv-loop μ-loop
-loop-holds c =
-    let start = c .before in
-    let a = start .args in (
-      omega arith,
-      first-bit (a .value),
-      omega arith,
-      omega arith,
-      ap (λ (k : ℕ). lookWalk (a .message) (a .count) (now (a .bits)) (now (a .layout)) 8 k (looking (a .s))) (add-zero (8 * a .j)),
-    )
-
-add-look-bit : tie.Need-add-look-bit Inv-loop μ-loop
-add-look-bit c = omega arith
-
-look-bit-requires : tie.Need-look-bit-requires Inv-loop μ-loop
-look-bit-requires c κs =
-    let start = c .before .before .before in
-    (start .pre .0, omega arith, omega arith)
-
-add-bit : tie.Need-add-bit Inv-loop μ-loop
-add-bit c = omega (arith, a-bit (c .before))
-
-loop-less : tie.Need-loop-less Inv-loop μ-loop
-loop-less c = omega arith
-
-loop-again : tie.Need-loop-again Inv-loop μ-loop
-loop-again c =
-    let in-loop = c .before in
-    let at-loop = in-loop .before in
-    let start = at-loop .before .before in
-    let a = start .args in
-    let inv = at-loop .loop .inv in
-    let looked = c .look-bit .ensures in (
-      omega (arith, a-bit in-loop),
-      ap (λ (y : ℕ). y / 2) (inv .1) ∙ halved (a .value) (at-loop .loop .bit),
-      omega arith,
-      omega arith,
-      bit-turn (lookEntry (now (a .layout))) (a .message) (a .count) (now (a .bits)) (a .j) (at-loop .loop .bit) (at-loop .loop .x) (a .value) (looking (at-loop .loop .r)) _ _
-          (start .pre .1) (a-bit in-loop) (start .pre .3) (inv .1) (looked .0) (inv .4),
-    )
-
-returns : tie.Need-returns Inv-loop μ-loop
+returns : tie.Need-returns
 returns c =
-    let at-loop = c .before in
-    let start = at-loop .before .before in
+    let start = c .before .before in
     let a = start .args in
-    let inv = at-loop .loop .inv in (
-      bits-end (lookEntry (now (a .layout))) (a .message) (a .count) (now (a .bits)) (a .j) (at-loop .loop .bit) (at-loop .loop .x) (a .value) (looking (at-loop .loop .r)) _
-          (start .pre .1) (inv .0) (start .pre .3) (inv .1) (omega arith) (inv .4),
-      omega arith,
-      omega arith,
-    )
+    (none-set lookEntry (a .message) (a .count) (now (a .bits)) (a .j) (a .value) (looking (a .s) (now (a .rest))) (start .pre .1) (start .pre .3) (c .if1 .taken), omega arith)
+
+look-bits-requires : tie.Need-look-bits-requires
+look-bits-requires c κs =
+    let start = c .before .before .before .before .before in
+    look-at (now (start .args .rest)) (now (start .args .bits)) (c .before .match2 .keys1) (start .pre)
+
+look-bits-requires-2 : tie.Need-look-bits-requires-2
+look-bits-requires-2 c κs =
+    let start = c .before .before .before .before .before in
+    look-at (now (start .args .rest)) (now (start .args .bits)) (c .before .match2 .keys2) (start .pre)
+
+look-bits-requires-3 : tie.Need-look-bits-requires-3
+look-bits-requires-3 c κs =
+    let start = c .before .before .before .before .before in
+    look-at (now (start .args .rest)) (now (start .args .bits)) (c .before .match2 .keys3) (start .pre)
+
+look-bits-requires-4 : tie.Need-look-bits-requires-4
+look-bits-requires-4 c κs =
+    let start = c .before .before .before .before .before in
+    look-at (now (start .args .rest)) (now (start .args .bits)) (c .before .match2 .keys4) (start .pre)
+
+look-bits-requires-5 : tie.Need-look-bits-requires-5
+look-bits-requires-5 c κs =
+    let start = c .before .before .before .before .before in
+    look-at (now (start .args .rest)) (now (start .args .bits)) (c .before .match2 .keys5) (start .pre)
+
+mul-look-bits : tie.Need-mul-look-bits
+mul-look-bits c = omega arith
+
+add-look-bits : tie.Need-add-look-bits
+add-look-bits c = omega arith
+
+look-bits-requires-6 : tie.Need-look-bits-requires-6
+look-bits-requires-6 c κs =
+    let start = c .before .before .before .before .before in
+    look-at (now (start .args .rest)) (now (start .args .bits)) refl (start .pre)
+
+look-bits-requires-7 : tie.Need-look-bits-requires-7
+look-bits-requires-7 c κs =
+    let start = c .before .before .before .before .before in
+    look-at (now (start .args .rest)) (now (start .args .bits)) (c .before .match3 .keys1) (start .pre)
+
+mul-look-bits-2 : tie.Need-mul-look-bits-2
+mul-look-bits-2 c = omega arith
+
+add-look-bits-2 : tie.Need-add-look-bits-2
+add-look-bits-2 c = omega arith
+
+look-bits-requires-8 : tie.Need-look-bits-requires-8
+look-bits-requires-8 c κs =
+    let start = c .before .before .before .before .before in
+    look-at (now (start .args .rest)) (now (start .args .bits)) refl (start .pre)
+
+look-bits-requires-9 : tie.Need-look-bits-requires-9
+look-bits-requires-9 c κs =
+    let start = c .before .before .before .before .before in
+    look-at (now (start .args .rest)) (now (start .args .bits)) (c .before .match4 .keys1) (start .pre)
+
+look-bits-requires-10 : tie.Need-look-bits-requires-10
+look-bits-requires-10 c κs =
+    let start = c .before .before .before .before .before in
+    look-at (now (start .args .rest)) (now (start .args .bits)) (c .before .match4 .keys2) (start .pre)
+
+look-bits-requires-11 : tie.Need-look-bits-requires-11
+look-bits-requires-11 c κs =
+    let start = c .before .before .before .before .before in
+    look-at (now (start .args .rest)) (now (start .args .bits)) (c .before .match4 .keys3) (start .pre)
+
+look-bits-requires-12 : tie.Need-look-bits-requires-12
+look-bits-requires-12 c κs =
+    let start = c .before .before .before .before .before in
+    look-at (now (start .args .rest)) (now (start .args .bits)) (c .before .match4 .keys4) (start .pre)
+
+mul-look-bits-3 : tie.Need-mul-look-bits-3
+mul-look-bits-3 c = omega arith
+
+add-look-bits-3 : tie.Need-add-look-bits-3
+add-look-bits-3 c = omega arith
+
+look-bits-requires-13 : tie.Need-look-bits-requires-13
+look-bits-requires-13 c κs =
+    let start = c .before .before .before .before .before in
+    look-at (now (start .args .rest)) (now (start .args .bits)) refl (start .pre)
+
+look-bits-requires-14 : tie.Need-look-bits-requires-14
+look-bits-requires-14 c κs =
+    let start = c .before .before .before .before .before in
+    look-at (now (start .args .rest)) (now (start .args .bits)) (c .before .match5 .keys1) (start .pre)
+
+look-bits-requires-15 : tie.Need-look-bits-requires-15
+look-bits-requires-15 c κs =
+    let start = c .before .before .before .before .before in
+    look-at (now (start .args .rest)) (now (start .args .bits)) (c .before .match5 .keys2) (start .pre)
+
+look-bits-requires-16 : tie.Need-look-bits-requires-16
+look-bits-requires-16 c κs =
+    let start = c .before .before .before .before .before in
+    look-at (now (start .args .rest)) (now (start .args .bits)) (c .before .match5 .keys3) (start .pre)
+
+mul-look-bits-4 : tie.Need-mul-look-bits-4
+mul-look-bits-4 c = omega arith
+
+add-look-bits-4 : tie.Need-add-look-bits-4
+add-look-bits-4 c = omega arith
+
+look-bits-requires-17 : tie.Need-look-bits-requires-17
+look-bits-requires-17 c κs =
+    let start = c .before .before .before .before .before in
+    look-at (now (start .args .rest)) (now (start .args .bits)) refl (start .pre)
+
+mul-look-bits-5 : tie.Need-mul-look-bits-5
+mul-look-bits-5 c = omega arith
+
+add-look-bits-5 : tie.Need-add-look-bits-5
+add-look-bits-5 c = omega arith
+
+look-bits-requires-18 : tie.Need-look-bits-requires-18
+look-bits-requires-18 c κs =
+    let start = c .before .before .before .before in
+    look-at (now (start .args .rest)) (now (start .args .bits)) refl (start .pre)
+
+same-length : tie.Need-same-length
+same-length c = c .before .before .look-bits .kept .1 .1 .1 .1 .1 .1 .0
+
+returns-2 : tie.Need-returns-2
+returns-2 c =
+    let called = c .before .before in
+    let byte = called .before .before in
+    let a = byte .before .before .before .before .args in
+    look-told (a .count) (now (a .bits)) (looking (a .s) (now (a .rest))) (byte .before .match .keys1) (byte .match2 .keys1) (called .look-bits .ensures)
+
+same-length-2 : tie.Need-same-length-2
+same-length-2 c = c .before .before .look-bits2 .kept .1 .1 .1 .1 .1 .1 .0
+
+returns-3 : tie.Need-returns-3
+returns-3 c =
+    let called = c .before .before in
+    let byte = called .before .before in
+    let a = byte .before .before .before .before .args in
+    look-told (a .count) (now (a .bits)) (looking (a .s) (now (a .rest))) (byte .before .match .keys1) (byte .match2 .keys2) (called .look-bits2 .ensures)
+
+same-length-3 : tie.Need-same-length-3
+same-length-3 c = c .before .before .look-bits3 .kept .1 .1 .1 .1 .1 .1 .0
+
+returns-4 : tie.Need-returns-4
+returns-4 c =
+    let called = c .before .before in
+    let byte = called .before .before in
+    let a = byte .before .before .before .before .args in
+    look-told (a .count) (now (a .bits)) (looking (a .s) (now (a .rest))) (byte .before .match .keys1) (byte .match2 .keys3) (called .look-bits3 .ensures)
+
+same-length-4 : tie.Need-same-length-4
+same-length-4 c = c .before .before .look-bits4 .kept .1 .1 .1 .1 .1 .1 .0
+
+returns-5 : tie.Need-returns-5
+returns-5 c =
+    let called = c .before .before in
+    let byte = called .before .before in
+    let a = byte .before .before .before .before .args in
+    look-told (a .count) (now (a .bits)) (looking (a .s) (now (a .rest))) (byte .before .match .keys1) (byte .match2 .keys4) (called .look-bits4 .ensures)
+
+same-length-5 : tie.Need-same-length-5
+same-length-5 c = c .before .before .look-bits5 .kept .1 .1 .1 .1 .1 .1 .0
+
+returns-6 : tie.Need-returns-6
+returns-6 c =
+    let called = c .before .before in
+    let byte = called .before .before in
+    let a = byte .before .before .before .before .args in
+    look-told (a .count) (now (a .bits)) (looking (a .s) (now (a .rest))) (byte .before .match .keys1) (byte .match2 .keys5) (called .look-bits5 .ensures)
+
+same-length-6 : tie.Need-same-length-6
+same-length-6 c = c .before .before .look-bits6 .kept .1 .1 .1 .1 .1 .1 .0
+
+returns-7 : tie.Need-returns-7
+returns-7 c = c .before .before .look-bits6 .ensures
+
+same-length-7 : tie.Need-same-length-7
+same-length-7 c = c .before .before .look-bits7 .kept .1 .1 .1 .1 .1 .1 .0
+
+returns-8 : tie.Need-returns-8
+returns-8 c =
+    let called = c .before .before in
+    let byte = called .before .before in
+    let a = byte .before .before .before .before .args in
+    look-told (a .count) (now (a .bits)) (looking (a .s) (now (a .rest))) (byte .before .match .keys2) (byte .match3 .keys1) (called .look-bits7 .ensures)
+
+same-length-8 : tie.Need-same-length-8
+same-length-8 c = c .before .before .look-bits8 .kept .1 .1 .1 .1 .1 .1 .0
+
+returns-9 : tie.Need-returns-9
+returns-9 c = c .before .before .look-bits8 .ensures
+
+same-length-9 : tie.Need-same-length-9
+same-length-9 c = c .before .before .look-bits9 .kept .1 .1 .1 .1 .1 .1 .0
+
+returns-10 : tie.Need-returns-10
+returns-10 c =
+    let called = c .before .before in
+    let byte = called .before .before in
+    let a = byte .before .before .before .before .args in
+    look-told (a .count) (now (a .bits)) (looking (a .s) (now (a .rest))) (byte .before .match .keys3) (byte .match4 .keys1) (called .look-bits9 .ensures)
+
+same-length-10 : tie.Need-same-length-10
+same-length-10 c = c .before .before .look-bits10 .kept .1 .1 .1 .1 .1 .1 .0
+
+returns-11 : tie.Need-returns-11
+returns-11 c =
+    let called = c .before .before in
+    let byte = called .before .before in
+    let a = byte .before .before .before .before .args in
+    look-told (a .count) (now (a .bits)) (looking (a .s) (now (a .rest))) (byte .before .match .keys3) (byte .match4 .keys2) (called .look-bits10 .ensures)
+
+same-length-11 : tie.Need-same-length-11
+same-length-11 c = c .before .before .look-bits11 .kept .1 .1 .1 .1 .1 .1 .0
+
+returns-12 : tie.Need-returns-12
+returns-12 c =
+    let called = c .before .before in
+    let byte = called .before .before in
+    let a = byte .before .before .before .before .args in
+    look-told (a .count) (now (a .bits)) (looking (a .s) (now (a .rest))) (byte .before .match .keys3) (byte .match4 .keys3) (called .look-bits11 .ensures)
+
+same-length-12 : tie.Need-same-length-12
+same-length-12 c = c .before .before .look-bits12 .kept .1 .1 .1 .1 .1 .1 .0
+
+returns-13 : tie.Need-returns-13
+returns-13 c =
+    let called = c .before .before in
+    let byte = called .before .before in
+    let a = byte .before .before .before .before .args in
+    look-told (a .count) (now (a .bits)) (looking (a .s) (now (a .rest))) (byte .before .match .keys3) (byte .match4 .keys4) (called .look-bits12 .ensures)
+
+same-length-13 : tie.Need-same-length-13
+same-length-13 c = c .before .before .look-bits13 .kept .1 .1 .1 .1 .1 .1 .0
+
+returns-14 : tie.Need-returns-14
+returns-14 c = c .before .before .look-bits13 .ensures
+
+same-length-14 : tie.Need-same-length-14
+same-length-14 c = c .before .before .look-bits14 .kept .1 .1 .1 .1 .1 .1 .0
+
+returns-15 : tie.Need-returns-15
+returns-15 c =
+    let called = c .before .before in
+    let byte = called .before .before in
+    let a = byte .before .before .before .before .args in
+    look-told (a .count) (now (a .bits)) (looking (a .s) (now (a .rest))) (byte .before .match .keys4) (byte .match5 .keys1) (called .look-bits14 .ensures)
+
+same-length-15 : tie.Need-same-length-15
+same-length-15 c = c .before .before .look-bits15 .kept .1 .1 .1 .1 .1 .1 .0
+
+returns-16 : tie.Need-returns-16
+returns-16 c =
+    let called = c .before .before in
+    let byte = called .before .before in
+    let a = byte .before .before .before .before .args in
+    look-told (a .count) (now (a .bits)) (looking (a .s) (now (a .rest))) (byte .before .match .keys4) (byte .match5 .keys2) (called .look-bits15 .ensures)
+
+same-length-16 : tie.Need-same-length-16
+same-length-16 c = c .before .before .look-bits16 .kept .1 .1 .1 .1 .1 .1 .0
+
+returns-17 : tie.Need-returns-17
+returns-17 c =
+    let called = c .before .before in
+    let byte = called .before .before in
+    let a = byte .before .before .before .before .args in
+    look-told (a .count) (now (a .bits)) (looking (a .s) (now (a .rest))) (byte .before .match .keys4) (byte .match5 .keys3) (called .look-bits16 .ensures)
+
+same-length-17 : tie.Need-same-length-17
+same-length-17 c = c .before .before .look-bits17 .kept .1 .1 .1 .1 .1 .1 .0
+
+returns-18 : tie.Need-returns-18
+returns-18 c = c .before .before .look-bits17 .ensures
+
+same-length-18 : tie.Need-same-length-18
+same-length-18 c = c .before .before .look-bits18 .kept .1 .1 .1 .1 .1 .1 .0
+
+returns-19 : tie.Need-returns-19
+returns-19 c = c .before .before .look-bits18 .ensures
 
 pub look-byte-spec : {M : Type 1} → statement M
 look-byte-spec =
     tie.close
     (tie.spec
-    Inv-loop
-    μ-loop
-    loop-holds
-    add-look-bit
-    look-bit-requires
-    add-bit
-    loop-less
-    loop-again
-    returns)
+    returns
+    look-bits-requires
+    look-bits-requires-2
+    look-bits-requires-3
+    look-bits-requires-4
+    look-bits-requires-5
+    mul-look-bits
+    add-look-bits
+    look-bits-requires-6
+    look-bits-requires-7
+    mul-look-bits-2
+    add-look-bits-2
+    look-bits-requires-8
+    look-bits-requires-9
+    look-bits-requires-10
+    look-bits-requires-11
+    look-bits-requires-12
+    mul-look-bits-3
+    add-look-bits-3
+    look-bits-requires-13
+    look-bits-requires-14
+    look-bits-requires-15
+    look-bits-requires-16
+    mul-look-bits-4
+    add-look-bits-4
+    look-bits-requires-17
+    mul-look-bits-5
+    add-look-bits-5
+    look-bits-requires-18
+    same-length
+    returns-2
+    same-length-2
+    returns-3
+    same-length-3
+    returns-4
+    same-length-4
+    returns-5
+    same-length-5
+    returns-6
+    same-length-6
+    returns-7
+    same-length-7
+    returns-8
+    same-length-8
+    returns-9
+    same-length-9
+    returns-10
+    same-length-10
+    returns-11
+    same-length-11
+    returns-12
+    same-length-12
+    returns-13
+    same-length-13
+    returns-14
+    same-length-14
+    returns-15
+    same-length-15
+    returns-16
+    same-length-16
+    returns-17
+    same-length-17
+    returns-18
+    same-length-18
+    returns-19)

@@ -1,51 +1,60 @@
--- `gather::look_field` meets its contract: the field is a part of the layout, and `agrees` and `weigh` are asked of it. A part of at most 255
--- bytes weighs at most 65025. Assumes nothing.
-use mathlib.Core.Bool.{Bool, _&&_}
+-- `gather::look_field` meets its contract: the field is a part of the lent layout, `agrees` is asked of it, and `clear` puts zeros over it there.
+-- Assumes nothing.
+use mathlib.Core.Bool.{Bool, _&&_, not}
 use mathlib.Core.Path.{ap, _∙_}
 use native.Mathlib.Omega.{arith}
-use borrow.Author.Needs.{needs}
+use lib.Dec.{eqb}
 use denote.Ref.{now}
-use Rattle.gather.specs.State.{looking}
+use Rattle.numbers.proofs.Tail.{lent-patched}
 use Rattle.gather.proofs.One.{looked-is}
+use borrow.Author.Needs.{needs}
 use Rattle.gather.proofs.look_field.Statement.{statement}
 use Rattle.gather.proofs.look_field.Tie as tie
 
 add-end : tie.Need-add-end
 add-end c = search needs
 
-sub-field : tie.Need-sub-field
-sub-field c = search needs
+sub-agrees : tie.Need-sub-agrees
+sub-agrees c = search needs
 
-part-field-start : tie.Need-part-field-start
-part-field-start c = search needs
+part-agrees-start : tie.Need-part-agrees-start
+part-agrees-start c = search needs
 
-part-field-end : tie.Need-part-field-end
-part-field-end c = search needs
+part-agrees-end : tie.Need-part-agrees-end
+part-agrees-end c = search needs
 
 agrees-requires : tie.Need-agrees-requires
 agrees-requires c κs = search needs
 
-both-requires : tie.Need-both-requires
-both-requires c κs = search needs
+sub-clear : tie.Need-sub-clear
+sub-clear c = search needs
 
-add-t12 : tie.Need-add-t12
-add-t12 c = search needs
+part-clear-start : tie.Need-part-clear-start
+part-clear-start c = search needs
 
-weigh-requires : tie.Need-weigh-requires
-weigh-requires c κs = search needs
+part-clear-end : tie.Need-part-clear-end
+part-clear-end c = search needs
 
-add-t16 : tie.Need-add-t16
-add-t16 c = search needs
+clear-requires : tie.Need-clear-requires
+clear-requires c κs = search needs
+
+add-t11 : tie.Need-add-t11
+add-t11 c = search needs
+
+worse-requires : tie.Need-worse-requires
+worse-requires c κs = search needs
+
+same-length : tie.Need-same-length
+same-length c = search needs
 
 returns : tie.Need-returns
 returns c =
-    let weighed = c .before .weigh in
-    let after-both = c .before .before .before in
-    let a = after-both .before .before .before .before .args in (
-      looked-is (now (a .layout)) (a .width) (a .place) (a .kind) (looking (a .s))
-          (weighed .ensures .0)
-          (after-both .both .ensures ∙ ap (λ (b : Bool). b && a .s .agree) (after-both .before .agrees .ensures)),
-      omega arith,
+    let after-clear = c .before .before .before .before in
+    let after-agrees = after-clear .before .before in
+    let a = after-agrees .before .before .before .before .args in (
+      looked-is (now (a .rest)) (a .width) (a .place) (a .kind) (a .s .total) (eqb (a .s .wrong) 0) (not (eqb (a .s .bad) 0))
+          (c .worse .ensures ∙ ap (λ (b : Bool). b && eqb (a .s .wrong) 0) (after-agrees .agrees .ensures))
+          (lent-patched (now (a .rest)) (a .place) _ (omega arith) (after-clear .clear .ensures)),
       omega arith,
     )
 
@@ -54,12 +63,15 @@ look-field-spec =
     tie.close
     (tie.spec
     add-end
-    sub-field
-    part-field-start
-    part-field-end
+    sub-agrees
+    part-agrees-start
+    part-agrees-end
     agrees-requires
-    both-requires
-    add-t12
-    weigh-requires
-    add-t16
+    sub-clear
+    part-clear-start
+    part-clear-end
+    clear-requires
+    add-t11
+    worse-requires
+    same-length
     returns)

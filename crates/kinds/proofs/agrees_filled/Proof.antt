@@ -1,21 +1,50 @@
--- `kinds::agrees_filled` meets its contract: a blank field is refused, and for any other the answer of `agrees` is returned.
--- Assumes nothing.
+-- `kinds::agrees_filled` meets its contract: a blank field is refused, and for any other the answer of `agrees` is returned. A field of no bytes is
+-- blank, and one whose first byte is not NUL is not. Assumes nothing.
 use mathlib.Core.Path.{sym, _∙_}
+use native.Mathlib.Omega.{arith}
 use borrow.Author.Needs.{needs}
+use denote.Ref.{now}
+use Rattle.kinds.specs.Kinds.{allNul}
+use Rattle.kinds.proofs.Walk.{nul-no, walk-end}
 use Rattle.kinds.proofs.agrees_filled.Statement.{statement}
 use Rattle.kinds.proofs.agrees_filled.Tie as tie
 
-is-blank-requires : tie.Need-is-blank-requires
-is-blank-requires c κs = search needs
-
 returns : tie.Need-returns
-returns c = rw (sym (c .before .is-blank .ensures) ∙ c .if1 .taken)
+returns c = rw (walk-end allNul (now (c .before .before .args .s)) 0 (omega arith))
+
+shared-slice-read-if2 : tie.Need-shared-slice-read-if2
+shared-slice-read-if2 c = search needs
 
 agrees-requires : tie.Need-agrees-requires
 agrees-requires c κs = search needs
 
 returns-2 : tie.Need-returns-2
-returns-2 c = rw (sym (c .before .before .is-blank .ensures) ∙ c .before .if1 .left) (c .agrees .ensures)
+returns-2 c =
+    let filled = c .before in
+    let s = now (filled .before .before .before .before .args .s) in
+    rw (nul-no s 0 (omega arith) (filled .if2 .taken)) (c .agrees .ensures)
+
+is-blank-requires : tie.Need-is-blank-requires
+is-blank-requires c κs = search needs
+
+returns-3 : tie.Need-returns-3
+returns-3 c = rw (sym (c .before .is-blank .ensures) ∙ c .if3 .taken)
+
+agrees-requires-2 : tie.Need-agrees-requires-2
+agrees-requires-2 c κs = search needs
+
+returns-4 : tie.Need-returns-4
+returns-4 c = rw (sym (c .before .before .is-blank .ensures) ∙ c .before .if3 .left) (c .agrees2 .ensures)
 
 pub agrees-filled-spec : {M : Type 1} → statement M
-agrees-filled-spec = tie.close (tie.spec is-blank-requires returns agrees-requires returns-2)
+agrees-filled-spec =
+    tie.close
+    (tie.spec
+    returns
+    shared-slice-read-if2
+    agrees-requires
+    returns-2
+    is-blank-requires
+    returns-3
+    agrees-requires-2
+    returns-4)

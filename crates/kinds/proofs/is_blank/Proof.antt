@@ -1,31 +1,32 @@
--- `kinds::is_blank` meets its contract. The loop's invariant: the bytes from `i` on are all NUL if and only if the whole field is. The measure is
--- what is left of the length. Assumes nothing.
-use mathlib.Core.Path.{_≡_, refl, sym, _∙_}
-use Prim.Native.Nat.{_-_, _≤_}
+-- `kinds::is_blank` meets its contract. The loop's invariant: the bytes from `i` on are all NUL and those before were, if and only if the whole field
+-- is. The measure is what is left of the length. Assumes nothing.
+use mathlib.Core.Path.{_≡_, refl, sym, ap, _∙_}
+use mathlib.Core.Bool.{_&&_, and-true}
+use Prim.Native.Nat.{_-_}
 use native.Mathlib.Omega.{arith}
+use borrow.Author.Needs.{needs}
+use lib.Dec.{eqb}
 use lib.ListN.{length, drop}
 use denote.Ref.{now}
 use Rattle.kinds.specs.Kinds.{allNul}
-use Rattle.kinds.proofs.Walk.{nul-no, nul-yes, walk-end}
+use Rattle.kinds.proofs.Walk.{goes-on, walk-end}
 use Rattle.kinds.proofs.is_blank.Statement.{statement}
 use Rattle.kinds.proofs.is_blank.Tie as tie
 
 abbrev Inv-loop : tie.InvT-loop
-Inv-loop s i₀ i = (i ≤ length s) × (allNul (drop i s) ≡ allNul s)
+Inv-loop s i₀ ok₀ i ok = (allNul (drop i s) && ok) ≡ allNul s
 
 abbrev μ-loop : tie.MeasureT-loop
-μ-loop s i₀ i = length s - i
+μ-loop s i₀ ok₀ i ok = length s - i
 
 loop-holds : tie.Need-loop-holds Inv-loop μ-loop
-loop-holds c = (omega arith, refl)
+loop-holds c = and-true _
 
-shared-slice-read-if1 : tie.Need-shared-slice-read-if1 Inv-loop μ-loop
-shared-slice-read-if1 c = omega arith
+shared-slice-read-both : tie.Need-shared-slice-read-both Inv-loop μ-loop
+shared-slice-read-both c = omega arith
 
-returns : tie.Need-returns Inv-loop μ-loop
-returns c =
-    let at-loop = c .before .before .before in
-    sym (nul-no (now (at-loop .before .args .s)) (at-loop .loop .i) (c .before .before .loop-test .taken) (c .if1 .taken)) ∙ at-loop .loop .inv .1
+both-requires : tie.Need-both-requires Inv-loop μ-loop
+both-requires c κs = search needs
 
 add-i : tie.Need-add-i Inv-loop μ-loop
 add-i c = omega arith
@@ -35,11 +36,16 @@ loop-less c = omega arith
 
 loop-again : tie.Need-loop-again Inv-loop μ-loop
 loop-again c =
-    let at-loop = c .before .before .before in
-    (omega arith, sym (nul-yes (now (at-loop .before .args .s)) (at-loop .loop .i) (c .before .before .loop-test .taken) (c .if1 .left)) ∙ at-loop .loop .inv .1)
+    let in-loop = c .before .before in
+    let at-loop = in-loop .before in
+    let s = now (at-loop .before .before .args .s) in
+    let o = at-loop .loop .ok in
+    goes-on allNul (λ b. allNul) (λ b. eqb b 0) (λ b bs. refl) s (at-loop .loop .i) (in-loop .loop-test .taken) o _ _ (c .both .ensures) (at-loop .loop .inv)
 
-returns-2 : tie.Need-returns-2 Inv-loop μ-loop
-returns-2 c = sym (walk-end allNul (now (c .before .before .args .s)) (c .before .loop .i) (c .loop-test .left)) ∙ c .before .loop .inv .1
+returns : tie.Need-returns Inv-loop μ-loop
+returns c =
+    let s = now (c .before .before .before .args .s) in
+    ap (λ r. r && c .before .loop .ok) (sym (walk-end allNul s (c .before .loop .i) (c .loop-test .left))) ∙ c .before .loop .inv
 
 pub is-blank-spec : {M : Type 1} → statement M
 is-blank-spec =
@@ -48,9 +54,9 @@ is-blank-spec =
     Inv-loop
     μ-loop
     loop-holds
-    shared-slice-read-if1
-    returns
+    shared-slice-read-both
+    both-requires
     add-i
     loop-less
     loop-again
-    returns-2)
+    returns)

@@ -2,14 +2,14 @@
 -- the kinds agree and what the layout holds; with it what `judged` ensures is the refusal of the block. Assumes nothing.
 use Rattle.order_reader.proofs.Judging.{judged-is, layout-right}
 use Rattle.spread.specs.Made.{took-all}
+use Rattle.spread.specs.State.{start, takeWalk}
+use mathlib.Core.List.{List}
+use Prim.Native.Nat.{ℕ}
 use denote.Ref.{now}
-use mathlib.Core.Path.{sym, _∙_}
+use mathlib.Core.Path.{sym, ap, _∙_}
 use borrow.Author.Needs.{needs}
 use Rattle.order_reader.proofs.block_of.Statement.{statement}
 use Rattle.order_reader.proofs.block_of.Tie as tie
-
-slice-aggregate-take-all : tie.Need-slice-aggregate-take-all
-slice-aggregate-take-all c = search needs
 
 take-all-requires : tie.Need-take-all-requires
 take-all-requires c κs = search needs
@@ -17,14 +17,19 @@ take-all-requires c κs = search needs
 judged-requires : tie.Need-judged-requires
 judged-requires c κs = search needs
 
+same-length : tie.Need-same-length
+same-length c = search needs
+
 returns : tie.Need-returns
 returns c =
-    let a = c .before .before .before .before .before .before .args in
-    let taken = c .before .before .take-all in
-    let k = took-all (a .message) (a .count) (now (a .bits)) (now (a .optional)) (taken .result) _ (taken .ensures) in
+    let took = c .before .before .before in
+    let begun = took .before .before .before .before .before in
+    let a = begun .args in
+    let taken = took .take-all in
+    let e = taken .ensures ∙ ap (λ (l : List ℕ). takeWalk (a .message) (a .count) (now (a .bits)) (now (a .optional)) 120 0 (start l)) (begun .pre .2) in
+    let k = took-all (a .message) (a .count) (now (a .bits)) (now (a .optional)) (taken .result) _ e in
     let j = judged-is (a .message) (a .count) (now (a .bits)) (now (a .fixed)) (now (a .optional)) (taken .result) _ k (c .judged .ensures) in
     (j, λ z. layout-right (a .message) (a .count) (now (a .bits)) (now (a .fixed)) (now (a .optional)) (taken .result) _ k (sym j ∙ z))
 
 pub block-of-spec : {M : Type 1} → statement M
-block-of-spec =
-    tie.close (tie.spec slice-aggregate-take-all take-all-requires judged-requires returns)
+block-of-spec = tie.close (tie.spec take-all-requires judged-requires same-length returns)

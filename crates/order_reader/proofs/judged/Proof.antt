@@ -9,7 +9,7 @@ use Rattle.order_reader.proofs.judged.Tie as tie
 
 returns : tie.Need-returns
 unfolding judgedOf
-returns c = rw (c .if1 .taken)
+returns c = rw (ne-eqb _ _ (c .if1 .taken))
 
 has-required-requires : tie.Need-has-required-requires
 has-required-requires c κs = search needs
@@ -18,13 +18,13 @@ returns-2 : tie.Need-returns-2
 unfolding judgedOf
 returns-2 c =
     let required = c .before in
-    rw (required .before .if1 .left, sym (required .has-required .ensures) ∙ not-true _ (c .if2 .taken))
+    rw (eq-eqb _ _ (required .before .if1 .left), sym (required .has-required .ensures) ∙ not-true _ (c .if2 .taken))
 
 returns-3 : tie.Need-returns-3
 unfolding judgedOf
 returns-3 c =
     let required = c .before .before .before in
-    rw (required .before .if1 .left, sym (required .has-required .ensures) ∙ not-false _ (c .before .before .if2 .left), ne-eqb _ _ (c .if3 .taken))
+    rw (eq-eqb _ _ (required .before .if1 .left), sym (required .has-required .ensures) ∙ not-false _ (c .before .before .if2 .left), ne-eqb _ _ (c .if3 .taken))
 
 fixed-good-requires : tie.Need-fixed-good-requires
 fixed-good-requires c κs = search needs
@@ -34,21 +34,21 @@ unfolding judgedOf
 returns-4 c =
     let good = c .before in
     let required = good .before .before .before .before in
-    rw (required .before .if1 .left, sym (required .has-required .ensures) ∙ not-false _ (good .before .before .before .if2 .left), eq-eqb _ _ (good .before .if3 .left), sym (good .fixed-good .ensures) ∙ not-true _ (c .if4 .taken))
+    rw (eq-eqb _ _ (required .before .if1 .left), sym (required .has-required .ensures) ∙ not-false _ (good .before .before .before .if2 .left), eq-eqb _ _ (good .before .if3 .left), sym (good .fixed-good .ensures) ∙ not-true _ (c .if4 .taken))
 
 returns-5 : tie.Need-returns-5
 unfolding judgedOf
 returns-5 c =
     let good = c .before .before .before in
     let required = good .before .before .before .before in
-    rw (required .before .if1 .left, sym (required .has-required .ensures) ∙ not-false _ (good .before .before .before .if2 .left), eq-eqb _ _ (good .before .if3 .left), sym (good .fixed-good .ensures) ∙ not-false _ (c .before .before .if4 .left), not-true (required .before .before .before .args .t .agree) (c .if5 .taken))
+    rw (eq-eqb _ _ (required .before .if1 .left), sym (required .has-required .ensures) ∙ not-false _ (good .before .before .before .if2 .left), eq-eqb _ _ (good .before .if3 .left), sym (good .fixed-good .ensures) ∙ not-false _ (c .before .before .if4 .left), ne-eqb _ _ (c .if5 .taken))
 
 returns-6 : tie.Need-returns-6
 unfolding judgedOf
 returns-6 c =
     let good = c .before .before .before in
     let required = good .before .before .before .before in
-    rw (required .before .if1 .left, sym (required .has-required .ensures) ∙ not-false _ (good .before .before .before .if2 .left), eq-eqb _ _ (good .before .if3 .left), sym (good .fixed-good .ensures) ∙ not-false _ (c .before .before .if4 .left), not-false (required .before .before .before .args .t .agree) (c .if5 .left))
+    rw (eq-eqb _ _ (required .before .if1 .left), sym (required .has-required .ensures) ∙ not-false _ (good .before .before .before .if2 .left), eq-eqb _ _ (good .before .if3 .left), sym (good .fixed-good .ensures) ∙ not-false _ (c .before .before .if4 .left), eq-eqb _ _ (c .if5 .left))
 
 pub judged-spec : {M : Type 1} → statement M
 judged-spec =

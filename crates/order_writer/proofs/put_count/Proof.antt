@@ -1,6 +1,7 @@
 -- `order_writer::put_count` meets its contract. Assumes nothing.
 use Rattle.order_writer.specs.Stages.{fieldBytes}
-use Rattle.order_writer.proofs.Puts.{puts-then, tail-length, first-stored, count-length}
+use Rattle.order_writer.proofs.Puts.{count-length}
+use Rattle.numbers.proofs.Tail.{puts-then, tail-length, first-stored}
 use denote.Ref.{now}
 use lib.ListN.{length, length-set}
 use Rattle.numbers.specs.NumberLaws.{patched-length}

@@ -1,6 +1,7 @@
 -- `order_writer::put_rest` meets its contract. Assumes nothing.
 use Rattle.order_writer.specs.Stages.{fieldBytes, restBytes}
-use Rattle.order_writer.proofs.Puts.{puts-then, tail-length, count-length}
+use Rattle.order_writer.proofs.Puts.{count-length}
+use Rattle.numbers.proofs.Tail.{puts-then, tail-length}
 use Rattle.orders.specs.Shapes.{countAt}
 use Rattle.numbers.specs.Numbers.{patched}
 use lib.Seq.{length-take-le}

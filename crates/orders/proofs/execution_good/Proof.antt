@@ -4,17 +4,17 @@ use borrow.Author.Needs.{needs}
 use Rattle.orders.proofs.execution_good.Statement.{statement}
 use Rattle.orders.proofs.execution_good.Tie as tie
 
-sub-agrees-filled : tie.Need-sub-agrees-filled
-sub-agrees-filled c = search needs
+sub-identifies : tie.Need-sub-identifies
+sub-identifies c = search needs
 
-part-agrees-filled-start : tie.Need-part-agrees-filled-start
-part-agrees-filled-start c = search needs
+part-identifies-start : tie.Need-part-identifies-start
+part-identifies-start c = search needs
 
-part-agrees-filled-end : tie.Need-part-agrees-filled-end
-part-agrees-filled-end c = search needs
+part-identifies-end : tie.Need-part-identifies-end
+part-identifies-end c = search needs
 
-agrees-filled-requires : tie.Need-agrees-filled-requires
-agrees-filled-requires c κs = search needs
+identifies-requires : tie.Need-identifies-requires
+identifies-requires c κs = search needs
 
 sub-agrees : tie.Need-sub-agrees
 sub-agrees c = search needs
@@ -57,32 +57,32 @@ returns c =
     let third = c .before .before .before in
     let second = third .before .before .before in
     let first = second .before .before .before in
-    rw (sym (first .agrees-filled .ensures) ∙ second .before .before .if1 .taken, sym (second .agrees .ensures) ∙ third .before .before .if2 .taken, sym (third .agrees2 .ensures) ∙ c .before .before .if3 .taken) (c .agrees3 .ensures)
+    rw (sym (first .identifies .ensures) ∙ second .before .before .if1 .taken, sym (second .agrees .ensures) ∙ third .before .before .if2 .taken, sym (third .agrees2 .ensures) ∙ c .before .before .if3 .taken) (c .agrees3 .ensures)
 
 returns-2 : tie.Need-returns-2
 returns-2 c =
     let third = c .before in
     let second = third .before .before .before in
     let first = second .before .before .before in
-    rw (sym (first .agrees-filled .ensures) ∙ second .before .before .if1 .taken, sym (second .agrees .ensures) ∙ third .before .before .if2 .taken, sym (third .agrees2 .ensures) ∙ c .if3 .left)
+    rw (sym (first .identifies .ensures) ∙ second .before .before .if1 .taken, sym (second .agrees .ensures) ∙ third .before .before .if2 .taken, sym (third .agrees2 .ensures) ∙ c .if3 .left)
 
 returns-3 : tie.Need-returns-3
 returns-3 c =
     let second = c .before in
     let first = second .before .before .before in
-    rw (sym (first .agrees-filled .ensures) ∙ second .before .before .if1 .taken, sym (second .agrees .ensures) ∙ c .if2 .left)
+    rw (sym (first .identifies .ensures) ∙ second .before .before .if1 .taken, sym (second .agrees .ensures) ∙ c .if2 .left)
 
 returns-4 : tie.Need-returns-4
-returns-4 c = rw (sym (c .before .agrees-filled .ensures) ∙ c .if1 .left)
+returns-4 c = rw (sym (c .before .identifies .ensures) ∙ c .if1 .left)
 
 pub execution-good-spec : {M : Type 1} → statement M
 execution-good-spec =
     tie.close
     (tie.spec
-    sub-agrees-filled
-    part-agrees-filled-start
-    part-agrees-filled-end
-    agrees-filled-requires
+    sub-identifies
+    part-identifies-start
+    part-identifies-end
+    identifies-requires
     sub-agrees
     part-agrees-start
     part-agrees-end

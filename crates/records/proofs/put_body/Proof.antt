@@ -1,5 +1,5 @@
 -- `records::put_body` meets its contract. Assumes nothing.
-use Rattle.order_writer.proofs.Puts.{puts-then}
+use Rattle.numbers.proofs.Tail.{puts-then}
 use mathlib.Core.Path.{_≡_, refl, sym, ap, _∙_}
 use mathlib.Core.List.{[], _∷_, _++_}
 use Rattle.numbers.specs.NumberLaws.{patched-length}

@@ -1,5 +1,6 @@
 -- `records::unpack` meets its contract. Assumes nothing.
-use Rattle.records.specs.RecordLaws.{filled-part, record-is}
+use Rattle.records.specs.RecordLaws.{record-is}
+use Rattle.numbers.specs.NumberLaws.{patched-part}
 use native.Mathlib.Omega.{arith}
 use mathlib.Core.Path.{refl}
 use denote.Ref.{now}
@@ -68,7 +69,7 @@ returns : tie.Need-returns
 returns c =
     let start = c .before .before .before .before .before .before .before .before .before .before .before .before .before .before .before .before .before in
     let s = now (start .args .s) in
-    record-is s (c .before .read-u32 .ensures) (filled-part _ s 59 6 refl (omega (arith, start .pre)) (c .before .before .before .before .before .before .before .before .before .before .before .before .before .copy .ensures)) (filled-part _ s 15 66 refl (omega (arith, start .pre)) (c .before .before .before .before .before .before .before .before .before .copy2 .ensures)) (filled-part _ s 154 81 refl (omega (arith, start .pre)) (c .before .before .before .before .before .copy3 .ensures))
+    record-is s (c .before .read-u32 .ensures) (patched-part _ s 59 6 refl (omega (arith, start .pre)) (c .before .before .before .before .before .before .before .before .before .before .before .before .before .copy .ensures)) (patched-part _ s 15 66 refl (omega (arith, start .pre)) (c .before .before .before .before .before .before .before .before .before .copy2 .ensures)) (patched-part _ s 154 81 refl (omega (arith, start .pre)) (c .before .before .before .before .before .copy3 .ensures))
 
 pub unpack-spec : {M : Type 1} → statement M
 unpack-spec =

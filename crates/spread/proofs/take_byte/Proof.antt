@@ -1,86 +1,88 @@
--- `spread::take_byte` meets its contract. The loop's invariant: `x` is what is left of the byte after `bit` halvings, and the walk over the byte's
--- other bits, from the state reached, ends as the walk over all eight. The measure is `x`. Assumes nothing.
-use Rattle.fields.specs.Loops.{halved, bit-left, first-bit, bit-turn, bits-end}
-use Rattle.spread.specs.State.{taking, takeWalk}
+-- `spread::take_byte` meets its contract: a byte without a set bit leaves the state, and in each arm the message is the literal one. Assumes
+-- nothing.
+use Rattle.fields.specs.Loops.{byte-clear}
 use Rattle.fields.specs.Walk.{takeEntry}
+use Rattle.spread.specs.State.{taking, takeWalk}
 use denote.Ref.{now}
-use lib.ListN.{length}
-use native.Mathlib.Omega.{arith}
-use native.Mathlib.Nat.{add-zero}
-use Prim.Native.Nat.{ℕ, _+_, _*_, _-_, _/_, _^_, _≤_, _<_}
-use mathlib.Core.Path.{_≡_, sym, ap, _∙_}
+use Prim.Native.Nat.{ℕ, _*_}
+use mathlib.Core.Path.{sym, ap, _∙_}
+use borrow.Author.Needs.{needs}
 use Rattle.spread.proofs.take_byte.Statement.{statement}
 use Rattle.spread.proofs.take_byte.Tie as tie
 
-abbrev Inv-loop : tie.InvT-loop
-Inv-loop message bits count j value msg layout₀ x₀ bit₀ r₀ layout x bit r = (bit ≤ 8) × (x ≡ value / 2 ^ bit) × (length layout ≡ 154) × (takeWalk message count bits msg (8 - bit) (8 * j + bit) (taking r layout) ≡ takeWalk message count bits msg 8 (8 * j) (taking r₀ layout₀))
-
-abbrev μ-loop : tie.MeasureT-loop
-μ-loop message bits count j value msg layout₀ x₀ bit₀ r₀ layout x bit r = x
-
--- while something is left, there is a bit to look at
-a-bit : (c : tie.In-loop Inv-loop μ-loop) → c .before .loop .bit < 8
-a-bit c =
-    let inv = c .before .loop .inv in
-    let a = c .before .before .before .before .args in
-    bit-left (a .value) (c .before .loop .bit) (omega arith) (inv .0) (λ z. c .loop-test .taken (inv .1 ∙ z))
-
-loop-holds : tie.Need-loop-holds Inv-loop μ-loop
-loop-holds c =
-    let start = c .before .before in
-    let a = start .args in
-    (omega arith, first-bit (a .value), start .pre .0, ap (λ (k : ℕ). takeWalk (a .message) (a .count) (now (a .bits)) (now (a .msg)) 8 k (taking (a .t) (now (a .layout)))) (add-zero (8 * a .j)))
-
-add-take-bit : tie.Need-add-take-bit Inv-loop μ-loop
-add-take-bit c = omega arith
-
-take-bit-requires : tie.Need-take-bit-requires Inv-loop μ-loop
-take-bit-requires c κs = c .before .before .loop .inv .2
-
-add-bit : tie.Need-add-bit Inv-loop μ-loop
-add-bit c = omega (arith, a-bit (c .before .before .before .before))
-
-loop-less : tie.Need-loop-less Inv-loop μ-loop
-loop-less c = omega arith
-
-loop-again : tie.Need-loop-again Inv-loop μ-loop
-loop-again c =
-    let in-loop = c .before .before .before .before in
-    let at-loop = in-loop .before in
-    let start = at-loop .before .before .before in
-    let a = start .args in
-    let inv = at-loop .loop .inv in
-    let taken = c .before .before .take-bit in (
-      omega (arith, a-bit in-loop),
-      ap (λ (y : ℕ). y / 2) (inv .1) ∙ halved (a .value) (at-loop .loop .bit),
-      taken .kept .1 .1 .1 .1 .1 .1 .0 ∙ inv .2,
-      bit-turn (takeEntry (now (a .msg))) (a .message) (a .count) (now (a .bits)) (a .j) (at-loop .loop .bit) (at-loop .loop .x) (a .value) (taking (at-loop .loop .r) (at-loop .loop .layout)) _ _
-          (start .pre .1) (a-bit in-loop) (start .pre .3) (inv .1) (taken .ensures) (inv .3),
-    )
-
-same-length : tie.Need-same-length Inv-loop μ-loop
-same-length c = c .before .loop .inv .2 ∙ sym (c .before .before .before .before .pre .0)
-
-returns : tie.Need-returns Inv-loop μ-loop
+returns : tie.Need-returns
 returns c =
-    let at-loop = c .before in
-    let start = at-loop .before .before .before in
+    let start = c .before .before .before in
     let a = start .args in
-    let inv = at-loop .loop .inv in
-    bits-end (takeEntry (now (a .msg))) (a .message) (a .count) (now (a .bits)) (a .j) (at-loop .loop .bit) (at-loop .loop .x) (a .value) (taking (at-loop .loop .r) (at-loop .loop .layout)) _
-    (start .pre .1) (inv .0) (start .pre .3) (inv .1) (omega arith) (inv .3)
+    byte-clear (takeEntry (now (a .msg))) (a .message) (a .count) (now (a .bits)) (a .j) (a .value) (taking (a .t) (now (a .layout))) (start .pre .1) (start .pre .3) (c .if1 .taken)
+
+take-new-order-requires : tie.Need-take-new-order-requires
+take-new-order-requires c κs = search needs
+
+take-acknowledgment-requires : tie.Need-take-acknowledgment-requires
+take-acknowledgment-requires c κs = search needs
+
+take-execution-requires : tie.Need-take-execution-requires
+take-execution-requires c κs = search needs
+
+mul-take-bits : tie.Need-mul-take-bits
+mul-take-bits c = search needs
+
+add-take-bits : tie.Need-add-take-bits
+add-take-bits c = search needs
+
+take-bits-requires : tie.Need-take-bits-requires
+take-bits-requires c κs = search needs
+
+same-length : tie.Need-same-length
+same-length c = search needs
+
+returns-2 : tie.Need-returns-2
+returns-2 c =
+    let taken = c .before .before in
+    let a = taken .before .before .before .before .before .before .args in
+    taken .take-new-order .ensures ∙ ap (λ (m : ℕ). takeWalk m (a .count) (now (a .bits)) (now (a .msg)) 8 (8 * a .j) (taking (a .t) (now (a .layout)))) (sym (taken .before .before .match .keys1))
+
+same-length-2 : tie.Need-same-length-2
+same-length-2 c = search needs
+
+returns-3 : tie.Need-returns-3
+returns-3 c =
+    let taken = c .before .before in
+    let a = taken .before .before .before .before .before .before .args in
+    taken .take-acknowledgment .ensures ∙ ap (λ (m : ℕ). takeWalk m (a .count) (now (a .bits)) (now (a .msg)) 8 (8 * a .j) (taking (a .t) (now (a .layout)))) (sym (taken .before .before .match .keys2))
+
+same-length-3 : tie.Need-same-length-3
+same-length-3 c = search needs
+
+returns-4 : tie.Need-returns-4
+returns-4 c =
+    let taken = c .before .before in
+    let a = taken .before .before .before .before .before .before .args in
+    taken .take-execution .ensures ∙ ap (λ (m : ℕ). takeWalk m (a .count) (now (a .bits)) (now (a .msg)) 8 (8 * a .j) (taking (a .t) (now (a .layout)))) (sym (taken .before .before .match .keys3))
+
+same-length-4 : tie.Need-same-length-4
+same-length-4 c = search needs
+
+returns-5 : tie.Need-returns-5
+returns-5 c = search needs
 
 pub take-byte-spec : {M : Type 1} → statement M
 take-byte-spec =
     tie.close
     (tie.spec
-    Inv-loop
-    μ-loop
-    loop-holds
-    add-take-bit
-    take-bit-requires
-    add-bit
-    loop-less
-    loop-again
+    returns
+    take-new-order-requires
+    take-acknowledgment-requires
+    take-execution-requires
+    mul-take-bits
+    add-take-bits
+    take-bits-requires
     same-length
-    returns)
+    returns-2
+    same-length-2
+    returns-3
+    same-length-3
+    returns-4
+    same-length-4
+    returns-5)

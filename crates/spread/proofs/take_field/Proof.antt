@@ -1,8 +1,9 @@
 -- `spread::take_field` meets its contract. Where the message has no bytes for the field, it is what `lost` ensures; else it is the part of the
--- message that `agrees` is asked of and that `copy` puts into the lent tail of the layout. Assumes nothing.
+-- message that `agrees` is asked of and that `move_field` puts into the lent tail of the layout. Assumes nothing.
 use Rattle.spread.proofs.One.{lost-is, taken-is}
 use Rattle.numbers.proofs.Tail.{lent-patched}
 use denote.Ref.{now}
+use lib.Dec.{eqb}
 use native.Mathlib.Omega.{arith}
 use mathlib.Core.Bool.{Bool, _&&_}
 use mathlib.Core.Path.{ap, _∙_}
@@ -41,34 +42,34 @@ part-field-start c = search needs
 part-field-end : tie.Need-part-field-end
 part-field-end c = search needs
 
-sub-copy : tie.Need-sub-copy
-sub-copy c = search needs
+sub-move-field : tie.Need-sub-move-field
+sub-move-field c = search needs
 
-part-copy-start : tie.Need-part-copy-start
-part-copy-start c = search needs
+part-move-field-start : tie.Need-part-move-field-start
+part-move-field-start c = search needs
 
-part-copy-end : tie.Need-part-copy-end
-part-copy-end c = search needs
+part-move-field-end : tie.Need-part-move-field-end
+part-move-field-end c = search needs
 
-copy-requires : tie.Need-copy-requires
-copy-requires c κs = search needs
+move-field-requires : tie.Need-move-field-requires
+move-field-requires c κs = search needs
 
 agrees-requires : tie.Need-agrees-requires
 agrees-requires c κs = search needs
 
-both-requires : tie.Need-both-requires
-both-requires c κs = search needs
+worse-requires : tie.Need-worse-requires
+worse-requires c κs = search needs
 
 same-length : tie.Need-same-length
 same-length c = search needs
 
 returns-3 : tie.Need-returns-3
 returns-3 c =
-    let after-copy = c .before .before .before .before in
-    let a = after-copy .before .before .before .before .before .before .before .args in
+    let after-move = c .before .before .before .before in
+    let a = after-move .before .before .before .before .before .before .before .args in
     taken-is (now (a .msg)) (a .width) (a .kind) (a .place) (a .t) (now (a .layout)) (omega arith)
-    (c .both .ensures ∙ ap (λ (b : Bool). b && a .t .agree) (c .before .agrees .ensures))
-    (lent-patched (now (a .layout)) (a .place) _ (omega arith) (after-copy .copy .ensures))
+    (c .worse .ensures ∙ ap (λ (b : Bool). b && eqb (a .t .wrong) 0) (c .before .agrees .ensures))
+    (lent-patched (now (a .layout)) (a .place) _ (omega arith) (after-move .move-field .ensures))
 
 pub take-field-spec : {M : Type 1} → statement M
 take-field-spec =
@@ -83,11 +84,11 @@ take-field-spec =
     sub-field
     part-field-start
     part-field-end
-    sub-copy
-    part-copy-start
-    part-copy-end
-    copy-requires
+    sub-move-field
+    part-move-field-start
+    part-move-field-end
+    move-field-requires
     agrees-requires
-    both-requires
+    worse-requires
     same-length
     returns-3)

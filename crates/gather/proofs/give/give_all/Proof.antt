@@ -15,13 +15,14 @@ abbrev Inv-loop : tie.InvT-loop
 Inv-loop message bits count layout out₀ start j₀ at₀ out j at =
     (j ≤ count)
     × (length out ≡ length out₀)
+    × (at ≤ length out₀)
     × (giveWalk message count bits layout (120 - 8 * j) (8 * j) (giving at out) ≡ giveWalk message count bits layout 120 0 (giving start out₀))
 
 abbrev μ-loop : tie.MeasureT-loop
 μ-loop message bits count layout out₀ start j₀ at₀ out j at = count - j
 
 loop-holds : tie.Need-loop-holds Inv-loop μ-loop
-loop-holds c = (omega arith, refl, refl)
+loop-holds c = (omega arith, refl, c .before .before .pre .2, refl)
 
 cast-value : tie.Need-cast-value Inv-loop μ-loop
 cast-value c = omega arith
@@ -33,7 +34,8 @@ give-byte-requires : tie.Need-give-byte-requires Inv-loop μ-loop
 give-byte-requires c κs =
     let in-loop = c .before .before in
     let start = in-loop .before .before .before .before in
-    (start .pre .0, in-loop .loop-test .taken, start .pre .1, refl)
+    let inv = in-loop .before .loop .inv in
+    (start .pre .0, in-loop .loop-test .taken, start .pre .1, refl, omega (arith, inv .1, inv .2))
 
 add-j : tie.Need-add-j Inv-loop μ-loop
 add-j c = omega arith
@@ -50,7 +52,8 @@ loop-again c =
     let given = c .before .before .give-byte in (
       omega arith,
       given .kept .1 .1 .1 .1 .1 .1 .0 ∙ inv .1,
-      byte-turn (giveEntry (now (a .layout))) (a .message) (a .count) (now (a .bits)) (at-loop .loop .j) (giving (at-loop .loop .at) (at-loop .loop .out)) _ _ (omega arith) (given .ensures) (inv .2),
+      omega (arith, given .ensures .1, inv .1),
+      byte-turn (giveEntry (now (a .layout))) (a .message) (a .count) (now (a .bits)) (at-loop .loop .j) (giving (at-loop .loop .at) (at-loop .loop .out)) _ _ (omega arith) (given .ensures .0) (inv .3),
     )
 
 same-length : tie.Need-same-length Inv-loop μ-loop
@@ -60,7 +63,7 @@ returns : tie.Need-returns Inv-loop μ-loop
 returns c =
     let at-loop = c .before in
     let a = at-loop .before .before .before .args in
-    bytes-end (giveEntry (now (a .layout))) (a .message) (a .count) (now (a .bits)) (at-loop .loop .j) (giving (at-loop .loop .at) (at-loop .loop .out)) _ (c .loop-test .left) (at-loop .loop .inv .2)
+    bytes-end (giveEntry (now (a .layout))) (a .message) (a .count) (now (a .bits)) (at-loop .loop .j) (giving (at-loop .loop .at) (at-loop .loop .out)) _ (c .loop-test .left) (at-loop .loop .inv .3)
 
 pub give-all-spec : {M : Type 1} → statement M
 give-all-spec =

@@ -25,14 +25,15 @@ give-field-requires : tie.Need-give-field-requires
 give-field-requires c κs =
     let known = c .before .before in
     let looked = known .before .before in
-    omega (arith, field-fits _ _ _ (sym (known .e .given .1) ∙ looked .entry-of .ensures))
+    let fits = field-fits _ _ _ (sym (known .e .given .1) ∙ looked .entry-of .ensures) in
+    (omega (arith, fits), omega (arith, fits), looked .before .before .before .before .pre .1)
 
 returns : tie.Need-returns
 unfolding giveEntry
 returns c =
     let looked = c .before .before in
     let a = looked .before .before .before .before .args in
-    set-is (giveEntry (now (a .layout))) _ _ (giving (a .at) (now (a .out))) (eq-eqb _ _ (looked .before .if1 .taken)) (sym (c .enum-told .given .1) ∙ looked .entry-of .ensures) refl
+    (set-is (giveEntry (now (a .layout))) _ _ (giving (a .at) (now (a .out))) (eq-eqb _ _ (looked .before .if1 .taken)) (sym (c .enum-told .given .1) ∙ looked .entry-of .ensures) refl, looked .before .before .before .before .pre .1)
 
 same-length : tie.Need-same-length
 same-length c = search needs
@@ -44,12 +45,12 @@ returns-2 c =
     let known = given .before .before .before in
     let looked = known .before .before in
     let a = looked .before .before .before .before .args in
-    set-is (giveEntry (now (a .layout))) _ _ (giving (a .at) (now (a .out))) (eq-eqb _ _ (looked .before .if1 .taken)) (sym (known .e .given .1) ∙ looked .entry-of .ensures) (given .give-field .ensures)
+    (set-is (giveEntry (now (a .layout))) _ _ (giving (a .at) (now (a .out))) (eq-eqb _ _ (looked .before .if1 .taken)) (sym (known .e .given .1) ∙ looked .entry-of .ensures) (given .give-field .ensures .0), given .give-field .ensures .1)
 
 returns-3 : tie.Need-returns-3
 returns-3 c =
     let a = c .before .before .before .args in
-    unset-is (giveEntry (now (a .layout))) _ _ (giving (a .at) (now (a .out))) (ne-eqb _ _ (c .if1 .left))
+    (unset-is (giveEntry (now (a .layout))) _ _ (giving (a .at) (now (a .out))) (ne-eqb _ _ (c .if1 .left)), c .before .before .before .pre .1)
 
 pub give-bit-spec : {M : Type 1} → statement M
 give-bit-spec =

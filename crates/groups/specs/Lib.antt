@@ -1,0 +1,6 @@
+pub mod Groups
+pub mod GroupLaws
+pub mod Values
+pub mod NotTwice
+pub mod ValueLaws
+pub mod FullList

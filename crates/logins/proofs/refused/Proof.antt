@@ -1,0 +1,16 @@
+-- `logins::refused` meets its contract: the record is what `blank_record` ensures. Assumes nothing.
+use Rattle.logins.specs.declared.Reading.{Reading}
+use Rattle.logins.specs.declared.Record.{Record}
+use mathlib.Core.Path.{ap}
+use borrow.Author.Needs.{needs}
+use Rattle.logins.proofs.refused.Statement.{statement}
+use Rattle.logins.proofs.refused.Tie as tie
+
+blank-record-requires : tie.Need-blank-record-requires
+blank-record-requires c κs = search needs
+
+returns : tie.Need-returns
+returns c = ap {B = Reading} (λ (s : Record). record { refusal = c .before .args .refusal; session = s }) (c .blank-record .ensures)
+
+pub refused-spec : {M : Type 1} → statement M
+refused-spec = tie.close (tie.spec blank-record-requires returns)

@@ -1,0 +1,4 @@
+pub mod Sessions
+pub mod SessionLaws
+pub mod SessionTrip
+pub mod SessionMeaning

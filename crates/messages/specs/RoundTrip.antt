@@ -1,0 +1,301 @@
+-- Demand 2 for every type of both directions: what is accepted is written again as the same bytes; a record that the writer takes, written and
+-- read with any bytes after it, is the same record. Assumes nothing.
+use mathlib.Core.Path.{_≡_, refl, sym, ap, ap₂, _∙_, subst}
+use mathlib.Core.Bool.{Bool, true, false, cond}
+use mathlib.Core.List.{List, [], _∷_, _++_, append-nil, append-assoc}
+use Prim.Native.Nat.{ℕ, suc, _+_, _-_, _≤_, _<_}
+use native.Mathlib.Nat.{zero-add}
+use native.Mathlib.Omega.{arith}
+use lib.Dec.{eqb, ltb}
+use lib.ListN.{length, getD, take, drop, length-append, length-drop}
+use lib.Seq.{take-at, take-add, length-take-le}
+use borrow.Author.Tests.{eq-eqb, eqb-true, eqb-false, le-ltb, ltb-false}
+use Rattle.numbers.specs.Numbers.{numberAt, bytesOf, patched}
+use Rattle.numbers.specs.NumberLaws.{number-after, number-back, number-fits, patched-length}
+use Rattle.wire.specs.Header.{typeOf, unitOf, numberOf, totalOf}
+use Rattle.wire.specs.HeaderLaws.{Bytes, bytes-front}
+use Rattle.wire.specs.Frame.{frameRefusal, framed}
+use Rattle.wire.specs.FrameLaws.{Whole, whole, framed-is, framed-length, framed-accepted, framed-again, passed}
+use Rattle.fields.specs.Slots.{zeros}
+use Rattle.fields.specs.SlotLaws.{length-zeros}
+use Rattle.orders.specs.Orders as orders
+use Rattle.orders.specs.RoundTrip as orderTrip
+use Rattle.orders.specs.declared.Record as orderRecords
+use Rattle.records.specs.Records.{recordBytes, recordAt}
+use Rattle.records.specs.RecordTrip.{record-length, record-again, at-sound, bytes-again, head-again, joined}
+use Rattle.logins.specs.Sessions as sessions
+use Rattle.logins.specs.SessionTrip as sessionTrip
+use Rattle.logins.specs.declared.Record as sessionRecords
+use Rattle.messages.specs.Messages.{isSession, carries, sessionRecordBytes, sessionAt, ownRefusal, recordOf, readRefusal, readCall, readRecord, ownWrite, messageOf, writeCall, writeOut, heldIn}
+use Rattle.messages.specs.MessageLaws.{own-refusal, own-write}
+
+-- bytes put at the front, and what stood after them
+front : (xs bs : List ℕ) → patched xs 0 bs ≡ bs ++ drop (length bs) xs
+unfolding patched
+front xs bs = ap (λ (n : ℕ). bs ++ drop n xs) (zero-add (length bs))
+
+-- ---- a session message's record as bytes
+
+same : {m u n n′ : ℕ} {b b′ : List ℕ} → n ≡ n′ → b ≡ b′
+    → _≡_ {A = sessionRecords.Record} (record { message = m; unit = u; number = n; body = b }) (record { message = m; unit = u; number = n′; body = b′ })
+same {m} {u} p q = ap₂ (λ (x : ℕ) (y : List ℕ). record { message = m; unit = u; number = x; body = y }) p q
+
+pub session-again : (r : sessionRecords.Record) → length (r .body) ≡ 433 → r .number < 4294967296 → (t : List ℕ) → sessionAt (sessionRecordBytes r ++ t) ≡ r
+unfolding sessionAt sessionRecordBytes
+session-again r l h t =
+    let e : sessionRecordBytes r ++ t ≡ (r .message ∷ r .unit ∷ bytesOf 4 (r .number)) ++ (r .body ++ t) = append-assoc (r .message ∷ r .unit ∷ bytesOf 4 (r .number)) (r .body) t in
+    ap sessionAt e
+    ∙ same
+    (number-after 4 0 (r .message ∷ r .unit ∷ []) (bytesOf 4 (r .number) ++ (r .body ++ t)) ∙ number-back 4 (r .number) (r .body ++ t) h)
+    (take-at (r .body) t 433 l)
+
+session-bytes-again : (s : List ℕ) → Bytes s → 439 ≤ length s → sessionRecordBytes (sessionAt s) ≡ take 439 s
+unfolding sessionAt sessionRecordBytes
+session-bytes-again s k h = ap (λ (x : List ℕ). x ++ take 433 (drop 6 s)) (head-again s k (omega arith)) ∙ joined 0 6 433 s
+
+-- ---- what is accepted
+
+pub record Accepted (direction : ℕ) (s : List ℕ) : Type 0 where
+  pub frames : frameRefusal s ≡ 0
+  pub carried : carries direction (typeOf (framed s)) ≡ true
+  pub owns : ownRefusal (framed s) ≡ 0
+
+pub accepted : (direction : ℕ) (s : List ℕ) → readRefusal direction s ≡ 0 → Accepted direction s
+unfolding readRefusal
+accepted direction s z = by (eqb (frameRefusal s) 0) refl (carries direction (typeOf (framed s))) refl z
+  where
+    by : (b : Bool) → eqb (frameRefusal s) 0 ≡ b → (k : Bool) → carries direction (typeOf (framed s)) ≡ k
+        → cond b (cond k (ownRefusal (framed s)) 4) (frameRefusal s) ≡ 0 → Accepted direction s
+    by true p true q y = record { frames = eqb-true (frameRefusal s) 0 p; carried = q; owns = y }
+    by true p false q y = absurd (omega (arith, y))
+    by false p k q y = absurd (eqb-false (frameRefusal s) 0 p y)
+
+-- a call that answers 0 has room, and its message is accepted
+pub record Taken (direction : ℕ) (s : List ℕ) (room : ℕ) : Type 0 where
+  pub read : readRefusal direction s ≡ 0
+  pub roomy : 439 ≤ room
+
+pub taken : (direction : ℕ) (s : List ℕ) (room : ℕ) → readCall direction s room ≡ 0 → Taken direction s room
+unfolding readCall
+taken direction s room z = by (eqb (readRefusal direction s) 0) refl (ltb room 439) refl z
+  where
+    by : (b : Bool) → eqb (readRefusal direction s) 0 ≡ b → (k : Bool) → ltb room 439 ≡ k → cond b (cond k 13 0) (readRefusal direction s) ≡ 0 → Taken direction s room
+    by true p false q y = record { read = eqb-true (readRefusal direction s) 0 p; roomy = ltb-false room 439 q }
+    by true p true q y = absurd (omega (arith, y))
+    by false p k q y = absurd (eqb-false (readRefusal direction s) 0 p y)
+
+-- ---- the record of an accepted message m, with any bytes after it, is taken and is written as m
+
+module _ (m : List ℕ) (bytes : Bytes m) (w : Whole m) (exact : length m ≡ totalOf m) where
+  -- the record's bytes of a session message, and of an order
+  module _ (z : sessions.readRefusal m ≡ 0) where
+    body-whole : length (sessions.bodyOf m) ≡ 433
+    unfolding sessions.bodyOf
+    body-whole = let n = sessionTrip.body-small m z in length-append (drop 10 m) (zeros (433 - length (drop 10 m))) ∙ omega (arith, n, length-zeros (433 - length (drop 10 m)))
+
+    pub session-held : (t : List ℕ) → sessionAt (sessionRecordBytes (sessions.recordOf m) ++ t) ≡ sessions.recordOf m
+    unfolding numberOf
+    session-held t = session-again (sessions.recordOf m) body-whole (number-fits 4 6 m bytes) t
+
+  pub order-held : orders.readRefusal m ≡ 0 → (t : List ℕ) → recordAt (recordBytes (orders.recordOf m) ++ t) ≡ orders.recordOf m
+  order-held z t = record-again (orders.recordOf m) (orderTrip.read-sound m bytes z) t
+
+  -- a record is at most 439 bytes
+  pub recorded-at-most : ownRefusal m ≡ 0 → length (recordOf m) ≤ 439
+  unfolding ownRefusal recordOf sessionRecordBytes
+  recorded-at-most z = by (isSession (typeOf m)) z
+    where
+      by : (b : Bool) → cond b (sessions.readRefusal m) (orders.readRefusal m) ≡ 0 → length (cond b (sessionRecordBytes (sessions.recordOf m)) (recordBytes (orders.recordOf m))) ≤ 439
+      by true y = let n = body-whole y in omega (arith, n)
+      by false y = let n = record-length (orders.recordOf m) (orderTrip.read-sound m bytes y) in omega (arith, n)
+
+  module _ (z : ownRefusal m ≡ 0) (t : List ℕ) where
+    type-first : getD (recordOf m ++ t) 0 0 ≡ typeOf m
+    unfolding recordOf sessionRecordBytes recordBytes orders.recordOf
+    type-first = by (isSession (typeOf m))
+      where
+        by : (b : Bool) → getD (cond b (sessionRecordBytes (sessions.recordOf m)) (recordBytes (orders.recordOf m)) ++ t) 0 0 ≡ typeOf m
+        by true = refl
+        by false = refl
+
+    own-taken : (room : ℕ) → length m ≤ room → ownWrite (recordOf m ++ t) room ≡ 0
+    unfolding ownWrite recordOf ownRefusal
+    own-taken room h =
+        ap (λ (x : ℕ). cond (isSession x) (sessions.recordRefusal (sessionAt (recordOf m ++ t)) room) (orders.writeRefusal (recordAt (recordOf m ++ t)) room)) type-first
+        ∙ by (isSession (typeOf m)) refl z
+      where
+        by : (b : Bool) → isSession (typeOf m) ≡ b → cond b (sessions.readRefusal m) (orders.readRefusal m) ≡ 0
+            → cond b (sessions.recordRefusal (sessionAt (cond b (sessionRecordBytes (sessions.recordOf m)) (recordBytes (orders.recordOf m)) ++ t)) room)
+            (orders.writeRefusal (recordAt (cond b (sessionRecordBytes (sessions.recordOf m)) (recordBytes (orders.recordOf m)) ++ t)) room) ≡ 0
+        by true q y = ap (λ (r : sessionRecords.Record). sessions.recordRefusal r room) (session-held y t) ∙ sessionTrip.taken-again m y room h
+        by false q y = ap (λ (r : orderRecords.Record). orders.writeRefusal r room) (order-held y t) ∙ orderTrip.taken-again m bytes w exact y room h
+
+    own-written : messageOf (recordOf m ++ t) ≡ m
+    unfolding messageOf recordOf ownRefusal
+    own-written =
+        ap (λ (x : ℕ). cond (isSession x) (sessions.sessionBytes (sessionAt (recordOf m ++ t))) (orders.orderBytes (recordAt (recordOf m ++ t)))) type-first
+        ∙ by (isSession (typeOf m)) refl z
+      where
+        by : (b : Bool) → isSession (typeOf m) ≡ b → cond b (sessions.readRefusal m) (orders.readRefusal m) ≡ 0
+            → cond b (sessions.sessionBytes (sessionAt (cond b (sessionRecordBytes (sessions.recordOf m)) (recordBytes (orders.recordOf m)) ++ t)))
+            (orders.orderBytes (recordAt (cond b (sessionRecordBytes (sessions.recordOf m)) (recordBytes (orders.recordOf m)) ++ t))) ≡ m
+        by true q y = ap (λ (r : sessionRecords.Record). sessions.sessionBytes r) (session-held y t) ∙ sessionTrip.written-again m bytes w exact y
+        by false q y = ap (λ (r : orderRecords.Record). orders.orderBytes r) (order-held y t) ∙ orderTrip.written-again m bytes w exact y
+
+-- ---- WRITTEN AGAIN
+
+module _ (direction : ℕ) (s buffer : List ℕ) (bytes : Bytes s) (z : readCall direction s (length buffer) ≡ 0) where
+  message : List ℕ
+  message = framed s
+
+  it : Accepted direction s
+  it = accepted direction s (taken direction s (length buffer) z .read)
+
+  alone : frameRefusal (framed s) ≡ 0
+  alone = ap frameRefusal (sym (append-nil (framed s))) ∙ framed-accepted s [] (it .frames)
+
+  exact : length (framed s) ≡ totalOf (framed s)
+  exact = ap length (sym (ap framed (sym (append-nil (framed s))) ∙ framed-again s [] (it .frames))) ∙ framed-length (framed s) alone
+
+  part-bytes : Bytes (framed s)
+  part-bytes = subst Bytes (sym (framed-is s (it .frames))) (bytes-front (totalOf s) s bytes)
+
+  -- what the record's buffer holds: the record, and after it what stood there
+  pub record-stored : readRecord direction s buffer ≡ recordOf (framed s) ++ drop (length (recordOf (framed s))) buffer
+  unfolding readRecord
+  record-stored = rw (eq-eqb (readCall direction s (length buffer)) 0 z) (front buffer (recordOf (framed s)))
+
+  record-size : length (recordOf (framed s)) ≤ 439
+  record-size = recorded-at-most (framed s) part-bytes (whole (framed s) alone) exact (it .owns)
+
+  long : 439 ≤ length (readRecord direction s buffer)
+  unfolding readRecord
+  long =
+      let r : 439 ≤ length buffer = taken direction s (length buffer) z .roomy in
+      let n : length (patched buffer 0 (recordOf (framed s))) ≡ length buffer = patched-length buffer 0 (recordOf (framed s)) (omega (arith, record-size, r)) in
+      rw (eq-eqb (readCall direction s (length buffer)) 0 z) (omega (arith, n, r))
+
+  type-kept : getD (readRecord direction s buffer) 0 0 ≡ typeOf (framed s)
+  type-kept =
+      ap (λ (l : List ℕ). getD l 0 0) record-stored
+      ∙ type-first (framed s) part-bytes (whole (framed s) alone) exact (it .owns) (drop (length (recordOf (framed s))) buffer)
+
+  -- the writer takes the record, if it has room for the message
+  pub taken-again : (room : ℕ) → length (framed s) ≤ room → writeCall direction (readRecord direction s buffer) room ≡ 0
+  taken-again room h =
+      own-write direction (readRecord direction s buffer) [] long (ap (carries direction) type-kept ∙ it .carried) room
+      ∙ ap (λ (l : List ℕ). ownWrite l room) record-stored
+      ∙ own-taken (framed s) part-bytes (whole (framed s) alone) exact (it .owns) (drop (length (recordOf (framed s))) buffer) room h
+
+  -- WRITTEN AGAIN: into any buffer that has room, it writes the bytes that were read, and leaves the rest of the buffer as it was
+  pub written-again : (out : List ℕ) → length (framed s) ≤ length out → writeOut direction (readRecord direction s buffer) out ≡ patched out 0 (framed s)
+  unfolding writeOut
+  written-again out h =
+      rw (eq-eqb (writeCall direction (readRecord direction s buffer) (length out)) 0 (taken-again (length out) h))
+      (ap (patched out 0)
+      (ap messageOf record-stored ∙ own-written (framed s) part-bytes (whole (framed s) alone) exact (it .owns) (drop (length (recordOf (framed s))) buffer)))
+
+-- ---- a record that the writer takes
+
+pub record Given (direction : ℕ) (s : List ℕ) (room : ℕ) : Type 0 where
+  pub long : 439 ≤ length s
+  pub carried : carries direction (getD s 0 0) ≡ true
+  pub owns : ownWrite s room ≡ 0
+
+pub given : (direction : ℕ) (s : List ℕ) (room : ℕ) → writeCall direction s room ≡ 0 → Given direction s room
+unfolding writeCall
+given direction s room z = by (ltb (length s) 439) refl (carries direction (getD s 0 0)) refl z
+  where
+    by : (b : Bool) → ltb (length s) 439 ≡ b → (k : Bool) → carries direction (getD s 0 0) ≡ k → cond b 13 (cond k (ownWrite s room) 4) ≡ 0 → Given direction s room
+    by false p true q y = record { long = ltb-false (length s) 439 p; carried = q; owns = y }
+    by false p false q y = absurd (omega (arith, y))
+    by true p k q y = absurd (omega (arith, y))
+
+-- what its message is, with any bytes after it
+pub record Message (s t : List ℕ) : Type 0 where
+  pub frames : frameRefusal (messageOf s ++ t) ≡ 0
+  pub framed-is-it : framed (messageOf s ++ t) ≡ messageOf s
+  pub type-is : typeOf (messageOf s) ≡ getD s 0 0
+  pub reads : ownRefusal (messageOf s) ≡ 0
+  pub record-is : recordOf (messageOf s) ≡ heldIn s
+
+module _ (s : List ℕ) (bytes : Bytes s) (room : ℕ) (h : 439 ≤ length s) (t : List ℕ) where
+  session-sound : sessionTrip.Sound (sessionAt s)
+  unfolding sessionAt
+  session-sound = record { body-length = let d : length (drop 6 s) ≡ length s - 6 = length-drop 6 s in length-take-le 433 (drop 6 s) (omega arith) }
+
+  session-message : isSession (getD s 0 0) ≡ true → sessions.recordRefusal (sessionAt s) room ≡ 0 → Message s t
+  unfolding messageOf ownRefusal recordOf heldIn sessionAt
+  session-message b z =
+      let r = sessionAt s in
+      let again = sessionTrip.read-again r room session-sound z in
+      let m = sessions.sessionBytes r in
+      let e : messageOf s ≡ m = rw b in
+      let type : typeOf m ≡ getD s 0 0 = ap (λ (x : sessionRecords.Record). x .message) again in
+      let kind : isSession (typeOf m) ≡ true = ap isSession type ∙ b in
+      record {
+        frames = ap (λ (x : List ℕ). frameRefusal (x ++ t)) e ∙ sessionTrip.framed-after r room session-sound z t;
+        framed-is-it = ap (λ (x : List ℕ). framed (x ++ t)) e ∙ sessionTrip.framed-as-written r room session-sound z t ∙ sym e;
+        type-is = ap typeOf e ∙ type;
+        reads = ap ownRefusal e ∙ rw kind (sessionTrip.read-accepts r room session-sound z);
+        record-is = ap recordOf e ∙ rw b (ap sessionRecordBytes again ∙ session-bytes-again s bytes h);
+      }
+
+  order-message : isSession (getD s 0 0) ≡ false → orders.writeRefusal (recordAt s) room ≡ 0 → Message s t
+  unfolding messageOf ownRefusal recordOf heldIn orders.recordOf recordAt
+  order-message b z =
+      let r = recordAt s in
+      let sound = at-sound s bytes (omega (arith, h)) in
+      let again = orderTrip.read-again r room sound z in
+      let m = orders.orderBytes r in
+      let e : messageOf s ≡ m = rw b in
+      let type : typeOf m ≡ getD s 0 0 = ap (λ (x : orderRecords.Record). x .message) again in
+      let kind : isSession (typeOf m) ≡ false = ap isSession type ∙ b in
+      record {
+        frames = ap (λ (x : List ℕ). frameRefusal (x ++ t)) e ∙ orderTrip.framed-after r room sound z t;
+        framed-is-it = ap (λ (x : List ℕ). framed (x ++ t)) e ∙ orderTrip.framed-as-written r room sound z t ∙ sym e;
+        type-is = ap typeOf e ∙ type;
+        reads = ap ownRefusal e ∙ rw kind (orderTrip.read-accepts r room sound z);
+        record-is = ap recordOf e ∙ rw (kind, b) (ap recordBytes again ∙ bytes-again s bytes (omega (arith, h)));
+      }
+
+  its-message : ownWrite s room ≡ 0 → Message s t
+  unfolding ownWrite
+  its-message z = by (isSession (getD s 0 0)) refl z
+    where
+      by : (b : Bool) → isSession (getD s 0 0) ≡ b → cond b (sessions.recordRefusal (sessionAt s) room) (orders.writeRefusal (recordAt s) room) ≡ 0 → Message s t
+      by true q y = session-message q y
+      by false q y = order-message q y
+
+-- ---- READ AGAIN
+
+module _ (direction : ℕ) (s out : List ℕ) (bytes : Bytes s) (z : writeCall direction s (length out) ≡ 0) where
+  -- any bytes after it play no part: the message is accepted, and its record is the one that was written
+  pub accepted-after : (t : List ℕ) → readRefusal direction (messageOf s ++ t) ≡ 0
+  accepted-after t =
+      let g = given direction s (length out) z in
+      let m = its-message s bytes (length out) (g .long) t (g .owns) in
+      own-refusal direction (messageOf s ++ t) [] (m .frames) (ap (λ (x : List ℕ). carries direction (typeOf x)) (m .framed-is-it) ∙ ap (carries direction) (m .type-is) ∙ g .carried)
+      ∙ ap ownRefusal (m .framed-is-it)
+      ∙ m .reads
+
+  pub read-after : (t buffer : List ℕ) → 439 ≤ length buffer → (readCall direction (messageOf s ++ t) (length buffer) ≡ 0) × (readRecord direction (messageOf s ++ t) buffer ≡ patched buffer 0 (heldIn s))
+  unfolding readRecord readCall
+  read-after t buffer h =
+      let g = given direction s (length out) z in
+      let m = its-message s bytes (length out) (g .long) t (g .owns) in
+      let q : readCall direction (messageOf s ++ t) (length buffer) ≡ 0 = rw (eq-eqb (readRefusal direction (messageOf s ++ t)) 0 (accepted-after t), le-ltb (length buffer) 439 h) in
+      (q, rw (eq-eqb (readCall direction (messageOf s ++ t) (length buffer)) 0 q) (ap (λ (x : List ℕ). patched buffer 0 (recordOf x)) (m .framed-is-it) ∙ ap (patched buffer 0) (m .record-is)))
+
+  -- what the output buffer holds: the message, and after it what stood there
+  pub message-stored : writeOut direction s out ≡ messageOf s ++ drop (length (messageOf s)) out
+  unfolding writeOut
+  message-stored = rw (eq-eqb (writeCall direction s (length out)) 0 z) (front out (messageOf s))
+
+  -- READ AGAIN: the output buffer, whatever it held, is read as the record
+  pub read-again : (buffer : List ℕ) → 439 ≤ length buffer → (readCall direction (writeOut direction s out) (length buffer) ≡ 0) × (readRecord direction (writeOut direction s out) buffer ≡ patched buffer 0 (heldIn s))
+  read-again buffer h =
+      let r = read-after (drop (length (messageOf s)) out) buffer h in (
+        ap (λ (x : List ℕ). readCall direction x (length buffer)) message-stored ∙ r .0,
+        ap (λ (x : List ℕ). readRecord direction x buffer) message-stored ∙ r .1,
+      )

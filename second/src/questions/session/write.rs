@@ -1,0 +1,431 @@
+//! Questions about writing the records of session messages.
+
+use super::damage;
+use super::faults;
+use super::read;
+use super::sample::{Group, Sample, BARE, LISTED, LOGIN, LOGOUT, RESPONSE};
+use crate::questions::damage::pattern;
+use crate::questions::sample::{bad_bytes, textual};
+use crate::questions::write::line;
+use crate::random::Random;
+use crate::rules;
+use crate::rules::layout::HEADER;
+use crate::rules::session;
+use std::collections::BTreeSet;
+
+const RECORD: usize = 439;
+const BODY_PLACE: usize = 6;
+
+pub fn ask(lines: &mut Vec<String>) {
+    let mut random = Random::new(9);
+    records_of_messages(lines, &mut random);
+    for which in 0..session::ALL.len() {
+        rooms(lines, &mut random, which);
+        sizes(lines, &mut random, which);
+        headers(lines, &mut random, which);
+        unused(lines, &mut random, which);
+        orders(lines, &mut random, which);
+    }
+    for which in LISTED {
+        faulty_lists(lines, &mut random, which);
+        bad_texts(lines, &mut random, which);
+    }
+    for which in [LOGIN, RESPONSE] {
+        full_records(lines, &mut random, which);
+    }
+    random_records(lines, &mut random);
+}
+
+fn add(lines: &mut Vec<String>, random: &mut Random, sample: &Sample) {
+    add_record(lines, random, sample, &sample.record());
+}
+
+/// A record made from a sample's, with the buffer that the sample's message takes; in one of three
+/// questions it is empty, so that 13 does not come too early.
+fn add_record(lines: &mut Vec<String>, random: &mut Random, sample: &Sample, record: &[u8]) {
+    let room = match random.below(3) {
+        0 => 0,
+        _ => sample.bytes().len(),
+    };
+    let buffer = pattern(random, room);
+    lines.push(line(sample.session.direction, record, &buffer));
+}
+
+/// The records of all messages that the questions about reading hold, each once. The buffers are
+/// just long enough, or longer.
+fn records_of_messages(lines: &mut Vec<String>, random: &mut Random) {
+    let mut seen = BTreeSet::new();
+    for (direction, bytes) in read::messages() {
+        if let Ok(mut record) = rules::read::message(direction, &bytes) {
+            record.resize(RECORD, 0);
+            if seen.insert(record.clone()) {
+                let total = usize::from(u16::from_le_bytes([bytes[2], bytes[3]])) + 2;
+                let more = match random.below(4) {
+                    0 => random.between(1, 9),
+                    _ => 0,
+                };
+                let buffer = pattern(random, total + more);
+                lines.push(line(direction, &record, &buffer));
+            }
+        }
+    }
+}
+
+/// Buffers about the size of the message, their bytes all different from what is written there.
+fn rooms(lines: &mut Vec<String>, random: &mut Random, which: usize) {
+    let sample = Sample::whole(random, which);
+    let message = sample.bytes();
+    let total = message.len();
+    let rooms = BTreeSet::from([
+        0,
+        1,
+        4,
+        9,
+        10,
+        total - 2,
+        total - 1,
+        total,
+        total + 1,
+        total + 20,
+    ]);
+    for room in rooms {
+        let mut buffer = random.bytes(room);
+        for (place, byte) in buffer.iter_mut().enumerate() {
+            if message.get(place) == Some(byte) {
+                *byte ^= 0xFF;
+            }
+        }
+        lines.push(line(sample.session.direction, &sample.record(), &buffer));
+    }
+}
+
+/// Records cut, and records with bytes after them; a record too short comes before all else.
+fn sizes(lines: &mut Vec<String>, random: &mut Random, which: usize) {
+    let sample = Sample::any(random, which);
+    let own = sample.session.direction;
+    let total = sample.bytes().len();
+    let mut longer = sample.record();
+    longer.extend(random.bytes(61));
+    for size in [0, 1, 6, 7, 234, 235, 236, 437, 438, 439, 440, 500] {
+        let buffer = pattern(random, total);
+        lines.push(line(own, &longer[..size], &buffer));
+    }
+    for size in [0, RECORD - 1, RECORD, RECORD + 1] {
+        lines.push(line(own, &longer[..size], &[]));
+        let direction = random.pick(&[1 - own, 2]);
+        lines.push(line(direction, &longer[..size], &[1, 2, 3]));
+    }
+    // Too short, with other faults.
+    let mut record = sample.record();
+    record[1] = 200;
+    record[BODY_PLACE] = b'@';
+    lines.push(line(own, &record[..RECORD - 1], &[1, 2, 3]));
+}
+
+/// Units and numbers, which are all 0; directions; and other types over the same record.
+fn headers(lines: &mut Vec<String>, random: &mut Random, which: usize) {
+    let least = Sample::least(random, which);
+    let own = least.session.direction;
+    for (unit, number) in [
+        (0, 0),
+        (1, 0),
+        (32, 0),
+        (255, 0),
+        (0, 1),
+        (0, 256),
+        (0, 65_536),
+        (0, 16_777_216),
+        (0, 0x8000_0000),
+        (1, 0xFFFF_FFFF),
+    ] {
+        let mut sample = least.clone();
+        (sample.unit, sample.number) = (unit, number);
+        add(lines, random, &sample);
+    }
+    for direction in [1 - own, 2, 3, 128, 255] {
+        let room = random.between(0, 40);
+        let buffer = pattern(random, room);
+        lines.push(line(direction, &least.record(), &buffer));
+    }
+    for type_byte in [
+        0x00, 0x02, 0x03, 0x08, 0x09, 0x13, 0x24, 0x25, 0x37, 0x38, 0x39, 0xFF,
+    ] {
+        let mut record = least.record();
+        record[0] = type_byte;
+        let buffer = pattern(random, 90);
+        lines.push(line(own, &record, &buffer));
+    }
+}
+
+/// One byte that is not zero after the last list: right after it, last of all, and between.
+fn unused(lines: &mut Vec<String>, random: &mut Random, which: usize) {
+    for sample in [
+        Sample::least(random, which),
+        Sample::whole(random, which),
+        Sample::any(random, which),
+    ] {
+        let end = BODY_PLACE + sample.body().len();
+        let between: Vec<usize> = (0..4).map(|_| random.between(end, RECORD - 1)).collect();
+        for place in [end, end + 1, 234, 235, RECORD - 1]
+            .into_iter()
+            .chain(between)
+            .filter(|place| (end..RECORD).contains(place))
+        {
+            let mut record = sample.record();
+            record[place] = random.pick(&[1, b'A', 0x7F, 0x80, 255]);
+            add_record(lines, random, &sample, &record);
+        }
+    }
+}
+
+/// One rule of the lists broken at a time, and bytes left after them.
+fn faulty_lists(lines: &mut Vec<String>, random: &mut Random, which: usize) {
+    for sample in faults::broken(random, which) {
+        add(lines, random, &sample);
+    }
+    for sample in faults::left(random, which) {
+        add(lines, random, &sample);
+    }
+    // Bytes that a message would miss are zero in a record.
+    for missing in 1..=12 {
+        let sample = Sample::whole(random, which);
+        let mut record = sample.record();
+        let end = BODY_PLACE + sample.body().len();
+        record[end - missing..end].fill(0);
+        add_record(lines, random, &sample, &record);
+    }
+}
+
+/// In each text field: bad bytes first and last, and a character after a NUL.
+fn bad_texts(lines: &mut Vec<String>, random: &mut Random, which: usize) {
+    let whole = Sample::whole(random, which);
+    for (index, field) in whole.session.fields.iter().enumerate() {
+        if !textual(field.kind) {
+            continue;
+        }
+        let last = field.width - 1;
+        for _ in 0..3 {
+            for place in BTreeSet::from([0, last]) {
+                let mut sample = whole.clone();
+                sample.fields[index][place] = random.pick(bad_bytes(field.kind));
+                add(lines, random, &sample);
+            }
+        }
+        for byte in [0, b'!'] {
+            let mut sample = whole.clone();
+            sample.fields[index][0] = byte;
+            add(lines, random, &sample);
+        }
+    }
+}
+
+/// Records whose lists take all the places that there are, or want more.
+fn full_records(lines: &mut Vec<String>, random: &mut Random, which: usize) {
+    let largest = Sample::largest(random, which);
+    add(lines, random, &largest);
+    for count in [0, 1, 2, 4, 255] {
+        let mut sample = largest.clone();
+        sample.group_count = count;
+        add(lines, random, &sample);
+    }
+    for extra in [
+        Group::units(0, &[]),
+        Group::bitfields(0x25, &[]),
+        Group::bitfields(0x2C, &[255; 15]),
+    ] {
+        for place in 0..=3 {
+            let mut sample = largest.clone();
+            let mut groups = sample.groups.clone();
+            groups.insert(place, extra.clone());
+            sample.set_groups(groups);
+            add(lines, random, &sample);
+        }
+    }
+    // A last group that says it is longer than the places that are left.
+    for (length, count) in [(21, 16), (255, 15), (261, 255), (65_535, 15)] {
+        let mut sample = largest.clone();
+        sample.groups[2].length = length;
+        sample.groups[2].count = count;
+        add(lines, random, &sample);
+    }
+    // Groups one after the other up to the last place.
+    let mut sample = Sample::least(random, which);
+    let groups = vec![Group::bitfields(0x25, &[]); 86];
+    sample.set_groups(groups);
+    add(lines, random, &sample);
+    sample.group_count = 255;
+    add(lines, random, &sample);
+}
+
+/// The numbers that a record can be refused with, in the order of writing.
+const ORDER: [u8; 6] = [4, 5, 10, 11, 12, 13];
+
+/// A record and a buffer with a fault for each bit of `faults`, the lowest being the first in the
+/// order.
+fn faulty(random: &mut Random, which: usize, faults: u8) -> (u8, Vec<u8>, Vec<u8>) {
+    let has = |number: u8| (0..6).any(|bit| faults >> bit & 1 != 0 && ORDER[bit] == number);
+    let mut sample = Sample::whole(random, which);
+    let mut room = sample.bytes().len();
+    if has(11) {
+        let mut broken = faults::broken(random, which);
+        sample = broken.swap_remove(random.between(0, broken.len() - 1));
+        room = sample.bytes().len();
+    }
+    let mut direction = sample.session.direction;
+    if has(4) {
+        direction = random.pick(&[1 - direction, 2]);
+    }
+    if has(5) {
+        match random.below(3) {
+            0 => sample.unit = 1,
+            1 => sample.number = 1 << random.below(32),
+            _ => (sample.unit, sample.number) = (32, 7),
+        }
+    }
+    if has(10) {
+        // The first field is a text in each of them.
+        sample.fields[0][0] = random.pick(b" @/:[`{\x7F");
+    }
+    let mut record = sample.record();
+    if has(12) {
+        record[random.between(BODY_PLACE, RECORD - 1)] = 1 << random.below(8);
+    }
+    if has(13) {
+        room = match random.below(2) {
+            0 => random.between(0, HEADER - 1),
+            _ => room - 1,
+        };
+    }
+    (direction, record, pattern(random, room))
+}
+
+/// Whether a record can have these faults: one whose message has lists has no 12, the others have
+/// neither 10 nor 11.
+fn possible(which: usize, faults: u8) -> bool {
+    match LISTED.contains(&which) {
+        true => faults & 1 << 4 == 0,
+        false => faults & (1 << 2 | 1 << 3) == 0,
+    }
+}
+
+/// Every set of faults, so that the order shows; then a record too short with all of them.
+fn orders(lines: &mut Vec<String>, random: &mut Random, which: usize) {
+    for faults in (0..64).filter(|faults| possible(which, *faults)) {
+        let (direction, record, buffer) = faulty(random, which, faults);
+        lines.push(line(direction, &record, &buffer));
+    }
+    let all = if BARE.contains(&which) { 51 } else { 47 };
+    for faults in [all, all - 1] {
+        let (direction, record, buffer) = faulty(random, which, faults);
+        lines.push(line(direction, &record[..RECORD - 1], &buffer));
+    }
+}
+
+fn random_records(lines: &mut Vec<String>, random: &mut Random) {
+    for (which, count) in [(LOGIN, 90), (RESPONSE, 90), (LOGOUT, 60)]
+        .into_iter()
+        .chain(BARE.map(|which| (which, 12)))
+    {
+        for _ in 0..count {
+            let sample = Sample::any(random, which);
+            let (direction, record, buffer) = damage::record(random, &sample);
+            lines.push(line(direction, &record, &buffer));
+        }
+    }
+}
+
+#[cfg(test)]
+mod tests {
+    use super::*;
+    use crate::ask;
+    use crate::hex;
+    use std::collections::BTreeMap;
+
+    fn lines() -> Vec<String> {
+        let mut lines = Vec::new();
+        ask(&mut lines);
+        lines
+    }
+
+    /// What each record's type gets, and that what is written reads as the record again.
+    #[test]
+    fn each_type_gets_each_answer() {
+        let mut seen: BTreeMap<(u8, String), usize> = BTreeMap::new();
+        for line in lines() {
+            let answer = ask::answer(line.as_bytes());
+            let words: Vec<&str> = line.split(' ').collect();
+            let direction: u8 = words[1].parse().unwrap();
+            let record = hex::read(words[2]).unwrap();
+            let buffer = hex::read(words[3]).unwrap();
+            let (number, after) = answer.split_once(' ').unwrap();
+            let after = hex::read(after).unwrap();
+            if number == "0" {
+                let again = rules::read::message(direction, &after).unwrap();
+                assert_eq!(again, record[..again.len()]);
+                let total = usize::from(u16::from_le_bytes([after[2], after[3]])) + 2;
+                assert_eq!(after[total..], buffer[total..]);
+                assert_eq!(after.len(), buffer.len());
+            } else {
+                assert_eq!(after, buffer);
+            }
+            if !record.is_empty() {
+                *seen.entry((record[0], number.to_string())).or_default() += 1;
+            }
+        }
+        for session in &session::ALL {
+            let expected: &[u8] = match session.lists.is_empty() {
+                true => &[0, 4, 5, 12, 13],
+                false => &[0, 4, 5, 10, 11, 13],
+            };
+            for number in 0..=13 {
+                let key = (session.type_byte, number.to_string());
+                let count = seen.get(&key).copied().unwrap_or(0);
+                match expected.contains(&number) {
+                    true => assert!(count >= 5, "{:?}", key),
+                    false => assert_eq!(count, 0, "{:?}", key),
+                }
+            }
+        }
+    }
+
+    /// The first fault in the order is the one that is told, and the buffer stays.
+    #[test]
+    fn order_of_writing() {
+        let mut random = Random::new(180);
+        for which in 0..6 {
+            for faults in (0..64).filter(|faults| possible(which, *faults)) {
+                let (direction, record, before) = faulty(&mut random, which, faults);
+                let mut buffer = before.clone();
+                let expected = match faults {
+                    0 => 0,
+                    _ => ORDER[faults.trailing_zeros() as usize],
+                };
+                let answer = match rules::write::record(direction, &record, &mut buffer) {
+                    Ok(()) => 0,
+                    Err(refusal) => refusal.number(),
+                };
+                assert_eq!(answer, expected, "{} {:06b}", which, faults);
+                assert_eq!(buffer == before, faults != 0);
+                let short = &record[..RECORD - 1];
+                let answer = rules::write::record(direction, short, &mut buffer);
+                assert_eq!(answer, Err(rules::Refusal::Room));
+            }
+        }
+    }
+
+    /// Each valid message that is read is also written.
+    #[test]
+    fn every_valid_message() {
+        let lines = lines();
+        let written: BTreeSet<&str> = lines
+            .iter()
+            .filter_map(|line| line.split(' ').nth(2))
+            .collect();
+        for (direction, bytes) in read::messages() {
+            if let Ok(mut record) = rules::read::message(direction, &bytes) {
+                record.resize(RECORD, 0);
+                assert!(written.contains(hex::write(&record).as_str()));
+            }
+        }
+    }
+}

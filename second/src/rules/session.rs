@@ -1,0 +1,433 @@
+//! The session messages (document 01, "The bit dictionary" and "Numbers of refusal"). The fixed
+//! parts of Login Response and Logout are those of document 000.
+
+use super::frame::{self, START, UNCOUNTED};
+use super::groups::{self, Rest};
+use super::kinds::{self, Kind};
+use super::layout::{check, HEADER, MEMBER, VENUE};
+use super::number;
+use super::record::{BODY_PLACE, LENT};
+use super::Refusal;
+
+/// A field of the fixed part; it may be blank.
+#[derive(Debug)]
+pub struct Field {
+    pub name: &'static str,
+    pub width: usize,
+    pub kind: Kind,
+    /// A value that document 000 lists though it is not of the kind; empty if there is none.
+    pub also: &'static [u8],
+}
+
+/// What follows the fields, each beginning with its count byte.
+#[derive(Clone, Copy, Debug, PartialEq, Eq)]
+pub enum List {
+    Pairs,
+    Groups,
+}
+
+#[derive(Debug)]
+pub struct Session {
+    pub direction: u8,
+    pub type_byte: u8,
+    /// In the order of their places, from the end of the header on.
+    pub fields: &'static [Field],
+    /// The field that has the rule of a group's flag, and so gives 11.
+    pub flag: Option<&'static str>,
+    /// A message without lists is its header alone.
+    pub lists: &'static [List],
+}
+
+pub static ALL: [Session; 6] = [
+    Session {
+        direction: MEMBER,
+        type_byte: 0x37,
+        fields: &[
+            field("SessionSubID", 4, N),
+            field("Username", 4, N),
+            field("Password", 10, N),
+        ],
+        flag: None,
+        lists: &[List::Groups],
+    },
+    Session {
+        direction: VENUE,
+        type_byte: 0x24,
+        fields: &[
+            field("LoginResponseStatus", 1, N),
+            field("LoginResponseText", 60, T),
+            field("NoUnspecifiedUnitReplay", 1, B),
+            field("LastReceivedSequenceNumber", 4, B),
+        ],
+        flag: Some("NoUnspecifiedUnitReplay"),
+        lists: &[List::Pairs, List::Groups],
+    },
+    Session {
+        direction: VENUE,
+        type_byte: 0x08,
+        fields: &[
+            Field {
+                name: "LogoutReason",
+                width: 1,
+                kind: N,
+                also: b"!",
+            },
+            field("LogoutReasonText", 60, T),
+            field("LastReceivedSequenceNumber", 4, B),
+        ],
+        flag: None,
+        lists: &[List::Pairs],
+    },
+    header_alone(MEMBER, 0x03),
+    header_alone(VENUE, 0x09),
+    header_alone(VENUE, 0x13),
+];
+
+const N: Kind = Kind::LettersAndDigits;
+const T: Kind = Kind::Text;
+const B: Kind = Kind::Binary;
+
+const fn field(name: &'static str, width: usize, kind: Kind) -> Field {
+    Field {
+        name,
+        width,
+        kind,
+        also: b"",
+    }
+}
+
+/// The heartbeats and Replay Complete.
+const fn header_alone(direction: u8, type_byte: u8) -> Session {
+    Session {
+        direction,
+        type_byte,
+        fields: &[],
+        flag: None,
+        lists: &[],
+    }
+}
+
+impl Field {
+    pub fn takes(&self, value: &[u8]) -> bool {
+        kinds::agrees(self.kind, value) || value == self.also
+    }
+}
+
+impl Session {
+    /// None if the direction has no session message of the type.
+    pub fn of(direction: u8, type_byte: u8) -> Option<&'static Session> {
+        ALL.iter()
+            .find(|session| session.direction == direction && session.type_byte == type_byte)
+    }
+
+    pub fn fields_width(&self) -> usize {
+        self.fields.iter().map(|field| field.width).sum()
+    }
+
+    /// The record of a whole message of this type and direction.
+    pub fn read(&self, message: &[u8]) -> Result<Vec<u8>, Refusal> {
+        let header = frame::header(message);
+        check_header(header.unit, header.number)?;
+        let body = &message[HEADER..];
+        if !self.lists.is_empty() {
+            // The first count byte belongs to the fixed part.
+            check(body.len() > self.fields_width(), Refusal::Total)?;
+        }
+        let rest = self.check_body(body)?;
+        check(rest.is_empty(), Refusal::Total)?;
+
+        let mut record = vec![header.kind, header.unit];
+        record.extend(header.number.to_le_bytes());
+        record.extend(body);
+        record.resize(LENT, 0);
+        Ok(record)
+    }
+
+    /// The message of a record of this type and direction; the record has all its bytes.
+    pub fn write(&self, record: &[u8]) -> Result<Vec<u8>, Refusal> {
+        let unit = record[1];
+        let number = number::get(record, 2, 4) as u32;
+        check_header(unit, number)?;
+        let body = &record[BODY_PLACE..LENT];
+        let rest = self.check_body(body)?;
+        let unused = if self.lists.is_empty() {
+            Refusal::Unused
+        } else {
+            Refusal::Group
+        };
+        check(kinds::blank(rest), unused)?;
+
+        let body = &body[..body.len() - rest.len()];
+        let length = (HEADER + body.len()) as u16 - UNCOUNTED as u16;
+        let mut message = vec![START, START];
+        message.extend(length.to_le_bytes());
+        message.push(self.type_byte);
+        message.push(unit);
+        message.extend(number.to_le_bytes());
+        message.extend(body);
+        Ok(message)
+    }
+
+    /// 10 in the fields, then 11 in the flag and the lists; what follows the last list is left.
+    /// The fields are all there.
+    fn check_body<'a>(&self, body: &'a [u8]) -> Result<&'a [u8], Refusal> {
+        let mut after = body;
+        let mut flag = None;
+        for field in self.fields {
+            let (value, rest) = after.split_at(field.width);
+            check(field.takes(value), Refusal::Value)?;
+            if self.flag == Some(field.name) {
+                flag = Some(value[0]);
+            }
+            after = rest;
+        }
+        if let Some(flag) = flag {
+            groups::check_flag(flag)?;
+        }
+        let mut rest = Rest::new(after);
+        for list in self.lists {
+            match list {
+                List::Pairs => rest.pairs()?,
+                List::Groups => rest.groups()?,
+            }
+        }
+        Ok(rest.bytes())
+    }
+}
+
+/// 5: session messages have no unit and no number.
+fn check_header(unit: u8, number: u32) -> Result<(), Refusal> {
+    check(unit == 0 && number == 0, Refusal::Unit)
+}
+
+#[cfg(test)]
+mod tests {
+    use super::*;
+    use crate::examples;
+    use crate::questions::sample::measure;
+    use crate::rules::{read, write};
+
+    fn reads(direction: u8, message: &[u8]) -> u8 {
+        match read::message(direction, message) {
+            Ok(_) => 0,
+            Err(refusal) => refusal.number(),
+        }
+    }
+
+    fn writes(direction: u8, record: &[u8], buffer: &mut [u8]) -> u8 {
+        match write::record(direction, record, buffer) {
+            Ok(()) => 0,
+            Err(refusal) => refusal.number(),
+        }
+    }
+
+    /// The answer to a message with a length that fits it.
+    fn reads_measured(direction: u8, message: &[u8]) -> u8 {
+        let mut message = message.to_vec();
+        measure(&mut message);
+        reads(direction, &message)
+    }
+
+    /// The places that document 01 gives, and 000 for the venue's messages.
+    #[test]
+    fn places_of_the_fixed_parts() {
+        let places = |session: &Session| {
+            let mut at = HEADER;
+            let mut text = format!("{:02X} {}:", session.type_byte, session.direction);
+            for field in session.fields {
+                let letter = field.kind.letter();
+                text.push_str(&format!(" {} {} {}{}", field.name, at, field.width, letter));
+                at += field.width;
+            }
+            for list in session.lists {
+                text.push_str(&format!(" {:?}", list));
+            }
+            text
+        };
+        let all: Vec<String> = ALL.iter().map(places).collect();
+        assert_eq!(
+            all,
+            [
+                "37 0: SessionSubID 10 4N Username 14 4N Password 18 10N Groups",
+                "24 1: LoginResponseStatus 10 1N LoginResponseText 11 60T \
+                 NoUnspecifiedUnitReplay 71 1B LastReceivedSequenceNumber 72 4B Pairs Groups",
+                "08 1: LogoutReason 10 1N LogoutReasonText 11 60T \
+                 LastReceivedSequenceNumber 71 4B Pairs",
+                "03 0:",
+                "09 1:",
+                "13 1:",
+            ]
+        );
+    }
+
+    #[test]
+    fn p14() {
+        let login = examples::options_login();
+        assert_eq!(login.len(), 63);
+        let record = read::message(0, &login).unwrap();
+        assert_eq!(record.len(), 439);
+        assert_eq!(record[..6], [0x37, 0, 0, 0, 0, 0]);
+        assert_eq!(record[6..24], *b"0001TESTTESTING\0\0\0");
+        // The first group: 15 bytes, flag 1, two units, and unit 1 at 113,482.
+        assert_eq!(record[24..31], [3, 15, 0, 0x80, 1, 2, 1]);
+        assert_eq!(number::get(&record, 31, 4), 113_482);
+        assert_eq!(record[6..59], login[10..]);
+        assert_eq!(record[59..], [0; 380]);
+    }
+
+    /// Of document 000's examples the bytes count: a unit three times, and a length too short.
+    #[test]
+    fn examples_of_the_documents() {
+        assert_eq!(reads(0, &examples::login()), 0);
+        assert_eq!(reads(0, &examples::client_heartbeat()), 0);
+        assert_eq!(reads(1, &examples::login_response()), 11);
+        assert_eq!(reads(1, &examples::login_response_of_the_notes()), 0);
+        assert_eq!(reads(1, &examples::logout()), 11);
+        assert_eq!(reads(1, &examples::logout()[..87]), 11);
+        assert_eq!(reads(1, &examples::logout()[..86]), 3);
+        let logout = read::message(1, &examples::logout_with_its_length()).unwrap();
+        assert_eq!(number::get(&logout, 67, 4), 154_196);
+        assert_eq!(reads(1, &examples::server_heartbeat()), 0);
+        assert_eq!(reads(1, &examples::replay_complete()), 0);
+        for direction in [0, 1] {
+            assert_eq!(reads(direction, &examples::logout_request()), 4);
+        }
+    }
+
+    #[test]
+    fn directions() {
+        for session in &ALL {
+            let message = [0xBA, 0xBA, 8, 0, session.type_byte, 0, 0, 0, 0, 0];
+            for direction in 0..=255 {
+                let known = direction == session.direction;
+                assert_eq!(reads(direction, &message) == 4, !known);
+            }
+        }
+    }
+
+    /// Letters, digits, blank, and the byte of a protocol violation.
+    #[test]
+    fn reasons() {
+        let mut logout = examples::logout_with_its_length();
+        let mut response = examples::login_response_of_the_notes();
+        for byte in 0..=255_u8 {
+            let taken = byte == 0 || byte.is_ascii_alphanumeric();
+            logout[10] = byte;
+            assert_eq!(reads(1, &logout) == 0, taken || byte == b'!');
+            response[10] = byte;
+            assert_eq!(reads(1, &response), if taken { 0 } else { 10 });
+        }
+    }
+
+    /// One fault after another is taken away, and the next in the order is told.
+    #[test]
+    fn order_of_reading() {
+        let good = examples::login_response_of_the_notes();
+        let mut bad = good.clone();
+        bad[5] = 1;
+        bad[10] = b'!';
+        bad[71] = 2;
+        bad.push(0);
+        assert_eq!(reads_measured(0, &bad), 4);
+        assert_eq!(reads_measured(1, &bad), 5);
+        bad[5] = 0;
+        bad[9] = 1;
+        assert_eq!(reads_measured(1, &bad), 5);
+        bad[9] = 0;
+        assert_eq!(reads_measured(1, &bad[..76]), 6);
+        assert_eq!(reads_measured(1, &bad[..77]), 10);
+        assert_eq!(reads_measured(1, &bad), 10);
+        bad[10] = b'A';
+        assert_eq!(reads_measured(1, &bad[..76]), 6);
+        assert_eq!(reads_measured(1, &bad), 11);
+        bad[71] = 1;
+        assert_eq!(reads_measured(1, &bad), 6);
+        for end in 77..good.len() {
+            assert_eq!(reads_measured(1, &good[..end]), 11);
+        }
+        bad.pop();
+        assert_eq!(bad, good);
+        assert_eq!(reads_measured(1, &bad), 0);
+    }
+
+    /// Where the fixed part ends, and what is missing or left after it.
+    #[test]
+    fn ends_of_the_fixed_parts() {
+        for (direction, whole, fixed) in [
+            (0, examples::login(), 29),
+            (1, examples::login_response_of_the_notes(), 77),
+            (1, examples::logout_with_its_length(), 76),
+        ] {
+            for end in HEADER..whole.len() {
+                let expected = if end < fixed { 6 } else { 11 };
+                assert_eq!(reads_measured(direction, &whole[..end]), expected);
+            }
+            let mut longer = whole.clone();
+            longer.push(0);
+            assert_eq!(reads_measured(direction, &longer), 6);
+        }
+        // No units, and the count of groups is not there.
+        let mut response = examples::login_response()[..77].to_vec();
+        response[76] = 0;
+        assert_eq!(reads_measured(1, &response), 11);
+        response.push(0);
+        assert_eq!(reads_measured(1, &response), 0);
+        let mut logout = examples::logout()[..76].to_vec();
+        logout[75] = 0;
+        assert_eq!(reads_measured(1, &logout), 0);
+        let mut login = examples::login()[..29].to_vec();
+        login[28] = 0;
+        assert_eq!(reads_measured(0, &login), 0);
+        for mut bare in [examples::server_heartbeat(), examples::replay_complete()] {
+            bare.push(0);
+            assert_eq!(reads_measured(1, &bare), 6);
+        }
+    }
+
+    #[test]
+    fn order_of_writing() {
+        let message = examples::logout_with_its_length();
+        let good = read::message(1, &message).unwrap();
+        let mut bad = good.clone();
+        let mut buffer = [0xEE; 90];
+        bad[5] = 1;
+        bad[6] = b'"';
+        bad[438] = 1;
+        assert_eq!(writes(1, &bad[..438], &mut buffer), 13);
+        assert_eq!(writes(0, &bad, &mut buffer), 4);
+        assert_eq!(writes(1, &bad, &mut buffer), 5);
+        bad[5] = 0;
+        assert_eq!(writes(1, &bad, &mut buffer), 10);
+        bad[6] = b'U';
+        assert_eq!(writes(1, &bad, &mut buffer), 11);
+        bad[438] = 0;
+        assert_eq!(bad, good);
+        assert_eq!(writes(1, &bad, &mut buffer), 13);
+        assert_eq!(buffer, [0xEE; 90]);
+        let mut buffer = [0xEE; 92];
+        assert_eq!(writes(1, &bad, &mut buffer), 0);
+        assert_eq!(buffer[..91], message);
+        assert_eq!(buffer[91], 0xEE);
+    }
+
+    /// Every place that a message does not use must be zero.
+    #[test]
+    fn unused_places() {
+        for (direction, message, number) in [
+            (0, examples::options_login(), 11),
+            (1, examples::login_response_of_the_notes(), 11),
+            (1, examples::logout_with_its_length(), 11),
+            (0, examples::client_heartbeat(), 12),
+            (1, examples::server_heartbeat(), 12),
+            (1, examples::replay_complete(), 12),
+        ] {
+            let good = read::message(direction, &message).unwrap();
+            for place in message.len() - 4..439 {
+                let mut bad = good.clone();
+                bad[place] = 0x80;
+                assert_eq!(writes(direction, &bad, &mut []), number);
+            }
+            assert_eq!(writes(direction, &good, &mut []), 13);
+        }
+    }
+}
