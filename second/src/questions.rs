@@ -4,6 +4,8 @@
 mod clock;
 pub mod damage;
 mod frame;
+#[cfg(test)]
+mod judged;
 pub mod more;
 mod number;
 mod outside;

@@ -415,8 +415,7 @@ fn random_records(lines: &mut Vec<String>, random: &mut Random) {
 #[cfg(test)]
 mod tests {
     use super::*;
-    use crate::ask;
-    use std::collections::BTreeMap;
+    use crate::questions::judged;
 
     fn lines() -> Vec<String> {
         let mut lines = Vec::new();
@@ -427,31 +426,7 @@ mod tests {
     /// What each record's type gets, and that what is written reads as the record again.
     #[test]
     fn each_type_gets_each_answer() {
-        let mut seen: BTreeMap<(u8, String), usize> = BTreeMap::new();
-        for line in lines() {
-            let answer = ask::answer(line.as_bytes());
-            if answer == "?" {
-                continue;
-            }
-            let words: Vec<&str> = line.split(' ').collect();
-            let direction: u8 = words[1].parse().unwrap();
-            let record = hex::read(words[2]).unwrap();
-            let buffer = hex::read(words[3]).unwrap();
-            let (number, after) = answer.split_once(' ').unwrap();
-            let after = hex::read(after).unwrap();
-            if number == "0" {
-                let again = rules::read::message(direction, &after).unwrap();
-                assert_eq!(again, record[..again.len()]);
-                let total = usize::from(u16::from_le_bytes([after[2], after[3]])) + 2;
-                assert_eq!(after[total..], buffer[total..]);
-                assert_eq!(after.len(), buffer.len());
-            } else {
-                assert_eq!(after, buffer);
-            }
-            if !record.is_empty() {
-                *seen.entry((record[0], number.to_string())).or_default() += 1;
-            }
-        }
+        let seen = judged::writes(&lines());
         for layout in &layout::ALL {
             for number in ["0", "4", "5", "7", "8", "9", "10", "12", "13"] {
                 let count = seen.get(&(layout.type_byte, number.to_string())).copied();
@@ -471,20 +446,7 @@ mod tests {
         for which in 0..4 {
             for faults in (0..=255).filter(|faults| possible(which, *faults)) {
                 let (direction, record, before) = faulty(&mut random, which, faults);
-                let mut buffer = before.clone();
-                let expected = match faults {
-                    0 => 0,
-                    _ => ORDER[faults.trailing_zeros() as usize],
-                };
-                let answer = match rules::write::record(direction, &record, &mut buffer) {
-                    Ok(()) => 0,
-                    Err(refusal) => refusal.number(),
-                };
-                assert_eq!(answer, expected, "{} {:08b}", which, faults);
-                assert_eq!(buffer == before, faults != 0);
-                let short = &record[..LENT - 1];
-                let answer = rules::write::record(direction, short, &mut buffer);
-                assert_eq!(answer, Err(rules::Refusal::Room));
+                judged::first_fault(direction, &record, &before, faults, &ORDER, LENT);
             }
         }
     }
