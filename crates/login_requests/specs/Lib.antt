@@ -1,0 +1,2 @@
+pub mod LoginRequests
+pub mod LoginRequestLaws

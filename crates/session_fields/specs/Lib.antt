@@ -1,0 +1,3 @@
+pub mod SessionFields
+pub mod SessionFieldLaws
+pub mod GroupFieldLaws
