@@ -2,11 +2,14 @@
 
 use crate::hex;
 use crate::rules::kinds::{self, Kind};
-use crate::rules::{calendar, frame, number, price, pulse, read, table, write, Refusal};
+use crate::rules::{book, calendar, frame, number, price, pulse, read, table, write, Refusal};
 
 /// The most characters of a question, its LF not counted.
 pub const LONGEST: usize = 8_000;
 const MOST_DIGITS: usize = 20;
+/// The most bytes that `append` and `close` add to a book's buffer, and what they hold.
+const MOST_ROOM: u64 = 2_100;
+const ROOM_BYTE: u8 = 0xFF;
 
 /// One answer line for each line ended by LF; what follows the last LF is no question.
 pub fn answers(input: &[u8]) -> String {
@@ -80,6 +83,29 @@ fn understood(line: &[u8]) -> Option<String> {
             let record = hex::read(record)?;
             let buffer = hex::read(bytes)?;
             Some(write(direction, &record, buffer))
+        }
+        ["open", date, bytes] => {
+            let date = read_u32(date)?;
+            let buffer = hex::read(bytes)?;
+            Some(open(date, buffer))
+        }
+        ["restart", date, bytes] => {
+            let date = read_u32(date)?;
+            let bytes = hex::read(bytes)?;
+            Some(restart(date, &bytes))
+        }
+        ["append", date, bytes, room, message] => {
+            let date = read_u32(date)?;
+            let bytes = hex::read(bytes)?;
+            let room = read_number(room, MOST_ROOM)?;
+            let message = hex::read(message)?;
+            Some(append(date, bytes, room as usize, &message))
+        }
+        ["close", date, bytes, room] => {
+            let date = read_u32(date)?;
+            let bytes = hex::read(bytes)?;
+            let room = read_number(room, MOST_ROOM)?;
+            Some(close(date, bytes, room as usize))
         }
         _ => None,
     }
@@ -175,6 +201,56 @@ fn read(direction: u8, buffer: &[u8]) -> String {
 fn write(direction: u8, record: &[u8], mut buffer: Vec<u8>) -> String {
     let result = write::record(direction, record, &mut buffer);
     format!("{} {}", refusal(result), hex::write(&buffer))
+}
+
+fn open(date: u32, mut buffer: Vec<u8>) -> String {
+    let result = book::open(date, &mut buffer);
+    format!("{} {}", refusal(result), hex::write(&buffer))
+}
+
+fn restart(date: u32, bytes: &[u8]) -> String {
+    match book::restart(date, bytes) {
+        Ok(book) => format!(
+            "0 {} {} {} {}",
+            book.length,
+            book.last,
+            book.count,
+            hex::write(&book.table)
+        ),
+        Err(refusal) => refusal.number().to_string(),
+    }
+}
+
+fn append(date: u32, bytes: Vec<u8>, room: usize, message: &[u8]) -> String {
+    match book::restart(date, &bytes) {
+        Ok(mut book) => {
+            let mut buffer = with_room(bytes, room);
+            let result = book.append(&mut buffer, message);
+            format!(
+                "0 {} {} {}",
+                refusal(result),
+                book.length,
+                hex::write(&buffer)
+            )
+        }
+        Err(refusal) => refusal.number().to_string(),
+    }
+}
+
+fn close(date: u32, bytes: Vec<u8>, room: usize) -> String {
+    match book::restart(date, &bytes) {
+        Ok(mut book) => {
+            let mut buffer = with_room(bytes, room);
+            book.close(&mut buffer);
+            format!("0 {} {}", book.length, hex::write(&buffer))
+        }
+        Err(refusal) => refusal.number().to_string(),
+    }
+}
+
+fn with_room(mut bytes: Vec<u8>, room: usize) -> Vec<u8> {
+    bytes.resize(bytes.len() + room, ROOM_BYTE);
+    bytes
 }
 
 /// Months and days go past both their ends, so that what is no day is asked too.
@@ -296,6 +372,76 @@ mod tests {
             &format!("write 1 {} {}", record, "EE".repeat(87)),
             &format!("13 {}", "EE".repeat(87)),
         );
+    }
+
+    /// The book of document 01's listing, and what is done with it.
+    #[test]
+    fn book_of_document_01() {
+        let mark = "00000000C30035010000000000000000";
+        let message = |number: u8| {
+            format!(
+                "BABA37002501{:02X}000000{}414243313233{}00010444D6120000000000",
+                number,
+                "00".repeat(8),
+                "00".repeat(22)
+            )
+        };
+        check("open 20250819 -", "13 -");
+        check("open 20250832 -", "19 -");
+        check(
+            &format!("open 20250819 {}EE", "AB".repeat(16)),
+            &format!("0 {}EE", mark),
+        );
+        let table = format!("01{}", "00".repeat(127));
+        let book = format!("{}{}", mark, message(1));
+        check(
+            &format!("restart 20250819 {}BA", book),
+            &format!("0 73 0 1 {}", table),
+        );
+        check("restart 20250819 -", "22");
+        check(&format!("restart 20250820 {}BA", book), "17");
+        check(&format!("restart 20250819 {}AB", book), "18");
+        check(&format!("restart 0 {}AB", book), "19");
+        check(
+            &format!("append 20250819 {}BA 57 {}AB", book, message(2)),
+            &format!("0 0 130 {}{}FF", book, message(2)),
+        );
+        check(
+            &format!("append 20250819 {}BA 55 {}AB", book, message(2)),
+            &format!("0 13 73 {}BA{}", book, "FF".repeat(55)),
+        );
+        check(
+            &format!("append 20250819 {} 0 {}", book, message(1)),
+            &format!("0 14 73 {}", book),
+        );
+        check(&format!("append 20250820 {} 0 -", book), "17");
+        check(
+            &format!("close 20250819 {}BA 15", book),
+            &format!("0 89 {}00000000C30035010100000049000000", book),
+        );
+        check(
+            &format!("close 20250819 {}BA 14", book),
+            &format!("0 73 {}BA{}", book, "FF".repeat(14)),
+        );
+        check(&format!("close 20250819 {}AB 16", book), "18");
+        for line in [
+            "open 20250819",
+            "open 4294967296 -",
+            "open - 20250819",
+            "restart 20250819",
+            "restart 20250819 - -",
+            "restart 20250819 0",
+            "append 20250819 - 0",
+            "append 20250819 - 2101 -",
+            "append 20250819 - - -",
+            "close 20250819 -",
+            "close 20250819 - 2101",
+            "close 20250819 - -",
+        ] {
+            check(line, "?");
+        }
+        check("append 20250819 - 2100 -", "22");
+        check("close 20250819 - 2100", "22");
     }
 
     #[test]

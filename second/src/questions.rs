@@ -1,6 +1,7 @@
 //! Makes the stored questions. Each section has its own seed, so that a new section leaves the
 //! others as they were.
 
+mod book;
 mod clock;
 pub mod damage;
 mod frame;
@@ -28,6 +29,7 @@ pub fn all() -> String {
     read::ask(&mut lines);
     write::ask(&mut lines);
     session::ask(&mut lines);
+    book::ask(&mut lines);
     let mut output = String::new();
     for line in lines {
         output.push_str(&line);
@@ -96,12 +98,32 @@ mod tests {
             ("silent", "0 1 ?"),
             ("read", "0 1 2 3 4 5 6 7 8 9 10 11 ?"),
             ("write", "0 4 5 7 8 9 10 11 12 13 ?"),
+            ("open", "0 13 19 ?"),
+            ("restart", "0 17 18 19 22 ?"),
+            ("append", "0 17 18 19 22 ?"),
+            ("close", "0 17 18 19 22 ?"),
         ] {
             for first in expected.split(' ') {
                 let pair = format!("{} {}", call, first);
                 assert!(seen.contains(&pair), "{}", pair);
             }
         }
+    }
+
+    /// What is appended to a good book gets each number that it can get. It has no required fields,
+    /// so it gets no 9.
+    #[test]
+    fn appends_get_each_refusal() {
+        let questions = all();
+        let mut seen = BTreeSet::new();
+        for question in questions.lines().filter(|line| line.starts_with("append ")) {
+            let answer = ask::answer(question.as_bytes());
+            if let Some(number) = answer.split(' ').nth(1) {
+                seen.insert(number.parse::<u8>().unwrap());
+            }
+        }
+        let expected = [0, 1, 2, 3, 4, 5, 6, 7, 8, 10, 13, 14, 15];
+        assert_eq!(seen, BTreeSet::from(expected));
     }
 
     /// Both sides of the longest line are asked, and only the longer is refused.

@@ -1,5 +1,6 @@
 //! The rules of document 01, one module a subject.
 
+pub mod book;
 pub mod calendar;
 pub mod frame;
 pub mod groups;
@@ -47,8 +48,14 @@ pub enum Refusal {
     Behind = 14,
     /// At least one number is missing between the table's and this one.
     Ahead = 15,
+    /// The book was opened for another date than the one asked for.
+    OtherDate = 17,
+    /// A book that is neither whole nor torn.
+    Broken = 18,
     /// Not a day of the years 1970 to 2099.
     Day = 19,
+    /// A book that is shorter than its first mark.
+    Small = 22,
 }
 
 impl Refusal {

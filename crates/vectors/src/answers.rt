@@ -2,6 +2,7 @@
 ghost use Prim.Native.Nat.{_≤_};
 ghost use mathlib.Core.Path.{_≡_};
 ghost use lib.ListN.{length};
+use crate::books;
 use asking::words;
 use asking::writing;
 use kinds::Kind;
@@ -57,15 +58,32 @@ fn message_call_of(word: &[u8]) -> u8 {
     if check::same(word, b"write") {
         return 13;
     }
+    book_call_of(word)
+}
+
+// The same for the calls on the day book.
+fn book_call_of(word: &[u8]) -> u8 {
+    if check::same(word, b"open") {
+        return 14;
+    }
+    if check::same(word, b"restart") {
+        return 15;
+    }
+    if check::same(word, b"append") {
+        return 16;
+    }
+    if check::same(word, b"close") {
+        return 17;
+    }
     0
 }
 
 // How many words a question of a call has.
 fn words_of(call: u8) -> usize {
     match call {
-        2 | 7 | 13 => 4,
-        3 => 5,
-        5 | 6 | 10 | 11 | 12 => 3,
+        2 | 7 | 13 | 17 => 4,
+        3 | 16 => 5,
+        5 | 6 | 10 | 11 | 12 | 14 | 15 => 3,
         _ => 2,
     }
 }
@@ -90,6 +108,10 @@ pub fn answered(line: &[u8], bytes: &mut [u8]) -> bool {
         11 => silent(line),
         12 => read(line, bytes),
         13 => write(line, bytes),
+        14 => books::open(line, bytes),
+        15 => books::restart(line, bytes),
+        16 => books::append(line, bytes),
+        17 => books::close(line),
         _ => false,
     }
 }
@@ -203,7 +225,7 @@ fn put_64(out: &mut [u8], at: usize, v: words::Number) -> bool {
 }
 
 // A refusal and the buffer after the call.
-fn refused(refusal: u8, s: &[u8]) {
+pub fn refused(refusal: u8, s: &[u8]) {
     writing::decimal(refusal as u64);
     writing::text(b" ");
     writing::hex(s);

@@ -5,7 +5,7 @@ use super::sample::{Sample, ACKNOWLEDGMENT, CANCEL, EXECUTION, NEW_ORDER};
 use super::session::sample::{
     Sample as Session, CLIENT_HEARTBEAT, LOGIN, LOGOUT, REPLAY_COMPLETE, RESPONSE, SERVER_HEARTBEAT,
 };
-use super::{read, session, write};
+use super::{book, read, session, write};
 use crate::random::Random;
 use crate::rules::layout;
 use std::collections::VecDeque;
@@ -70,10 +70,12 @@ impl More {
         }
     }
 
-    /// A message, its record, and both of them damaged; one time in three of the session.
+    /// A message, its record, and both of them damaged, one time in three of the session; one time
+    /// in nine of a day book.
     fn four(&mut self) {
-        match self.random.below(3) {
-            0 => self.four_of_the_session(),
+        match self.random.below(9) {
+            0 => self.waiting.extend(book::four(&mut self.random)),
+            1..=3 => self.four_of_the_session(),
             _ => self.four_with_bitfields(),
         }
     }
@@ -170,17 +172,22 @@ mod tests {
         assert!(!More::new(1).nth(191).unwrap().starts_with("read"));
     }
 
-    /// Each answer comes, and about a third of the questions are of the session.
+    /// Each answer comes, and about a third of the questions are of the session, a ninth of books.
     #[test]
     fn every_answer_and_every_type() {
         let mut seen = BTreeSet::new();
         let mut types = BTreeSet::new();
         let mut of_the_session = 0;
+        let mut of_books = 0;
         for line in More::new(3).skip(190).take(6_000) {
             let answer = ask::answer(line.as_bytes());
             let words: Vec<&str> = line.split(' ').collect();
             let number = answer.split(' ').next().unwrap();
             seen.insert(format!("{} {}", words[0], number));
+            if words[0] != "read" && words[0] != "write" {
+                of_books += 1;
+                continue;
+            }
             let bytes = hex::read(words[2]).unwrap();
             let type_place = if words[0] == "read" { 4 } else { 0 };
             if let Some(type_byte) = bytes.get(type_place) {
@@ -200,8 +207,19 @@ mod tests {
         for number in [0, 4, 5, 7, 8, 9, 10, 11, 12, 13] {
             expected.insert(format!("write {}", number));
         }
+        for answer in [
+            "restart 0",
+            "restart 17",
+            "restart 18",
+            "restart 22",
+            "append 0",
+            "close 0",
+        ] {
+            expected.insert(answer.to_string());
+        }
         assert_eq!(seen, expected);
         assert_eq!(types.len(), 10);
+        assert!((500..900).contains(&of_books));
         assert!((1_700..2_300).contains(&of_the_session));
     }
 }

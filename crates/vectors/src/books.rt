@@ -1,0 +1,145 @@
+// The questions on the day book. A question on a book that stands has it restarted first, in a buffer with room after it.
+ghost use Prim.Native.Nat.{_≤_};
+ghost use lib.ListN.{length};
+use crate::answers;
+use asking::words;
+use asking::writing;
+use book::Book;
+use table::Unit;
+
+// `open DATE BYTES`: the refusal and the buffer after the call.
+pub fn open(line: &[u8], bytes: &mut [u8]) -> bool {
+    let date = words::read_number(words::word(line, 1), 4294967295);
+    let run = words::read_bytes(words::word(line, 2), bytes);
+    if date.ok && run.ok {
+        let n = run.count;
+        opened(date.value as u32, &mut bytes[0..n]);
+        return true;
+    }
+    false
+}
+
+// The answer to `open` in a buffer.
+fn opened(date: u32, buffer: &mut [u8]) {
+    let answer = book::open(date, buffer);
+    answers::refused(answer.refusal, buffer);
+}
+
+// `restart DATE BYTES`: the refusal, or 0, the length, where the last mark starts, the messages and the table.
+pub fn restart(line: &[u8], bytes: &mut [u8]) -> bool {
+    let date = words::read_number(words::word(line, 1), 4294967295);
+    let run = words::read_bytes(words::word(line, 2), bytes);
+    if date.ok && run.ok {
+        let n = run.count;
+        restarted(date.value as u32, &bytes[0..n]);
+        return true;
+    }
+    false
+}
+
+// The answer to `restart` of a book.
+fn restarted(date: u32, s: &[u8]) {
+    let answer = restart::restart(date, s);
+    writing::decimal(answer.refusal as u64);
+    if answer.refusal == 0 {
+        writing::next_decimal(answer.book.length as u64);
+        writing::next_decimal(answer.book.last as u64);
+        writing::next_decimal(answer.book.count as u64);
+        writing::text(b" ");
+        table_of(answer.book);
+    }
+}
+
+// A book's table.
+fn table_of(b: Book) {
+    let mut out = [0u8; 128];
+    put_table(b, &mut out);
+    writing::hex(&out);
+}
+
+// A book's table into a buffer, 4 bytes a unit.
+fn put_table(b: Book, out: &mut [u8]) {
+    let mut u: u8 = 1;
+    while u <= 32 {
+        let entry = b.table.entry(Unit(u));
+        numbers::write_u32(out, 4 * (u as usize - 1), entry.last.0);
+        u += 1;
+    }
+}
+
+// A buffer in hex, in two parts where it is longer than one may be.
+fn whole(buffer: &[u8]) {
+    if buffer.len() <= 4096 {
+        writing::hex(buffer);
+        return;
+    }
+    writing::hex(&buffer[0..4096]);
+    writing::hex(&buffer[4096..]);
+}
+
+// `append DATE BOOK ROOM MESSAGE`: restart's refusal, or 0, the refusal, the length and the buffer after the call.
+pub fn append(line: &[u8], bytes: &mut [u8]) -> bool {
+    let mut buffer = [0xFFu8; 6144];
+    let date = words::read_number(words::word(line, 1), 4294967295);
+    let run = words::read_bytes(words::word(line, 2), &mut buffer);
+    let room = words::read_number(words::word(line, 3), 2100);
+    let message = words::read_bytes(words::word(line, 4), bytes);
+    if date.ok && run.ok && room.ok && message.ok {
+        let n = run.count;
+        let end = n + room.value as usize;
+        if 6144 < end {
+            return false;
+        }
+        let k = message.count;
+        appended(date.value as u32, n, &bytes[0..k], &mut buffer[0..end]);
+        return true;
+    }
+    false
+}
+
+// The answer to `append` to the book in the first n bytes of a buffer.
+fn appended(date: u32, n: usize, message: &[u8], buffer: &mut [u8])
+    requires { ⌜ n ≤ length (now buffer) ⌝ }
+{
+    let from = restart::restart(date, &buffer[0..n]);
+    writing::decimal(from.refusal as u64);
+    if from.refusal == 0 {
+        let answer = from.book.append(message, buffer);
+        writing::next_decimal(answer.refusal as u64);
+        writing::next_decimal(answer.book.length as u64);
+        writing::text(b" ");
+        whole(buffer);
+    }
+}
+
+// `close DATE BOOK ROOM`: restart's refusal, or 0, the length and the buffer after the call.
+pub fn close(line: &[u8]) -> bool {
+    let mut buffer = [0xFFu8; 6144];
+    let date = words::read_number(words::word(line, 1), 4294967295);
+    let run = words::read_bytes(words::word(line, 2), &mut buffer);
+    let room = words::read_number(words::word(line, 3), 2100);
+    if date.ok && run.ok && room.ok {
+        let n = run.count;
+        let end = n + room.value as usize;
+        if 6144 < end {
+            return false;
+        }
+        closed(date.value as u32, n, &mut buffer[0..end]);
+        return true;
+    }
+    false
+}
+
+// The answer to `close` of the book in the first n bytes of a buffer.
+fn closed(date: u32, n: usize, buffer: &mut [u8])
+    requires { ⌜ n ≤ length (now buffer) ⌝ }
+{
+    let from = restart::restart(date, &buffer[0..n]);
+    writing::decimal(from.refusal as u64);
+    if from.refusal == 0 {
+        let after = from.book.close(buffer);
+        writing::next_decimal(after.length as u64);
+        writing::text(b" ");
+        whole(buffer);
+    }
+}
