@@ -1,0 +1,9 @@
+pub mod Model
+pub mod Laws
+pub mod Safe
+pub mod Walk
+pub mod Inv
+pub mod Demand
+pub mod Steps
+pub mod Generic
+pub mod Halves
