@@ -8,7 +8,8 @@ use lib.ListN.{length, take}
 use Rattle.day.specs.Model.{Msg, Table, count, Phase, closed, asked, Sent, response, heartbeat, logout, Member, ends, broken, inPhase, got, full, restartOf, restarted, Venue, took, stopped, logged, nextInLog, start}
 use Rattle.day.specs.Safe.{Readable}
 use Rattle.day.specs.Steps.{docStep}
-use Rattle.day.specs.Generic.{Bytes, All, Code, Meets, StepIs}
+use Rattle.day.specs.Story.{Bytes, All, Code}
+use Rattle.day.specs.Generic.{Meets, StepIs}
 
 -- what a line carries, and what its ends make of it
 pub record Line : Type 1 where

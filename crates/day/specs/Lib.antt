@@ -5,5 +5,6 @@ pub mod Walk
 pub mod Inv
 pub mod Demand
 pub mod Steps
+pub mod Story
 pub mod Generic
 pub mod Halves

@@ -1,0 +1,13 @@
+pub mod Sessions
+pub mod Stages
+pub mod SessionLaws
+pub mod OrderLaws
+pub mod SessionSteps
+pub mod Unchanged
+pub mod Booked
+pub mod MemberDay
+pub mod MemberKinds
+pub mod MadeItems
+pub mod MemberSteps
+pub mod MemberGets
+pub mod MeetsMember

@@ -1,0 +1,231 @@
+-- Our member is one of the day's members: each of its calls does what the abstract day's member does. Assumes nothing.
+use Prim.Native.Nat.{ℕ, zero, suc, _+_, _-_, _≤_, _<_, min}
+use mathlib.Core.Logic.{_⊎_, ⊎-elim}
+use mathlib.Core.Path.{_≡_, refl, sym, ap, ap₂, subst, _∙_, fun-ext}
+use mathlib.Core.Bool.{Bool, true, false, cond, true≢false}
+use mathlib.Core.List.{List, [], _∷_, _++_}
+use native.Mathlib.Omega.{arith}
+use lib.Dec.{eqb}
+use lib.ListN.{length, take, drop}
+use lib.Seq.{take-all, take-take, take-append-seam, take-append-le, take-length}
+use borrow.Author.Tests.{eq-eqb, ne-eqb, eqb-true}
+use Rattle.numbers.specs.Numbers.{patched}
+use Rattle.numbers.specs.NumberLaws.{patched-take}
+use Rattle.wire.specs.Frame.{framed}
+use Rattle.wire.specs.Header.{unitOf}
+use Rattle.wire.specs.FrameLaws.{lt-or-le}
+use Rattle.fields.specs.Slots.{zeros}
+use Rattle.fields.specs.SlotLaws.{length-zeros}
+use Rattle.table.specs.declared.OutgoingNumber.{OutgoingNumber}
+use Rattle.table.specs.Table.{lastOf, zeroTable}
+use Rattle.logins.specs.Sessions as logins
+use Rattle.calendar.specs.Calendar.{isDay, dayRefusal}
+use Rattle.book.specs.declared.Book.{Book}
+use Rattle.book.specs.declared.Answer as bookAnswers
+use Rattle.book.specs.Books.{answer, blankBook, openedBook, markBytes, openRefusal, openOf, openBuffer, closeBuffer}
+use Rattle.restart.specs.Restarts as restarts
+use Rattle.restart.specs.Cut.{Made, opens, books, marks, sound, Cut, cut, cut-22}
+use Rattle.restart.specs.Kept.{none-yet, open-holds, ofUnit, counted, messages, count-is}
+use Rattle.restart.specs.Steps.{mark-long}
+use Rattle.day.specs.Model.{Item, mark, Table, Member, Sent, Restart, ends, inPhase, closed, asked, replaying, live, restartOf, restarted, start, short, good}
+use Rattle.day.specs.Model as day
+use Rattle.day.specs.Safe.{Readable}
+use Rattle.day.specs.Halves.{MeetsMember}
+use Rattle.line.specs.Lines.{Fields, Fine, OurLogin, says, lists, ourLine, loginOfTable}
+use Rattle.line.specs.OurLogins.{our-lists}
+use Rattle.line.specs.Lent.{lent, kept}
+use Rattle.session.specs.declared.Phase.{Phase}
+use Rattle.session.specs.declared.Phase.the-variants.{Closed, Asked, Replaying, Live}
+use Rattle.session.specs.declared.Session.{Session}
+use Rattle.session.specs.Sessions.{closedWith, isClosed, endedBy, brokenBy, brokenBuffer, loginRefusal, loginOf, orderRefusal, orderOf}
+use Rattle.session.specs.Booked.{items, first-items}
+use Rattle.session.specs.MemberDay.{Desk, after, opened, gets, ended, writes, login, loginBytes, sends, restartedBy, restart, refusedForRoom, phaseOf, ourMember}
+use Rattle.session.specs.MemberKinds.{kind-of}
+use Rattle.session.specs.MadeItems.{itemsOf, coded, below, made-items, made-restarts}
+use Rattle.session.specs.MemberSteps.{capOf, seen, Good, deskOf, Comes, comes-as, left-alone, as-it-was, ends-as}
+use Rattle.session.specs.MemberGets.{gets-as, room-as-told}
+
+-- ---- a break
+
+breaks-as : {date k : ℕ} (o : OutgoingNumber) {b : Book} {bytes : List ℕ} → Made date k b bytes → (room : ℕ) (p : Phase)
+    → Comes date (ended room (deskOf p o b bytes)) (day.broken (capOf room) (seen (deskOf p o b bytes)))
+unfolding brokenBy brokenBuffer
+breaks-as o made room Closed = comes-as (left-alone made Closed o room) (as-it-was made Closed o)
+breaks-as o made room Asked = ends-as made Asked o room
+breaks-as o made room Replaying = ends-as made Replaying o room
+breaks-as o made room Live = ends-as made Live o room
+
+-- ---- no unit has more messages than the book
+
+at-most-one : (q : Bool) → cond q 1 0 ≤ 1
+at-most-one true = omega arith
+at-most-one false = omega arith
+
+unit-few : {date k : ℕ} {b : Book} {xs : List ℕ} (m : Made date k b xs) (u : ℕ) → ofUnit m u ≤ messages m
+unfolding ofUnit messages
+unit-few opens u = omega arith
+unit-few (books room s m h) u = let i = unit-few m u in let o = at-most-one (eqb (unitOf (framed s)) u) in omega arith
+unit-few (marks room m h) u = unit-few m u
+
+-- ---- opening
+
+module _ (date : ℕ) (d : isDay date ≡ true) (hd : date < 4294967296) where
+  no-refusal : dayRefusal date ≡ 0
+  unfolding dayRefusal
+  no-refusal = rw d
+
+  open-zero : openRefusal date 16 ≡ 0
+  unfolding openRefusal
+  open-zero = rw no-refusal
+
+  opened-book : openOf date 16 ≡ answer 0 (openedBook date)
+  unfolding openOf
+  opened-book = rw open-zero
+
+  pub opened-good : Good date (opened date)
+  opened-good = record { many = 0; made = open-holds date (zeros 16) open-zero .made }
+
+  zero-table : lastOf zeroTable ≡ day.zeros
+  zero-table = fun-ext (λ u. none-yet u)
+
+  opened-bytes : opened date .bytes ≡ markBytes date 0 0
+  unfolding openOf openBuffer
+  opened-bytes =
+      let n = mark-long date 0 0 in
+      let k : 16 ≡ 0 + length (markBytes date 0 0) = omega arith in
+      rw open-zero (ap (λ (i : ℕ). take i (patched (zeros 16) 0 (markBytes date 0 0))) k ∙ patched-take (zeros 16) 0 (markBytes date 0 0) (omega arith))
+
+  pub opened-seen : seen (opened date) ≡ start .member
+  opened-seen =
+      ap₂ (λ (t : Table) (y : List Item). record { phase = closed; table = t; book = y })
+      (ap (λ (a : bookAnswers.Answer). lastOf (a .book .table)) opened-book ∙ zero-table)
+      (let m : Made date 0 (openedBook date) (markBytes date 0 0) = opens in ap items opened-bytes ∙ made-items m)
+
+  -- opening for the day has room for its mark
+  pub opens-well : openOf date 16 .refusal ≡ 0
+  opens-well = ap (λ (a : bookAnswers.Answer). a .refusal) opened-book
+
+  -- and its book holds no message
+  pub opened-empty : day.messages (items (opened date .bytes)) ≡ []
+  opened-empty = ap (λ (x : Member). day.messages (x .book)) opened-seen
+
+  -- ---- a cut and its restart
+
+  -- of the bytes that a cut kept
+  abbrev restartFrom : List ℕ → Desk
+  restartFrom bs = restartedBy date (restarts.restartOf date bs) bs
+
+  -- how many items are kept
+  abbrev pub keptItems : bookAnswers.Answer → List ℕ → ℕ
+  keptItems a bs = cond (eqb (a .refusal) 0) (length (items (take (a .book .length) bs))) 0
+
+  abbrev pub keepsFrom : List ℕ → ℕ
+  keepsFrom bs = keptItems (restarts.restartOf date bs) bs
+
+  abbrev restartsAs : List Item → ℕ → Member
+  restartsAs is n = restarted (restartOf (take n is)) (take n is)
+
+  cut-short : {k : ℕ} {b : Book} {xs : List ℕ} → Made date k b xs → (n : ℕ) → n < 16 → Comes date (restartFrom (take n xs)) (restartsAs (items xs) (keepsFrom (take n xs)))
+  unfolding restartedBy
+  cut-short {xs = xs} made n h =
+      let e = cut-22 date hd d made n h in
+      let q : restartFrom (take n xs) ≡ opened date = ap (λ (a : bookAnswers.Answer). restartedBy date a (take n xs)) e in
+      let r : keepsFrom (take n xs) ≡ 0 = ap (λ (a : bookAnswers.Answer). keptItems a (take n xs)) e in
+      subst (λ (j : ℕ). Comes date (restartFrom (take n xs)) (restartsAs (items xs) j)) (sym r)
+      (comes-as q (record { good = opened-good; is = opened-seen }))
+
+  cut-long : {k : ℕ} {b : Book} {xs : List ℕ} → Made date k b xs → (n : ℕ) → 16 ≤ n → n ≤ length xs → Comes date (restartFrom (take n xs)) (restartsAs (items xs) (keepsFrom (take n xs)))
+  unfolding restartedBy
+  cut-long {xs = xs} made n h l =
+      let c = cut date hd d made n h l in
+      let t : take (c .book .length) (take n xs) ≡ c .kept =
+      ap (λ (i : ℕ). take i (take n xs)) (c .good) ∙ take-take (length (c .kept)) n xs (c .short) ∙ ap (take (length (c .kept))) (c .whole-is) ∙ take-append-seam (c .kept) (c .over-cut) in
+      let q : restartFrom (take n xs) ≡ record { session = closedWith (c .book); bytes = c .kept } =
+      ap (λ (a : bookAnswers.Answer). restartedBy date a (take n xs)) (c .answer-is) ∙ ap (λ (x : List ℕ). record { session = closedWith (c .book); bytes = x }) t in
+      let i = made-items (c .made) in
+      let r : keepsFrom (take n xs) ≡ length (itemsOf (c .made)) =
+      ap (λ (a : bookAnswers.Answer). keptItems a (take n xs)) (c .answer-is) ∙ ap (λ (x : List ℕ). length (items x)) t ∙ ap length i in
+      let w : take (keepsFrom (take n xs)) (items xs) ≡ itemsOf (c .made) =
+      ap₂ (λ (j : ℕ) (x : List ℕ). take j (items x)) r (c .whole-is) ∙ first-items (coded (c .made)) (c .over-cut) in
+      let v : restartsAs (items xs) (keepsFrom (take n xs)) ≡ record { phase = closed; table = lastOf (c .book .table); book = itemsOf (c .made) } =
+      ap (λ (x : List Item). restarted (restartOf x) x) w ∙ ap (λ (x : Restart). restarted x (itemsOf (c .made))) (made-restarts (c .made)) in
+      subst (λ (x : Member). Comes date (restartFrom (take n xs)) x) (sym v)
+      (comes-as q (record {
+        good = record { many = c .items; made = c .made };
+        is = ap (λ (x : List Item). record { phase = closed; table = lastOf (c .book .table); book = x }) i;
+      }))
+
+  cut-within : {k : ℕ} {b : Book} {xs : List ℕ} → Made date k b xs → (n : ℕ) → n ≤ length xs → Comes date (restartFrom (take n xs)) (restartsAs (items xs) (keepsFrom (take n xs)))
+  cut-within made n l = ⊎-elim (λ (h : n < 16). cut-short made n h) (λ (h : 16 ≤ n). cut-long made n h l) (lt-or-le n 16)
+
+  pub cut-as : {k : ℕ} {b : Book} {xs : List ℕ} → Made date k b xs → (n : ℕ) → Comes date (restartFrom (take n xs)) (restartsAs (items xs) (keepsFrom (take n xs)))
+  cut-as {xs = xs} made n =
+      ⊎-elim
+      (λ (h : n < length xs). cut-within made n (omega arith))
+      (λ (h : length xs ≤ n). subst (λ (x : List ℕ). Comes date (restartFrom x) (restartsAs (items xs) (keepsFrom x))) (take-length xs ∙ sym (take-all n xs h)) (cut-within made (length xs) (omega arith)))
+      (lt-or-le n (length xs))
+
+  -- ---- a login
+
+  pub is-closed : (p : Phase) → phaseOf p ≡ closed → isClosed p ≡ true
+  is-closed Closed e = refl
+  is-closed Asked e = let z : _≡_ {A = ℕ} 0 1 = cc in absurd (omega arith)
+  is-closed Replaying e = let z : _≡_ {A = ℕ} 0 1 = cc in absurd (omega arith)
+  is-closed Live e = let z : _≡_ {A = ℕ} 0 1 = cc in absurd (omega arith)
+
+  written : (f : Fields) (room : ℕ) (s : Desk) → writes f room s ≡ true → loginRefusal (s .session) (loginOfTable (s .session .book .table) f) room ≡ 0
+  written f room s w = eqb-true (loginRefusal (s .session) (loginOfTable (s .session .book .table) f) room) 0 w
+
+  pub logged : (f : Fields) (room : ℕ) (s : Desk) → writes f room s ≡ true → login f room s ≡ deskOf Asked (s .session .outgoing) (s .session .book) (s .bytes)
+  unfolding loginOf
+  logged f room s w = rw w
+
+  pub record-written : (f : Fields) (room : ℕ) (s : Desk) → phaseOf (s .session .phase) ≡ closed → writes f room s ≡ true → logins.recordRefusal (loginOfTable (s .session .book .table) f) room ≡ 0
+  unfolding loginRefusal
+  record-written f room s e w = (rw (is-closed (s .session .phase) e) at (written f room s w))
+
+  pub entries-fit : {k : ℕ} {b : Book} {xs : List ℕ} → Made date k b xs → (u : ℕ) → lastOf (b .table) u < 4294967296
+  entries-fit made u = let h = unit-few made u in let b = below made in omega (arith, counted made u, count-is made)
+
+  -- ---- the whole
+
+  pub gets-comes : (room : ℕ) (m : List ℕ) (s : Desk) → Fine m → Good date s → Comes date (gets room m s) (day.got (capOf room) (says m) (seen s))
+  gets-comes room m s f g = gets-as (s .session .outgoing) (g .made) room m f (s .session .phase) (kind-of m f)
+
+  pub ended-comes : (room : ℕ) (s : Desk) → Good date s → Comes date (ended room s) (day.broken (capOf room) (seen s))
+  ended-comes room s g = breaks-as (s .session .outgoing) (g .made) room (s .session .phase)
+
+  -- an order goes out: the book stays
+  pub sent-as : (room : ℕ) (given : List ℕ) (s : Desk) → Good date s → Comes date (sends room given s) (seen s)
+  unfolding orderOf
+  sent-as room given s g = by (eqb (orderRefusal (s .session) given room) 0) refl
+    where
+      by : (q : Bool) → eqb (orderRefusal (s .session) given room) 0 ≡ q → Comes date (sends room given s) (seen s)
+      by true e = rw e (record { good = record { many = g .many; made = g .made }; is = refl })
+      by false e = rw e (record { good = record { many = g .many; made = g .made }; is = refl })
+
+  -- OUR MEMBER is one of the day's
+  unfoldable pub our-member-meets : MeetsMember ourLine (ourMember date)
+  our-member-meets = record {
+    view = seen;
+    Good = Good date;
+    phase-is = λ s. refl;
+    table-is = λ s. refl;
+    new-good = opened-good;
+    new-is = opened-seen;
+    login-good = λ f room s g e w. subst (Good date) (sym (logged f room s w)) (record { many = g .many; made = g .made });
+    login-is = λ f room s g e w. ap seen (logged f room s w);
+    login-ours = λ f room s g e w. record { table = s .session .book .table; fit = entries-fit (g .made); fields = f; room = room; written = record-written f room s e w; is = refl };
+    login-lists = λ f room s g e w. our-lists (record { table = s .session .book .table; fit = entries-fit (g .made); fields = f; room = room; written = record-written f room s e w; is = refl });
+    sends-good = λ room b s g. sent-as room b s g .good;
+    sends-is = λ room b s g. sent-as room b s g .is;
+    cap = capOf;
+    gets-good = λ room b s f g. gets-comes room b s f g .good;
+    gets-is = λ room b s f g. gets-comes room b s f g .is;
+    room-is = λ room b s f g. room-as-told (s .session .outgoing) (g .made) room b f (s .session .phase) (kind-of b f);
+    ended-good = λ room s g. ended-comes room s g .good;
+    ended-is = λ room s g. ended-comes room s g .is;
+    keeps = λ k s. keepsFrom (take k (s .bytes));
+    restart-good = λ k s g r. cut-as (g .made) k .good;
+    restart-is = λ k s g r. cut-as (g .made) k .is;
+  }

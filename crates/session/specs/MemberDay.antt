@@ -1,0 +1,106 @@
+-- The member in the day of demand 3: the session's own calls, with the bytes that its book holds. Definitions alone. Assumes nothing.
+use Prim.Native.Nat.{ℕ, suc, _+_, min}
+use mathlib.Core.Bool.{Bool, true, false, cond, _&&_}
+use mathlib.Core.List.{List, [], _++_}
+use lib.Dec.{eqb, ltb}
+use lib.ListN.{length, take, drop}
+use Rattle.wire.specs.Header.{typeOf, unitOf, numberOf}
+use Rattle.fields.specs.Slots.{zeros}
+use Rattle.table.specs.Table.{lastOf}
+use Rattle.orders.specs.Shapes.{ofVenue}
+use Rattle.logins.specs.Sessions as logins
+use Rattle.book.specs.declared.Book.{Book}
+use Rattle.book.specs.declared.Answer.{Answer}
+use Rattle.book.specs.Books.{limit, blankBook, openOf, openBuffer}
+use Rattle.restart.specs.Restarts as restarts
+use Rattle.day.specs.Model.{Table, closed, asked, replaying, live}
+use Rattle.day.specs.Model as day
+use Rattle.day.specs.Halves.{MemberCode}
+use Rattle.line.specs.Lines.{Fields, loginOfTable}
+use Rattle.line.specs.Lent.{lent, kept}
+use Rattle.session.specs.declared.Phase.{Phase}
+use Rattle.session.specs.declared.Phase.the-variants.{Closed, Asked, Replaying, Live}
+use Rattle.session.specs.declared.Session.{Session}
+use Rattle.session.specs.Sessions.{closedWith, isOpen, receiveOf, receiveBuffer, brokenBy, brokenBuffer, loginRefusal, loginOf, orderOf}
+
+-- the session's state, and the bytes that the book holds
+pub record Desk : Type 0 where
+  pub session : Session
+  pub bytes : List ℕ
+
+-- the desk after a call that lent the book's buffer
+abbrev pub after : Session → ℕ → List ℕ → List ℕ → Desk
+after s room buffer bytes = record { session = s; bytes = kept (s .book .length) room buffer bytes }
+
+-- opening for the day, with room for the mark
+abbrev pub opened : ℕ → Desk
+opened date = record { session = closedWith (openOf date 16 .book); bytes = take (openOf date 16 .book .length) (openBuffer date (zeros 16)) }
+
+-- a message from the venue, with a buffer lent for the book
+abbrev pub gets : ℕ → List ℕ → Desk → Desk
+gets room b d = after (receiveOf (d .session) room b .session) room (receiveBuffer (d .session) (lent room (d .bytes)) b) (d .bytes)
+
+-- a break
+abbrev pub ended : ℕ → Desk → Desk
+ended room d = after (brokenBy (d .session) room) room (brokenBuffer (d .session) (lent room (d .bytes))) (d .bytes)
+
+-- a login with the whole table, into a buffer of so many bytes: whether it is written, the state after it, and the bytes that go out
+abbrev pub writes : Fields → ℕ → Desk → Bool
+writes f room d = eqb (loginRefusal (d .session) (loginOfTable (d .session .book .table) f) room) 0
+
+abbrev pub login : Fields → ℕ → Desk → Desk
+login f room d = record { session = loginOf (d .session) (loginOfTable (d .session .book .table) f) room .session; bytes = d .bytes }
+
+abbrev pub loginBytes : Fields → Desk → List ℕ
+loginBytes f d = logins.sessionBytes (loginOfTable (d .session .book .table) f)
+
+-- an order goes out; a heartbeat changes no state
+abbrev pub sends : ℕ → List ℕ → Desk → Desk
+sends room given d = record { session = orderOf (d .session) given room .session; bytes = d .bytes }
+
+-- a cut that keeps the first k bytes, and the restart for the day: accepted, or 22 and the opening; a book that is refused leaves nothing to run
+abbrev pub pickDesk : Bool → Desk → Desk → Desk
+pickDesk true a b = a
+pickDesk false a b = b
+
+unfoldable pub restartedBy : ℕ → Answer → List ℕ → Desk
+restartedBy date a bytes =
+    pickDesk (eqb (a .refusal) 0) (record { session = closedWith (a .book); bytes = take (a .book .length) bytes })
+    (pickDesk (eqb (a .refusal) 22) (opened date)
+    (record { session = closedWith blankBook; bytes = [] }))
+
+abbrev pub restart : ℕ → ℕ → Desk → Desk
+restart date k d = restartedBy date (restarts.restartOf date (take k (d .bytes))) (take k (d .bytes))
+
+-- 01, Session and replay: a message is accepted exactly when its number is the entry plus one and the book has room. Refused for room: in a phase
+-- that takes it, with that number, and the buffer or the limit too short for it
+unfoldable pub refusedForRoom : ℕ → List ℕ → Desk → Bool
+refusedForRoom room b d =
+    isOpen (d .session .phase)
+    && (ofVenue (typeOf b)
+    && (eqb (numberOf b) (suc (lastOf (d .session .book .table) (unitOf b)))
+    && ltb (min room limit) (length (d .bytes) + length b)))
+
+abbrev pub phaseOf : Phase → day.Phase
+phaseOf Closed = closed
+phaseOf Asked = asked
+phaseOf Replaying = replaying
+phaseOf Live = live
+
+-- the member's part in the day
+abbrev pub ourMember : ℕ → MemberCode
+ourMember date = record {
+  State = Desk;
+  phase = λ d. phaseOf (d .session .phase);
+  table = λ d. lastOf (d .session .book .table);
+  new = opened date;
+  Fields = Fields;
+  writes = writes;
+  login = login;
+  loginBytes = loginBytes;
+  gets = gets;
+  sends = sends;
+  noRoom = refusedForRoom;
+  ended = ended;
+  restart = restart date;
+}

@@ -1,0 +1,284 @@
+-- How the session's calls go on, stage by stage. Assumes nothing.
+use mathlib.Core.Path.{_≡_, refl, sym, ap, ap₂, _∙_}
+use mathlib.Core.Bool.{Bool, true, false, cond, _||_, true≢false}
+use mathlib.Core.List.{List}
+use Prim.Native.Nat.{ℕ}
+use native.Mathlib.Omega.{arith}
+use lib.Dec.{eqb}
+use lib.ListN.{length}
+use borrow.Author.Tests.{eq-eqb, ne-eqb, eqb-true}
+use Rattle.numbers.specs.Numbers.{patched}
+use Rattle.wire.specs.Header.{typeOf}
+use Rattle.wire.specs.Frame.{framed}
+use Rattle.orders.specs.Shapes as orderTypes
+use Rattle.logins.specs.declared.Record as sessionRecords
+use Rattle.logins.specs.Sessions as logins
+use Rattle.messages.specs.Messages.{readRefusal}
+use Rattle.book.specs.declared.Book.{Book}
+use Rattle.book.specs.declared.Answer.{Answer as BookAnswer}
+use Rattle.book.specs.Books as books
+use Rattle.book.specs.Books.{pickAnswer, appendRefusal, appendedBy, appendOf, appendBuffer, closeBuffer}
+use Rattle.session.specs.declared.Phase.{Phase}
+use Rattle.session.specs.declared.Phase.the-variants.{Closed, Asked, Replaying, Live}
+use Rattle.session.specs.declared.Session.{Session}
+use Rattle.session.specs.declared.Answer.{Answer}
+use Rattle.session.specs.Sessions.{pickSession, answer, answered, inPhase, withBook, isClosed, isAsked, isOpen, passes, endedBy, brokenBy, brokenBuffer, respondedBy, respondedBuffer, responseRefusal, responseOf, responseBuffer, statusIn, receivedIn, messageRefusal, messageOf, messageBuffer, receiveRefusal, receivedBy, receiveOf, receivedBuffer, receiveBuffer, loginRefusal, loginOf, loginOut, heartbeatRecord, heartbeatRefusal, heartbeatOf, heartbeatOut}
+use Rattle.session.specs.Stages.{heardBy, heardBuffer}
+
+-- ---- answers
+
+-- of a call whose refusal is k and whose state after it would be `after`
+module _ (k : ℕ) (after s : Session) where
+  -- a refusal: the state as it was
+  pub refuses : {n : ℕ} → n ≡ k → (n ≡ 0 → ⊥) → answer n s ≡ answered k after s
+  refuses e z = ap (λ (x : ℕ). answer x s) e ∙ sym (ap (λ (b : Bool). answer k (pickSession b after s)) (ne-eqb k 0 (λ y. z (e ∙ y))))
+
+  -- none: the state after the call
+  pub accepts : {now : Session} → k ≡ 0 → now ≡ after → answer 0 now ≡ answered k after s
+  accepts z e = ap (answer 0) e ∙ sym (ap (λ (x : ℕ). answered x after s) z)
+
+-- ---- the session's end
+
+module _ (s : Session) (xs : List ℕ) where
+  pub stays-closed : isClosed (s .phase) ≡ true → (s ≡ brokenBy s (length xs)) × (xs ≡ brokenBuffer s xs)
+  unfolding brokenBy brokenBuffer
+  stays-closed e = (sym (ap (λ (b : Bool). pickSession b s (endedBy s (length xs))) e), rw e)
+
+  pub breaks : isClosed (s .phase) ≡ false → {a : Session} {out : List ℕ} → a ≡ endedBy s (length xs) → out ≡ closeBuffer (s .book) xs
+      → (a ≡ brokenBy s (length xs)) × (out ≡ brokenBuffer s xs)
+  unfolding brokenBy brokenBuffer
+  breaks e p q = (p ∙ sym (ap (λ (b : Bool). pickSession b s (endedBy s (length xs))) e), q ∙ rw e)
+
+-- ---- a Login Response
+
+module _ (s : Session) (status received : ℕ) (xs : List ℕ) where
+  replays : Session
+  replays = record { phase = Replaying; outgoing = record { 0 = received }; book = s .book }
+
+  pub allowed : status ≡ 65 → (record { phase = Replaying; outgoing = record { 0 = received }; book = s .book } ≡ respondedBy s status received (length xs)) × (xs ≡ respondedBuffer s status xs)
+  unfolding respondedBy respondedBuffer replays
+  allowed e = (sym (ap (λ (b : Bool). pickSession b replays (endedBy s (length xs))) (eq-eqb status 65 e)), rw (eq-eqb status 65 e))
+
+  pub denied : (status ≡ 65 → ⊥) → {a : Session} {out : List ℕ} → a ≡ endedBy s (length xs) → out ≡ closeBuffer (s .book) xs
+      → (a ≡ respondedBy s status received (length xs)) × (out ≡ respondedBuffer s status xs)
+  unfolding respondedBy respondedBuffer replays
+  denied n p q = (p ∙ sym (ap (λ (b : Bool). pickSession b replays (endedBy s (length xs))) (ne-eqb status 65 n)), q ∙ rw (ne-eqb status 65 n))
+
+  pub responds : isAsked (s .phase) ≡ true → {a : Session} {out : List ℕ} → a ≡ respondedBy s status received (length xs) → out ≡ respondedBuffer s status xs
+      → (answer 0 a ≡ responseOf s status received (length xs)) × (out ≡ responseBuffer s status xs)
+  unfolding responseOf responseBuffer
+  responds e p q = (accepts (responseRefusal s) (respondedBy s status received (length xs)) s (rw e) p, q ∙ rw e)
+
+  pub unasked : isAsked (s .phase) ≡ false → (answer 16 s ≡ responseOf s status received (length xs)) × (xs ≡ responseBuffer s status xs)
+  unfolding responseOf responseBuffer
+  unasked e = (refuses (responseRefusal s) (respondedBy s status received (length xs)) s (rw e) (λ z. omega (arith, z)), rw e)
+
+-- ---- an application message
+
+module _ (s : Session) (xs bytes : List ℕ) where
+  booked : (k : ℕ) (b : Book) (t : Bool) → eqb k 0 ≡ t
+      → answer (pickAnswer t (books.answer 0 b) (books.answer k (s .book)) .refusal) (withBook s (pickAnswer t (books.answer 0 b) (books.answer k (s .book)) .book))
+      ≡ answer k (pickSession t (withBook s b) s)
+  booked k b true z = ap (λ (x : ℕ). answer x (withBook s b)) (sym (eqb-true k 0 z))
+  booked k b false z = refl
+
+  pub books-it : isOpen (s .phase) ≡ true → {a : BookAnswer} {out : List ℕ} → a ≡ appendOf (s .book) (length xs) bytes → out ≡ appendBuffer (s .book) xs bytes
+      → (answer (a .refusal) (withBook s (a .book)) ≡ messageOf s (length xs) bytes) × (out ≡ messageBuffer s xs bytes)
+  unfolding messageOf messageRefusal messageBuffer appendOf
+  books-it e p q =
+      let k = appendRefusal (s .book) (length xs) bytes in
+      let b = appendedBy (s .book) (framed bytes) in
+      (ap (λ (a : BookAnswer). answer (a .refusal) (withBook s (a .book))) p ∙ booked k b (eqb k 0) refl ∙ sym (ap (λ (t : Bool). answered (cond t k 16) (withBook s b) s) e), q ∙ rw e)
+
+  pub unopened : isOpen (s .phase) ≡ false → (answer 16 s ≡ messageOf s (length xs) bytes) × (xs ≡ messageBuffer s xs bytes)
+  unfolding messageOf messageRefusal messageBuffer
+  unopened e = (refuses (messageRefusal s (length xs) bytes) (withBook s (appendedBy (s .book) (framed bytes))) s (rw e) (λ z. omega (arith, z)), rw e)
+
+-- ---- a session message
+
+module _ (s : Session) (xs m : List ℕ) where
+  pub hears-response : typeOf m ≡ 0x24 → {a : Session} {out : List ℕ} → a ≡ respondedBy s (statusIn m) (receivedIn m) (length xs) → out ≡ respondedBuffer s (statusIn m) xs
+      → (a ≡ heardBy s (length xs) m) × (out ≡ heardBuffer s xs m)
+  unfolding heardBy heardBuffer
+  hears-response e p q = (p ∙ rw e, q ∙ rw e)
+
+  pub hears-complete : typeOf m ≡ 0x13 → {a : Session} → a ≡ inPhase Live s → (a ≡ heardBy s (length xs) m) × (xs ≡ heardBuffer s xs m)
+  unfolding heardBy heardBuffer
+  hears-complete e p = (p ∙ rw e, rw e)
+
+  pub hears-logout : typeOf m ≡ 0x08 → {a : Session} {out : List ℕ} → a ≡ endedBy s (length xs) → out ≡ closeBuffer (s .book) xs
+      → (a ≡ heardBy s (length xs) m) × (out ≡ heardBuffer s xs m)
+  unfolding heardBy heardBuffer
+  hears-logout e p q = (p ∙ rw e, q ∙ rw e)
+
+  pub hears-else : (typeOf m ≡ 0x24 → ⊥) → (typeOf m ≡ 0x13 → ⊥) → (typeOf m ≡ 0x08 → ⊥) → (s ≡ heardBy s (length xs) m) × (xs ≡ heardBuffer s xs m)
+  unfolding heardBy heardBuffer
+  hears-else a b d =
+      let x = ne-eqb (typeOf m) 0x24 a in
+      let y = ne-eqb (typeOf m) 0x13 b in
+      let z = ne-eqb (typeOf m) 0x08 d in
+      (rw (x, y, z), rw (x, y, z))
+
+-- ---- any bytes from the venue
+
+-- an application message passes while replaying or live
+pub open-passes : (p : Phase) (t : ℕ) → passes p t ≡ true → orderTypes.ofVenue t ≡ true → isOpen p ≡ true
+unfolding passes
+open-passes Closed t e v = absurd (true≢false (sym e))
+open-passes Asked t e v = by (eqb t 0x24) refl (eqb t 0x08) refl e
+  where
+    by : (a : Bool) → eqb t 0x24 ≡ a → (b : Bool) → eqb t 0x08 ≡ b → (a || b) ≡ true → false ≡ true
+    by true x b y e = let q : t ≡ 0x24 = eqb-true t 0x24 x in rw q at v
+    by false x true y e = let q : t ≡ 0x08 = eqb-true t 0x08 y in rw q at v
+    by false x false y e = e
+open-passes Replaying t e v = refl
+open-passes Live t e v = refl
+
+only : (b : Bool) → (b || false) ≡ true → b ≡ true
+only true h = refl
+only false h = h
+
+-- a session message that passes and is none of the other three is a heartbeat
+pub heartbeat-passes : (p : Phase) (t : ℕ) → passes p t ≡ true → orderTypes.ofVenue t ≡ false → eqb t 0x24 ≡ false → eqb t 0x13 ≡ false → eqb t 0x08 ≡ false → eqb t 0x09 ≡ true
+unfolding passes
+heartbeat-passes Closed t e v a b d = absurd (true≢false (sym e))
+heartbeat-passes Asked t e v a b d = let q : false ≡ true = rw (a, d) at e in absurd (true≢false (sym q))
+heartbeat-passes Replaying t e v a b d = only (eqb t 0x09) (rw (v, b, d) at e)
+heartbeat-passes Live t e v a b d = only (eqb t 0x09) (rw (v, d) at e)
+
+-- an application message's type is none of the session messages'
+pub venue-else : (t : ℕ) → orderTypes.ofVenue t ≡ true → (eqb t 0x24 ≡ false) × (eqb t 0x13 ≡ false) × (eqb t 0x08 ≡ false) × (eqb t 0x09 ≡ false)
+venue-else t v = by (eqb t 0x25) refl (eqb t 0x2C) refl v
+  where
+    by : (a : Bool) → eqb t 0x25 ≡ a → (b : Bool) → eqb t 0x2C ≡ b → (a || b) ≡ true → (eqb t 0x24 ≡ false) × (eqb t 0x13 ≡ false) × (eqb t 0x08 ≡ false) × (eqb t 0x09 ≡ false)
+    by true x b y e = let q : t ≡ 0x25 = eqb-true t 0x25 x in rw q (refl, refl, refl, refl)
+    by false x true y e = let q : t ≡ 0x2C = eqb-true t 0x2C y in rw q (refl, refl, refl, refl)
+    by false x false y e = absurd (true≢false (sym e))
+
+module _ (s : Session) (m : List ℕ) (v : orderTypes.ofVenue (typeOf m) ≡ true) where
+  pub received-books : (room : ℕ) → receivedBy s room m ≡ withBook s (appendedBy (s .book) m)
+  unfolding receivedBy
+  received-books room = let n = venue-else (typeOf m) v in rw (n .0, n .1, n .2, n .3)
+
+  pub received-appends : (xs : List ℕ) → receivedBuffer s xs m ≡ patched xs (s .book .length) m
+  unfolding receivedBuffer
+  received-appends xs = let n = venue-else (typeOf m) v in rw (n .0, n .1, n .2, n .3)
+
+module _ (s : Session) (m : List ℕ) (e : passes (s .phase) (typeOf m) ≡ true) (v : orderTypes.ofVenue (typeOf m) ≡ false) where
+  pub received-heard : (room : ℕ) → heardBy s room m ≡ receivedBy s room m
+  unfolding heardBy receivedBy
+  received-heard room = by (eqb (typeOf m) 0x24) refl (eqb (typeOf m) 0x13) refl (eqb (typeOf m) 0x08) refl
+    where
+      by : (a : Bool) → eqb (typeOf m) 0x24 ≡ a → (b : Bool) → eqb (typeOf m) 0x13 ≡ b → (d : Bool) → eqb (typeOf m) 0x08 ≡ d
+          → pickSession a (respondedBy s (statusIn m) (receivedIn m) room) (pickSession b (inPhase Live s) (pickSession d (endedBy s room) s))
+          ≡ pickSession a (respondedBy s (statusIn m) (receivedIn m) room) (pickSession b (inPhase Live s) (pickSession d (endedBy s room) (pickSession (eqb (typeOf m) 0x09) s (withBook s (appendedBy (s .book) m)))))
+      by true x b y d z = refl
+      by false x true y d z = refl
+      by false x false y true z = refl
+      by false x false y false z = sym (ap (λ (t : Bool). pickSession t s (withBook s (appendedBy (s .book) m))) (heartbeat-passes (s .phase) (typeOf m) e v x y z))
+
+  pub received-kept : (xs : List ℕ) → heardBuffer s xs m ≡ receivedBuffer s xs m
+  unfolding heardBuffer receivedBuffer
+  received-kept xs = by (eqb (typeOf m) 0x24) refl (eqb (typeOf m) 0x13) refl (eqb (typeOf m) 0x08) refl
+    where
+      by : (a : Bool) → eqb (typeOf m) 0x24 ≡ a → (b : Bool) → eqb (typeOf m) 0x13 ≡ b → (d : Bool) → eqb (typeOf m) 0x08 ≡ d
+          → cond a (respondedBuffer s (statusIn m) xs) (cond b xs (cond d (closeBuffer (s .book) xs) xs))
+          ≡ cond a (respondedBuffer s (statusIn m) xs) (cond b xs (cond d (closeBuffer (s .book) xs) (cond (eqb (typeOf m) 0x09) xs (patched xs (s .book .length) m))))
+      by true x b y d z = refl
+      by false x true y d z = refl
+      by false x false y true z = refl
+      by false x false y false z = sym (ap (λ (t : Bool). cond t xs (patched xs (s .book .length) m)) (heartbeat-passes (s .phase) (typeOf m) e v x y z))
+
+-- what receiving answers
+abbrev pub Receives : Session → List ℕ → List ℕ → Answer → List ℕ → Type 0
+Receives s xs bytes a out = (a ≡ receiveOf s (length xs) bytes) × (out ≡ receiveBuffer s xs bytes)
+
+module _ (s : Session) (xs bytes : List ℕ) where
+  unreceived : {n : ℕ} → n ≡ receiveRefusal s (length xs) bytes → (n ≡ 0 → ⊥) → Receives s xs bytes (answer n s) xs
+  unfolding receiveOf receiveBuffer
+  unreceived e k = (refuses (receiveRefusal s (length xs) bytes) (receivedBy s (length xs) (framed bytes)) s e k, rw (ne-eqb (receiveRefusal s (length xs) bytes) 0 (λ z. k (e ∙ z))))
+
+  pub deaf : isClosed (s .phase) ≡ true → Receives s xs bytes (answer 16 s) xs
+  unfolding receiveRefusal
+  deaf e =
+      let q : 16 ≡ receiveRefusal s (length xs) bytes = rw e in
+      unreceived q (λ z. omega (arith, z))
+
+  module _ (c : isClosed (s .phase) ≡ false) where
+    pub unreadable : {n : ℕ} → n ≡ readRefusal 1 bytes → (n ≡ 0 → ⊥) → Receives s xs bytes (answer n s) xs
+    unfolding receiveRefusal
+    unreadable {n} e k =
+        let q : n ≡ receiveRefusal s (length xs) bytes = rw (c, ne-eqb (readRefusal 1 bytes) 0 (λ z. k (e ∙ z))) e in
+        unreceived q k
+
+    module _ (z : readRefusal 1 bytes ≡ 0) where
+      pub untimely : passes (s .phase) (typeOf (framed bytes)) ≡ false → Receives s xs bytes (answer 16 s) xs
+      unfolding receiveRefusal
+      untimely e =
+          let q : 16 ≡ receiveRefusal s (length xs) bytes = rw (c, eq-eqb (readRefusal 1 bytes) 0 z, e) in
+          unreceived q (λ y. omega (arith, y))
+
+      module _ (e : passes (s .phase) (typeOf (framed bytes)) ≡ true) where
+        pub application-refusal : orderTypes.ofVenue (typeOf (framed bytes)) ≡ true → receiveRefusal s (length xs) bytes ≡ appendRefusal (s .book) (length xs) bytes
+        unfolding receiveRefusal
+        application-refusal v = rw (c, eq-eqb (readRefusal 1 bytes) 0 z, e, v)
+
+        pub session-refusal : orderTypes.ofVenue (typeOf (framed bytes)) ≡ false → receiveRefusal s (length xs) bytes ≡ 0
+        unfolding receiveRefusal
+        session-refusal v = rw (c, eq-eqb (readRefusal 1 bytes) 0 z, e, v)
+
+        pub by-message : orderTypes.ofVenue (typeOf (framed bytes)) ≡ true → {a : Answer} {out : List ℕ} → (a ≡ messageOf s (length xs) bytes) × (out ≡ messageBuffer s xs bytes)
+            → Receives s xs bytes a out
+        unfolding messageOf messageRefusal messageBuffer receiveOf receiveBuffer appendBuffer
+        by-message v p =
+            let k = application-refusal v in
+            let o = open-passes (s .phase) (typeOf (framed bytes)) e v in (
+              p .0
+                  ∙ ap (λ (t : Bool). answered (cond t (appendRefusal (s .book) (length xs) bytes) 16) (withBook s (appendedBy (s .book) (framed bytes))) s) o
+                  ∙ ap₂ (λ (n : ℕ) (w : Session). answered n w s) (sym k) (sym (received-books s (framed bytes) v (length xs))),
+              p .1
+                  ∙ rw o (rw (k, received-appends s (framed bytes) v xs)),
+            )
+
+        pub by-session : orderTypes.ofVenue (typeOf (framed bytes)) ≡ false → {a : Session} {out : List ℕ} → (a ≡ heardBy s (length xs) (framed bytes)) × (out ≡ heardBuffer s xs (framed bytes))
+            → Receives s xs bytes (answer 0 a) out
+        unfolding receiveOf receiveBuffer
+        by-session v p =
+            let k = session-refusal v in
+            (accepts (receiveRefusal s (length xs) bytes) (receivedBy s (length xs) (framed bytes)) s k (p .0 ∙ received-heard s (framed bytes) e v (length xs)), p .1 ∙ received-kept s (framed bytes) e v xs ∙ rw k)
+
+-- ---- a login
+
+module _ (s : Session) (r : sessionRecords.Record) (out : List ℕ) where
+  module _ (c : isClosed (s .phase) ≡ true) {n : ℕ} {to : List ℕ} (w : (n ≡ logins.recordRefusal r (length out)) × (to ≡ logins.recordBuffer r out)) where
+    login-refusal-is : n ≡ loginRefusal s r (length out)
+    unfolding loginRefusal
+    login-refusal-is = w .0 ∙ rw c
+
+    login-out-is : to ≡ loginOut s r out
+    unfolding loginOut
+    login-out-is = w .1 ∙ rw c
+
+    pub login-refused : (n ≡ 0 → ⊥) → (answer n s ≡ loginOf s r (length out)) × (to ≡ loginOut s r out)
+    unfolding loginOf
+    login-refused k = (refuses (loginRefusal s r (length out)) (inPhase Asked s) s login-refusal-is k, login-out-is)
+
+    pub logs-in : n ≡ 0 → {a : Session} → a ≡ inPhase Asked s → (answer 0 a ≡ loginOf s r (length out)) × (to ≡ loginOut s r out)
+    unfolding loginOf
+    logs-in z p = (accepts (loginRefusal s r (length out)) (inPhase Asked s) s (sym login-refusal-is ∙ z) p, login-out-is)
+
+  pub no-login : isClosed (s .phase) ≡ false → (answer 16 s ≡ loginOf s r (length out)) × (out ≡ loginOut s r out)
+  unfolding loginOf loginRefusal loginOut
+  no-login c = (refuses (loginRefusal s r (length out)) (inPhase Asked s) s (rw c) (λ z. omega (arith, z)), rw c)
+
+-- ---- a heartbeat
+
+module _ (s : Session) (out : List ℕ) where
+  pub beats : isOpen (s .phase) ≡ true → {n : ℕ} {to : List ℕ} → (n ≡ logins.recordRefusal heartbeatRecord (length out)) × (to ≡ logins.recordBuffer heartbeatRecord out)
+      → (answer n s ≡ heartbeatOf s (length out)) × (to ≡ heartbeatOut s out)
+  unfolding heartbeatOf heartbeatRefusal heartbeatOut
+  beats e w = (ap (λ (x : ℕ). answer x s) (w .0 ∙ rw e), w .1 ∙ rw e)
+
+  pub no-beat : isOpen (s .phase) ≡ false → (answer 16 s ≡ heartbeatOf s (length out)) × (out ≡ heartbeatOut s out)
+  unfolding heartbeatOf heartbeatRefusal heartbeatOut
+  no-beat e = (ap (λ (x : ℕ). answer x s) (rw e), rw e)

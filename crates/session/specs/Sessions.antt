@@ -1,0 +1,224 @@
+-- The member's session: its phases, and what each call answers and leaves behind. Definitions alone. Assumes nothing.
+use Prim.Native.Nat.{ℕ, _+_}
+use mathlib.Core.Bool.{Bool, true, false, cond, _||_}
+use mathlib.Core.List.{List}
+use lib.Dec.{eqb, ltb}
+use lib.ListN.{length, getD}
+use Rattle.refusals.specs.Names.{unknownType, noRoom, outOfPhase, numbersUsedUp}
+use Rattle.numbers.specs.Numbers.{numberAt, patched}
+use Rattle.wire.specs.Header.{typeOf}
+use Rattle.wire.specs.Frame.{framed}
+use Rattle.fields.specs.Slots.{zeros}
+use Rattle.orders.specs.Shapes as orderTypes
+use Rattle.orders.specs.declared.Record as orderRecords
+use Rattle.orders.specs.Orders as orders
+use Rattle.records.specs.Records.{recordAt}
+use Rattle.logins.specs.declared.Record as sessionRecords
+use Rattle.logins.specs.Sessions as logins
+use Rattle.messages.specs.Messages.{readRefusal}
+use Rattle.book.specs.declared.Book.{Book}
+use Rattle.book.specs.Books.{appendRefusal, appendedBy, appendBuffer, closeOf, closeBuffer}
+use Rattle.session.specs.declared.Phase.{Phase}
+use Rattle.session.specs.declared.Phase.the-variants.{Closed, Asked, Replaying, Live}
+use Rattle.session.specs.declared.Session.{Session}
+use Rattle.session.specs.declared.Answer.{Answer}
+
+abbrev pub pickSession : Bool → Session → Session → Session
+pickSession true a b = a
+pickSession false a b = b
+
+abbrev pub answer : ℕ → Session → Answer
+answer n s = record { refusal = n; session = s }
+
+-- a call whose refusal is n: the state after it, or the state as it was
+abbrev pub answered : ℕ → Session → Session → Answer
+answered n after before = answer n (pickSession (eqb n 0) after before)
+
+-- 01, The day book: after opening and after a restart the session is closed; no order has gone out yet
+abbrev pub closedWith : Book → Session
+closedWith b = record { phase = Closed; outgoing = record { 0 = 0 }; book = b }
+
+abbrev pub inPhase : Phase → Session → Session
+inPhase p s = record { phase = p; outgoing = s .outgoing; book = s .book }
+
+abbrev pub withBook : Session → Book → Session
+withBook s b = record { phase = s .phase; outgoing = s .outgoing; book = b }
+
+-- ---- the phases
+
+abbrev pub isClosed : Phase → Bool
+isClosed Closed = true
+isClosed Asked = false
+isClosed Replaying = false
+isClosed Live = false
+
+abbrev pub isAsked : Phase → Bool
+isAsked Closed = false
+isAsked Asked = true
+isAsked Replaying = false
+isAsked Live = false
+
+abbrev pub isLive : Phase → Bool
+isLive Closed = false
+isLive Asked = false
+isLive Replaying = false
+isLive Live = true
+
+-- replaying or live
+abbrev pub isOpen : Phase → Bool
+isOpen Closed = false
+isOpen Asked = false
+isOpen Replaying = true
+isOpen Live = true
+
+-- 01, Session and replay: what passes in a phase. A Logout passes in every phase but closed.
+unfoldable pub passes : Phase → ℕ → Bool
+passes Closed message = false
+passes Asked message = eqb message 0x24 || eqb message 0x08
+passes Replaying message = orderTypes.ofVenue message || (eqb message 0x09 || (eqb message 0x13 || eqb message 0x08))
+passes Live message = orderTypes.ofVenue message || (eqb message 0x09 || eqb message 0x08)
+
+-- ---- the session's end
+
+-- closed, with a mark in the book if there is room for it
+unfoldable pub endedBy : Session → ℕ → Session
+endedBy s room = record { phase = Closed; outgoing = s .outgoing; book = closeOf (s .book) room }
+
+-- a break: while closed it changes nothing
+unfoldable pub brokenBy : Session → ℕ → Session
+brokenBy s room = pickSession (isClosed (s .phase)) s (endedBy s room)
+
+unfoldable pub brokenBuffer : Session → List ℕ → List ℕ
+brokenBuffer s xs = cond (isClosed (s .phase)) xs (closeBuffer (s .book) xs)
+
+-- ---- a Login Response: status A leads to replaying and brings the number from which the orders go on; any other ends the session
+
+unfoldable pub respondedBy : Session → ℕ → ℕ → ℕ → Session
+respondedBy s status received room =
+    pickSession (eqb status 65) (record { phase = Replaying; outgoing = record { 0 = received }; book = s .book }) (endedBy s room)
+
+unfoldable pub respondedBuffer : Session → ℕ → List ℕ → List ℕ
+respondedBuffer s status xs = cond (eqb status 65) xs (closeBuffer (s .book) xs)
+
+-- 16 unless asked
+abbrev pub responseRefusal : Session → ℕ
+responseRefusal s = cond (isAsked (s .phase)) 0 outOfPhase
+
+unfoldable pub responseOf : Session → ℕ → ℕ → ℕ → Answer
+responseOf s status received room = answered (responseRefusal s) (respondedBy s status received room) s
+
+unfoldable pub responseBuffer : Session → ℕ → List ℕ → List ℕ
+responseBuffer s status xs = cond (isAsked (s .phase)) (respondedBuffer s status xs) xs
+
+-- where they stand in a Login Response
+abbrev pub statusIn : List ℕ → ℕ
+statusIn m = getD m 10 0
+
+abbrev pub receivedIn : List ℕ → ℕ
+receivedIn m = numberAt 4 72 m
+
+-- ---- an application message: 16 unless replaying or live, then the book's
+
+unfoldable pub messageRefusal : Session → ℕ → List ℕ → ℕ
+messageRefusal s room bytes = cond (isOpen (s .phase)) (appendRefusal (s .book) room bytes) outOfPhase
+
+unfoldable pub messageOf : Session → ℕ → List ℕ → Answer
+messageOf s room bytes = answered (messageRefusal s room bytes) (withBook s (appendedBy (s .book) (framed bytes))) s
+
+unfoldable pub messageBuffer : Session → List ℕ → List ℕ → List ℕ
+messageBuffer s xs bytes = cond (isOpen (s .phase)) (appendBuffer (s .book) xs bytes) xs
+
+-- ---- any bytes from the venue
+
+-- 01, Session and replay: 16 if closed; the reading refusals; 16 for a type out of phase; then 14, 15, 13 of an application message
+unfoldable pub receiveRefusal : Session → ℕ → List ℕ → ℕ
+receiveRefusal s room bytes =
+    cond (isClosed (s .phase)) outOfPhase
+    (cond (eqb (readRefusal 1 bytes) 0)
+    (cond (passes (s .phase) (typeOf (framed bytes)))
+    (cond (orderTypes.ofVenue (typeOf (framed bytes))) (appendRefusal (s .book) room bytes) 0)
+    outOfPhase)
+    (readRefusal 1 bytes))
+
+-- the state after a message m that passes: a Login Response, Replay Complete, a Logout, a heartbeat, an application message
+unfoldable pub receivedBy : Session → ℕ → List ℕ → Session
+receivedBy s room m =
+    pickSession (eqb (typeOf m) 0x24) (respondedBy s (statusIn m) (receivedIn m) room)
+    (pickSession (eqb (typeOf m) 0x13) (inPhase Live s)
+    (pickSession (eqb (typeOf m) 0x08) (endedBy s room)
+    (pickSession (eqb (typeOf m) 0x09) s
+    (withBook s (appendedBy (s .book) m)))))
+
+unfoldable pub receiveOf : Session → ℕ → List ℕ → Answer
+receiveOf s room bytes = answered (receiveRefusal s room bytes) (receivedBy s room (framed bytes)) s
+
+-- the book's buffer after it
+unfoldable pub receivedBuffer : Session → List ℕ → List ℕ → List ℕ
+receivedBuffer s xs m =
+    cond (eqb (typeOf m) 0x24) (respondedBuffer s (statusIn m) xs)
+    (cond (eqb (typeOf m) 0x13) xs
+    (cond (eqb (typeOf m) 0x08) (closeBuffer (s .book) xs)
+    (cond (eqb (typeOf m) 0x09) xs
+    (patched xs (s .book .length) m))))
+
+unfoldable pub receiveBuffer : Session → List ℕ → List ℕ → List ℕ
+receiveBuffer s xs bytes = cond (eqb (receiveRefusal s (length xs) bytes) 0) (receivedBuffer s xs (framed bytes)) xs
+
+-- ---- what goes out
+
+-- a login, of which r is the record: 16 unless closed, then the writer's
+unfoldable pub loginRefusal : Session → sessionRecords.Record → ℕ → ℕ
+loginRefusal s r room = cond (isClosed (s .phase)) (logins.recordRefusal r room) outOfPhase
+
+unfoldable pub loginOf : Session → sessionRecords.Record → ℕ → Answer
+loginOf s r room = answered (loginRefusal s r room) (inPhase Asked s) s
+
+unfoldable pub loginOut : Session → sessionRecords.Record → List ℕ → List ℕ
+loginOut s r out = cond (isClosed (s .phase)) (logins.recordBuffer r out) out
+
+-- a heartbeat: 16 unless replaying or live, then the writer's
+abbrev pub heartbeatRecord : sessionRecords.Record
+heartbeatRecord = record { message = 0x03; unit = 0; number = 0; body = zeros 433 }
+
+unfoldable pub heartbeatRefusal : Session → ℕ → ℕ
+heartbeatRefusal s room = cond (isOpen (s .phase)) (logins.recordRefusal heartbeatRecord room) outOfPhase
+
+unfoldable pub heartbeatOf : Session → ℕ → Answer
+heartbeatOf s room = answer (heartbeatRefusal s room) s
+
+unfoldable pub heartbeatOut : Session → List ℕ → List ℕ
+heartbeatOut s out = cond (isOpen (s .phase)) (logins.recordBuffer heartbeatRecord out) out
+
+-- an order, of which the first 235 bytes given are the record: it goes out under the next outgoing number
+abbrev pub numbered : List ℕ → ℕ → orderRecords.Record
+numbered given n =
+    record {
+      message = recordAt given .message;
+      unit = recordAt given .unit;
+      number = n;
+      fixed = recordAt given .fixed;
+      count = recordAt given .count;
+      bits = recordAt given .bits;
+      slots = recordAt given .slots;
+    }
+
+abbrev pub nextOutgoing : Session → ℕ
+nextOutgoing s = s .outgoing .0 + 1
+
+-- 16 unless live; 20; 13 if the record is under 235 bytes; 4 if it is not an order's; then the writer's
+unfoldable pub orderRefusal : Session → List ℕ → ℕ → ℕ
+orderRefusal s given room =
+    cond (isLive (s .phase))
+    (cond (eqb (s .outgoing .0) 4294967295) numbersUsedUp
+    (cond (ltb (length given) 235) noRoom
+    (cond (orderTypes.ofMember (getD given 0 0)) (orders.writeRefusal (numbered given (nextOutgoing s)) room)
+    unknownType)))
+    outOfPhase
+
+-- the number is used up only by an order that was written
+unfoldable pub orderOf : Session → List ℕ → ℕ → Answer
+orderOf s given room =
+    answered (orderRefusal s given room) (record { phase = s .phase; outgoing = record { 0 = nextOutgoing s }; book = s .book }) s
+
+unfoldable pub orderOut : Session → List ℕ → List ℕ → List ℕ
+orderOut s given out = cond (eqb (orderRefusal s given (length out)) 0) (patched out 0 (orders.orderBytes (numbered given (nextOutgoing s)))) out

@@ -1,0 +1,38 @@
+-- The stages of the session's calls, as its functions have them. Definitions alone. Assumes nothing.
+use Prim.Native.Nat.{ℕ}
+use mathlib.Core.Bool.{cond}
+use mathlib.Core.List.{List}
+use lib.Dec.{eqb, ltb}
+use lib.ListN.{length, getD}
+use Rattle.refusals.specs.Names.{unknownType, noRoom, outOfPhase, numbersUsedUp}
+use Rattle.wire.specs.Header.{typeOf}
+use Rattle.orders.specs.Shapes as orderTypes
+use Rattle.book.specs.Books.{closeBuffer}
+use Rattle.session.specs.declared.Phase.the-variants.{Live}
+use Rattle.session.specs.declared.Session.{Session}
+use Rattle.session.specs.Sessions.{pickSession, inPhase, isLive, endedBy, respondedBy, respondedBuffer, statusIn, receivedIn}
+
+-- the state after a session message m that passes, and the book's buffer
+unfoldable pub heardBy : Session → ℕ → List ℕ → Session
+heardBy s room m =
+    pickSession (eqb (typeOf m) 0x24) (respondedBy s (statusIn m) (receivedIn m) room)
+    (pickSession (eqb (typeOf m) 0x13) (inPhase Live s)
+    (pickSession (eqb (typeOf m) 0x08) (endedBy s room)
+    s))
+
+unfoldable pub heardBuffer : Session → List ℕ → List ℕ → List ℕ
+heardBuffer s xs m =
+    cond (eqb (typeOf m) 0x24) (respondedBuffer s (statusIn m) xs)
+    (cond (eqb (typeOf m) 0x13) xs
+    (cond (eqb (typeOf m) 0x08) (closeBuffer (s .book) xs)
+    xs))
+
+-- an order's refusals before the writer's: 16, 20, 13 for the record, 4
+unfoldable pub gateRefusal : Session → List ℕ → ℕ
+gateRefusal s given =
+    cond (isLive (s .phase))
+    (cond (eqb (s .outgoing .0) 4294967295) numbersUsedUp
+    (cond (ltb (length given) 235) noRoom
+    (cond (orderTypes.ofMember (getD given 0 0)) 0
+    unknownType)))
+    outOfPhase

@@ -1,0 +1,334 @@
+// The member's session: its state by value, a method for each thing that can happen, each of which answers the next state.
+pub mod phases;
+
+ghost use mathlib.Core.Path.{_≡_};
+ghost use mathlib.Core.Bool.{false};
+ghost use Prim.Native.Nat.{_≤_};
+ghost use lib.ListN.{length};
+ghost use Rattle.orders.specs.Orders.{writeRefusal, writeBuffer};
+ghost use Rattle.login_requests.specs.LoginRequests.{loginRecord};
+ghost use Rattle.messages.specs.Messages.{readRefusal};
+ghost use Rattle.book.specs.Books.{closeBuffer};
+ghost use Rattle.session.specs.Sessions.{closedWith, inPhase, isClosed, endedBy, brokenBy, brokenBuffer, respondedBy, respondedBuffer, responseOf, responseBuffer, messageOf, messageBuffer, receiveOf, receiveBuffer, loginOf, loginOut, heartbeatOf, heartbeatOut, numbered, orderOf, orderOut};
+ghost use Rattle.session.specs.Stages.{gateRefusal, heardBy, heardBuffer};
+use book::Book;
+use login_requests::Bitfields;
+use login_requests::Choice;
+use table::OutgoingNumber;
+
+// The phases: no session; a login sent and not yet answered; the venue replays; the venue has replayed.
+pub enum Phase {
+    Closed,
+    Asked,
+    Replaying,
+    Live,
+}
+
+// The phase, the number of the last order that went out, and the book with its table.
+pub struct Session {
+    pub phase: Phase,
+    pub outgoing: OutgoingNumber,
+    pub book: Book,
+}
+
+// What a call answers: 0 and the state after it, or the refusal and the state as it was.
+pub struct Answer {
+    pub refusal: u8,
+    pub session: Session,
+}
+
+// The session after opening and after a restart.
+pub fn closed_with(b: Book) -> Session
+    ensures { λ r. ⌜ r ≡ closedWith b ⌝ }
+{
+    Session {
+        phase: Phase::Closed,
+        outgoing: OutgoingNumber(0),
+        book: b,
+    }
+}
+
+// Writes an order's record, the first 235 bytes given, under a number.
+fn write_numbered(given: &[u8], number: u32, out: &mut [u8]) -> u8
+    requires { ⌜ 235 ≤ length (now given) ⌝ }
+    ensures { λ r. ⌜ (r ≡ writeRefusal (numbered (now (given .entry)) number) (length (now (out .entry)))) × (now (out .exit) ≡ writeBuffer (numbered (now (given .entry)) number) (now (out .entry))) ⌝ }
+{
+    let mut scratch = [0u8; 235];
+    fields::copy(&given[0..235], &mut scratch);
+    numbers::write_u32(&mut scratch, 2, number);
+    order_writer::write_order(&scratch, out)
+}
+
+impl Session {
+    // The same session in another phase.
+    fn in_phase(self, p: Phase) -> Session
+        ensures { λ r. ⌜ r ≡ inPhase p self ⌝ }
+    {
+        let outgoing = self.outgoing;
+        let book = self.book;
+        Session {
+            phase: p,
+            outgoing: outgoing,
+            book: book,
+        }
+    }
+
+    // The session's end: closed, with a mark in the book if there is room for it.
+    fn ended(self, buffer: &mut [u8]) -> Session
+        ensures { λ r. ⌜ (r ≡ endedBy self (length (now (buffer .entry)))) × (now (buffer .exit) ≡ closeBuffer (self .book) (now (buffer .entry))) ⌝ }
+    {
+        let outgoing = self.outgoing;
+        let book = self.book;
+        let b = book.close(buffer);
+        Session {
+            phase: Phase::Closed,
+            outgoing: outgoing,
+            book: b,
+        }
+    }
+
+    // A break: it ends the session; while closed it changes nothing.
+    pub fn broken(self, buffer: &mut [u8]) -> Session
+        ensures { λ r. ⌜ (r ≡ brokenBy self (length (now (buffer .entry)))) × (now (buffer .exit) ≡ brokenBuffer self (now (buffer .entry))) ⌝ }
+    {
+        let phase = self.phase;
+        if phases::is_closed(phase) {
+            return self;
+        }
+        self.ended(buffer)
+    }
+
+    // Status A leads to replaying, with the number from which the orders go on; any other status ends the session.
+    fn responded(self, status: u8, received: OutgoingNumber, buffer: &mut [u8]) -> Session
+        ensures { λ r. ⌜ (r ≡ respondedBy self status (received .0) (length (now (buffer .entry)))) × (now (buffer .exit) ≡ respondedBuffer self status (now (buffer .entry))) ⌝ }
+    {
+        if status == b'A' {
+            let book = self.book;
+            return Session {
+                phase: Phase::Replaying,
+                outgoing: received,
+                book: book,
+            };
+        }
+        self.ended(buffer)
+    }
+
+    // A Login Response: 16 unless asked.
+    pub fn response(self, status: u8, received: OutgoingNumber, buffer: &mut [u8]) -> Answer
+        ensures { λ r. ⌜ (r ≡ responseOf self status (received .0) (length (now (buffer .entry)))) × (now (buffer .exit) ≡ responseBuffer self status (now (buffer .entry))) ⌝ }
+    {
+        let phase = self.phase;
+        if phases::is_asked(phase) {
+            let s = self.responded(status, received, buffer);
+            return Answer {
+                refusal: 0,
+                session: s,
+            };
+        }
+        Answer {
+            refusal: refusals::OUT_OF_PHASE,
+            session: self,
+        }
+    }
+
+    // An application message: 16 unless replaying or live, then the book's refusals; or it is in the book and its unit's entry has risen.
+    pub fn message(self, bytes: &[u8], buffer: &mut [u8]) -> Answer
+        ensures { λ r. ⌜ (r ≡ messageOf self (length (now (buffer .entry))) (now (bytes .entry))) × (now (buffer .exit) ≡ messageBuffer self (now (buffer .entry)) (now (bytes .entry))) ⌝ }
+    {
+        let phase = self.phase;
+        if phases::is_open(phase) {
+            let outgoing = self.outgoing;
+            let book = self.book;
+            let appended = book.append(bytes, buffer);
+            let b = appended.book;
+            return Answer {
+                refusal: appended.refusal,
+                session: Session {
+                    phase: phase,
+                    outgoing: outgoing,
+                    book: b,
+                },
+            };
+        }
+        Answer {
+            refusal: refusals::OUT_OF_PHASE,
+            session: self,
+        }
+    }
+
+    // The state after a session message m of a type that passes: a Login Response, Replay Complete, a Logout; a heartbeat changes nothing.
+    fn heard(self, m: &[u8], buffer: &mut [u8]) -> Session
+        ensures { λ r. ⌜ (r ≡ heardBy self (length (now (buffer .entry))) (now (m .entry))) × (now (buffer .exit) ≡ heardBuffer self (now (buffer .entry)) (now (m .entry))) ⌝ }
+    {
+        let message = wire::header::type_of(m);
+        if message == 0x24 {
+            let status = numbers::byte_at(m, 10);
+            let received = numbers::read_u32(m, 72);
+            return self.responded(status, OutgoingNumber(received), buffer);
+        }
+        if message == 0x13 {
+            return self.in_phase(Phase::Live);
+        }
+        if message == 0x08 {
+            return self.ended(buffer);
+        }
+        self
+    }
+
+    // A readable message: 16 for a type out of phase, then what the message says.
+    fn taken(self, bytes: &[u8], buffer: &mut [u8]) -> Answer
+        requires { ⌜ (isClosed (self .phase) ≡ false) × (readRefusal 1 (now bytes) ≡ 0) ⌝ }
+        ensures { λ r. ⌜ (r ≡ receiveOf self (length (now (buffer .entry))) (now (bytes .entry))) × (now (buffer .exit) ≡ receiveBuffer self (now (buffer .entry)) (now (bytes .entry))) ⌝ }
+    {
+        let m = wire::frame(bytes);
+        let message = wire::header::type_of(m);
+        let phase = self.phase;
+        if !phases::passes(phase, message) {
+            return Answer {
+                refusal: refusals::OUT_OF_PHASE,
+                session: self,
+            };
+        }
+        if orders::of_venue(message) {
+            return self.message(bytes, buffer);
+        }
+        let s = self.heard(m, buffer);
+        Answer {
+            refusal: 0,
+            session: s,
+        }
+    }
+
+    // Any bytes from the venue, of which the first whole message counts: 16 if closed, the reading refusals, 16 for a type out of phase, and 14,
+    // 15 or 13 for an application message; or 0 and the state after the message.
+    pub fn receive(self, bytes: &[u8], buffer: &mut [u8]) -> Answer
+        ensures { λ r. ⌜ (r ≡ receiveOf self (length (now (buffer .entry))) (now (bytes .entry))) × (now (buffer .exit) ≡ receiveBuffer self (now (buffer .entry)) (now (bytes .entry))) ⌝ }
+    {
+        let phase = self.phase;
+        if phases::is_closed(phase) {
+            return Answer {
+                refusal: refusals::OUT_OF_PHASE,
+                session: self,
+            };
+        }
+        let refusal = messages::read_refusal(1, bytes);
+        if refusal != 0 {
+            return Answer {
+                refusal: refusal,
+                session: self,
+            };
+        }
+        self.taken(bytes, buffer)
+    }
+
+    // A login with the table's numbers: 16 unless closed, then the writer's refusals; or it is written, and the session is asked.
+    pub fn login(
+        self,
+        choice: Choice,
+        names: [u8; 18],
+        acknowledgments: Bitfields,
+        executions: Bitfields,
+        out: &mut [u8],
+    ) -> Answer
+        ensures { λ r. ⌜ (r ≡ loginOf self (loginRecord (self .book .table) choice names acknowledgments executions) (length (now (out .entry)))) × (now (out .exit) ≡ loginOut self (loginRecord (self .book .table) choice names acknowledgments executions) (now (out .entry))) ⌝ }
+    {
+        let phase = self.phase;
+        if phases::is_closed(phase) {
+            let book = self.book;
+            let table = book.table;
+            let refusal = login_requests::write_login(
+                table,
+                choice,
+                names,
+                acknowledgments,
+                executions,
+                out,
+            );
+            if refusal != 0 {
+                return Answer {
+                    refusal: refusal,
+                    session: self,
+                };
+            }
+            let s = self.in_phase(Phase::Asked);
+            return Answer {
+                refusal: 0,
+                session: s,
+            };
+        }
+        Answer {
+            refusal: refusals::OUT_OF_PHASE,
+            session: self,
+        }
+    }
+
+    // A heartbeat: 16 unless replaying or live, then the writer's refusals; or it is written.
+    pub fn heartbeat(self, out: &mut [u8]) -> Answer
+        ensures { λ r. ⌜ (r ≡ heartbeatOf self (length (now (out .entry)))) × (now (out .exit) ≡ heartbeatOut self (now (out .entry))) ⌝ }
+    {
+        let phase = self.phase;
+        if phases::is_open(phase) {
+            let body = [0u8; 433];
+            let refusal = logins::write_body(0x03, 0, 0, &body, out);
+            return Answer {
+                refusal: refusal,
+                session: self,
+            };
+        }
+        Answer {
+            refusal: refusals::OUT_OF_PHASE,
+            session: self,
+        }
+    }
+
+    // The refusals of an order before the writer's: 16 unless live, 20, 13 for a record under 235 bytes, 4 for one that is not an order's.
+    fn gate_refusal(self, given: &[u8]) -> u8
+        ensures { λ r. ⌜ r ≡ gateRefusal self (now (given .entry)) ⌝ }
+    {
+        let phase = self.phase;
+        if !phases::is_live(phase) {
+            return refusals::OUT_OF_PHASE;
+        }
+        if self.outgoing.0 == 4294967295 {
+            return refusals::NUMBERS_USED_UP;
+        }
+        if given.len() < 235 {
+            return refusals::NO_ROOM;
+        }
+        if !orders::of_member(given[0]) {
+            return refusals::UNKNOWN_TYPE;
+        }
+        0
+    }
+
+    // An order, of which the first 235 bytes given are the record, under the next outgoing number; a refused one uses no number up.
+    pub fn order(self, given: &[u8], out: &mut [u8]) -> Answer
+        ensures { λ r. ⌜ (r ≡ orderOf self (now (given .entry)) (length (now (out .entry)))) × (now (out .exit) ≡ orderOut self (now (given .entry)) (now (out .entry))) ⌝ }
+    {
+        let gate = self.gate_refusal(given);
+        if gate != 0 {
+            return Answer {
+                refusal: gate,
+                session: self,
+            };
+        }
+        let number = self.outgoing.0 + 1;
+        let refusal = write_numbered(given, number, out);
+        if refusal != 0 {
+            return Answer {
+                refusal: refusal,
+                session: self,
+            };
+        }
+        let phase = self.phase;
+        let book = self.book;
+        Answer {
+            refusal: 0,
+            session: Session {
+                phase: phase,
+                outgoing: OutgoingNumber(number),
+                book: book,
+            },
+        }
+    }
+}

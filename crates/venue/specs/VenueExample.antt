@@ -1,0 +1,48 @@
+-- A short day of the bench venue that computes. Assumes nothing.
+use mathlib.Core.Path.{_≡_, refl}
+use mathlib.Core.Bool.{false}
+use mathlib.Core.List.{[], _∷_, _++_}
+use Prim.Native.Nat.{ℕ}
+use Rattle.numbers.specs.Numbers.{patched}
+use Rattle.wire.specs.Header.{headerBytes, lengthOf, totalOf, numberOf}
+use Rattle.wire.specs.Frame.{notBA, startsBad, lengthBad, cutShort, frameRefusal, framed}
+use Rattle.table.specs.Table.{unitRefusal, entryRefusal, entryOf, zeroTable, raisedTable, stepRefusal}
+use Rattle.dictionary.specs.Dictionary as dictionary
+use Rattle.fields.specs.Slots.{zeros}
+use Rattle.fields.specs.Places.{selectedAt, entryAt, slotsFrom, hasRequired}
+use Rattle.orders.specs.Shapes.{countAt, mostOf, unitGood, fixedGood}
+use Rattle.orders.specs.Orders as orders
+use Rattle.groups.specs.Groups as groups
+use Rattle.logins.specs.Sessions as logins
+use Rattle.login_requests.specs.declared.Bitfields.{Bitfields}
+use Rattle.login_requests.specs.LoginRequests.{choiceOf, unitsPart, bitsPart, groupCount, loginRecord}
+use Rattle.session_fields.specs.SessionFields.{groupFrom, requestGroup, groupFlag, listedFrom, groupListed}
+use Rattle.book.specs.Books.{roomless, messageRefusal, nextRefusal, appendRefusal, appendedBy, appendOf, appendBuffer}
+use Rattle.day.specs.Story.{Bytes}
+use Rattle.venue.specs.Venues.{logOf, logBuffer, sendOf, sendOut, loginReadRefusal, thresholdOf, thresholdsOf, responseRecord, loginRefusal, loginOf, passing, seek, placeOf, tellsAt, completeBytes, bytesAt, afterAt, stepOf, stepOut}
+use Rattle.venue.specs.VenueDay.{Bench, empty, adds, takesLogin, stepTo, stepSends}
+
+-- an Order Acknowledgment of a unit, with a number under 256 and no bitfields
+abbrev msg : ℕ → ℕ → Bytes
+msg unit number = headerBytes 46 0x25 unit number ++ (zeros 8 ++ ((0x41 ∷ zeros 19) ++ zeros 10))
+
+-- a login that lists unit 1 at 1 and leaves the others out, with flag 1
+abbrev login : Bytes
+login = logins.sessionBytes (loginRecord (raisedTable zeroTable 1 1) (record { which = 1; flag = 1; count = 1; units = 1 ∷ zeros 31 }) (zeros 18) none none)
+  where
+    none : Bitfields
+    none = record { given = false; count = 0; bits = zeros 15 }
+
+-- three messages are logged: two of unit 1, one of unit 2; then the login is taken
+abbrev day : Bench
+day = takesLogin 443 login (adds 200 (msg 1 2) (adds 200 (msg 2 1) (adds 200 (msg 1 1) empty)))
+
+abbrev later : Bench
+later = adds 200 (msg 2 2) (stepTo 2048 (stepTo 2048 day))
+
+-- the second message of unit 1 comes first, then Replay Complete, then nothing; a later message of unit 2 is sent all the same; with 47 bytes of
+-- room nothing is
+pub a-day : (stepSends 2048 day ∷ stepSends 2048 (stepTo 2048 day) ∷ stepSends 2048 (stepTo 2048 (stepTo 2048 day)) ∷ stepSends 2048 later ∷ stepSends 47 day ∷ [])
+    ≡ (msg 1 2 ∷ []) ∷ (completeBytes ∷ []) ∷ [] ∷ (msg 2 2 ∷ []) ∷ [] ∷ []
+unfolding patched lengthOf totalOf numberOf notBA startsBad lengthBad cutShort frameRefusal framed unitRefusal entryRefusal entryOf raisedTable stepRefusal dictionary.entryOf selectedAt entryAt slotsFrom hasRequired countAt mostOf unitGood fixedGood orders.readRefusal orders.headRefusal orders.blockRefusal orders.bitsOf orders.optionalOf orders.fixedOf groups.unitsFrom groups.pairsGood groups.bitsGood groups.groupKey groups.groupSize groups.nextSize groups.groupsFrom logins.readRefusal logins.fixedSize logins.valuesGood logins.flagGood logins.responseEnd logins.listsEnd logins.bodyEnd logins.bodyOf logins.writeRefusal choiceOf unitsPart bitsPart groupCount loginRecord groupFrom requestGroup groupFlag listedFrom groupListed roomless messageRefusal nextRefusal appendRefusal appendedBy appendOf appendBuffer logOf logBuffer sendOf sendOut loginReadRefusal thresholdOf thresholdsOf responseRecord loginRefusal loginOf passing seek placeOf tellsAt bytesAt afterAt stepOf stepOut
+a-day = refl

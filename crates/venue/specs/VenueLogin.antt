@@ -1,0 +1,170 @@
+-- A login that the bench takes is the model's, with the numbers that it lists; ours is taken, with room for the answer. Assumes nothing.
+use Prim.Native.Nat.{ℕ, zero, suc, _+_, _-_, _≤_, _<_, min}
+use native.Mathlib.Omega.{arith}
+use mathlib.Core.Path.{_≡_, refl, sym, ap, _∙_, fun-ext}
+use mathlib.Core.List.{List, [], map, append-nil}
+use mathlib.Core.Bool.{Bool, true, false, cond, false≢true, true≢false}
+use lib.ListN.{length, getD, take, length-append}
+use lib.Seq.{take-length}
+use lib.Dec.{eqb}
+use borrow.Author.Tests.{eqb-true, eqb-false}
+use Rattle.wire.specs.Header.{typeOf}
+use Rattle.wire.specs.Frame.{frameRefusal, framed}
+use Rattle.fields.specs.Slots.{zeros}
+use Rattle.fields.specs.SlotLaws.{length-zeros}
+use Rattle.table.specs.declared.Entry.{Entry}
+use Rattle.table.specs.declared.Table as table
+use Rattle.table.specs.Table.{unitRefusal, entryAt, lastOf}
+use Rattle.table.specs.TableLaws.{unit-in-range, entry-is, no-entry}
+use Rattle.logins.specs.declared.Record.{Record}
+use Rattle.logins.specs.Sessions as logins
+use Rattle.logins.specs.SessionTrip.{Sound, read-accepts, framed-after, framed-as-written}
+use Rattle.login_requests.specs.LoginRequests.{upFrom, saidOf, choiceOf, loginRecord}
+use Rattle.login_requests.specs.LoginRequestLaws.{said-most}
+use Rattle.session_fields.specs.declared.ListedField.{ListedField}
+use Rattle.session_fields.specs.SessionFields.{groupFlag, groupListed}
+use Rattle.day.specs.Model.{Msg, Table, count, Venue, took}
+use Rattle.day.specs.Story.{Bytes}
+use Rattle.line.specs.Lines.{msgOf, lists, Fields, wholeTable, loginOfTable, OurLogin}
+use Rattle.line.specs.OurLogins.{our-units-at, our-listed, our-record, our-lists}
+use Rattle.venue.specs.declared.Answer.{Answer}
+use Rattle.venue.specs.Venues.{unitsAt, thresholdOf, entriesFor, thresholdsOf, loggedIn}
+use Rattle.venue.specs.VenueDay.{Bench, with, accepts, takesLogin}
+use Rattle.venue.specs.VenueView.{low, viewV, GoodV}
+use Rattle.venue.specs.VenueRuns.{map-long, place-all}
+use Rattle.venue.specs.VenueCalls.{view-is}
+use Rattle.venue.specs.VenueTaken.{Login, taken, login-answer, takes-it}
+
+-- ---- any login
+
+module _ (room : ℕ) (b : Bytes) (w : Bench) (g : GoodV w) (ok : accepts room b w ≡ true) where
+  abbrev t : table.Table
+  t = thresholdsOf (logins.recordOf (framed b))
+
+  logged-in : takesLogin room b w ≡ with (loggedIn (w .venue) (framed b)) w
+  logged-in = ap (λ (x : Answer). with (x .venue) w) (login-answer (w .venue) b room (taken room b w ok .none))
+
+  new-good : GoodV (with (loggedIn (w .venue) (framed b)) w)
+  new-good =
+      let l = g .log in
+      let ms = g .messages in
+      record {
+        messages = ms;
+        cursor = 0;
+        mark = length ms;
+        log = record { is = l .is; long = l .long; within = l .within; whole = l .whole; ordered = l .ordered; full = l .full; table = l .table };
+        places = record {
+          at = refl;
+          upto = l .long ∙ ap length (l .is) ∙ sym (place-all ms);
+          in-at = omega arith;
+          in-upto = omega arith;
+          before = λ _. omega arith;
+          after = λ z. absurd (false≢true z);
+          outside = λ z. absurd (true≢false z);
+        };
+      }
+
+  pub takes-good : GoodV (takesLogin room b w)
+  takes-good = rw logged-in new-good
+
+  all-of : take (length (g .messages)) (map msgOf (g .messages)) ≡ map msgOf (g .messages)
+  all-of = ap (λ (n : ℕ). take n (map msgOf (g .messages))) (sym (map-long msgOf (g .messages))) ∙ take-length (map msgOf (g .messages))
+
+  -- the model's, with some table
+  abbrev pub lowest : Table
+  lowest u = min (lastOf t u) (count u (viewV w .log))
+
+  pub strays-is : viewV (takesLogin room b w) ≡ took lowest (viewV w)
+  unfolding new-good
+  strays-is =
+      let ms = g .messages in
+      let e : low t (length ms) (map msgOf ms) ≡ (λ u. min (lastOf t u) (count u (map msgOf ms))) = ap (λ (l : List Msg). λ (u : ℕ). min (lastOf t u) (count u l)) all-of in
+      ap viewV logged-in
+      ∙ view-is (with (loggedIn (w .venue) (framed b)) w) new-good
+      ∙ ap (λ (x : Table). record { log = map msgOf ms; running = true; listed = x; at = 0; upTo = length ms; told = false }) e
+      ∙ ap (λ (n : ℕ). record { log = map msgOf ms; running = true; listed = λ u. min (lastOf t u) (count u (map msgOf ms)); at = 0; upTo = n; told = false }) (sym (map-long msgOf ms))
+      ∙ ap (λ (x : Venue). took (λ u. min (lastOf t u) (count u (x .log))) x) (sym (view-is w g))
+
+  -- a login that lists no more than the log holds: with the table of its thresholds
+  pub takes-listed : ((u : ℕ) → lastOf t u ≤ count u (viewV w .log)) → viewV (takesLogin room b w) ≡ took (lastOf t) (viewV w)
+  takes-listed h =
+      let e : lowest ≡ lastOf t = fun-ext (λ u. omega (arith, h u)) in
+      strays-is ∙ ap (λ (x : Table). took x (viewV w)) e
+
+-- ---- the thresholds of a login, unit by unit
+
+entries-at : (f : ℕ → ℕ) (n k i : ℕ) (d : Entry) → i < n → getD (entriesFor f (upFrom n k)) i d ≡ entryAt (f (k + i))
+entries-at f zero k i d h = absurd (omega arith)
+entries-at f (suc n) k zero d h = let z : k ≡ k + 0 = omega arith in ap (λ (x : ℕ). entryAt (f x)) z
+entries-at f (suc n) k (suc i) d h = let z : suc k + i ≡ k + suc i = omega arith in entries-at f n (suc k) i d (omega arith) ∙ ap (λ (x : ℕ). entryAt (f x)) z
+
+pub threshold-at : (r : Record) (u : ℕ) → unitRefusal u ≡ 0 → lastOf (thresholdsOf r) u ≡ thresholdOf r u
+unfolding thresholdsOf
+threshold-at r u z =
+    let h = unit-in-range u z in
+    let k : 1 + (u - 1) ≡ u = omega (arith, h .0) in
+    ap (λ (x : Entry). x .last .0) (entry-is (thresholdsOf r) u z ∙ entries-at (thresholdOf r) 32 1 (u - 1) _ (omega (arith, h .0, h .1)))
+    ∙ ap (thresholdOf r) k
+
+listed-threshold : (r : Record) (u n : ℕ) → groupListed (unitsAt r) u r ≡ record { there = true; number = record { 0 = n } } → thresholdOf r u ≡ n
+unfolding thresholdOf
+listed-threshold r u n e = ap (λ (x : ListedField). cond (x .there) (x .number .0) (cond (eqb (groupFlag (unitsAt r) r .value) 1) 4294967295 0)) e
+
+-- ---- our login
+
+body-long : (table : table.Table) (f : Fields) → length (loginOfTable table f .body) ≡ 433
+unfolding loginRecord
+body-long table f =
+    let s : List ℕ = saidOf table (choiceOf wholeTable) (f .names) (f .acknowledgments) (f .executions) in
+    let h = said-most table (choiceOf wholeTable) (f .names) (f .acknowledgments) (f .executions) (f .long) in
+    length-append s (zeros (433 - length s)) ∙ omega (arith, length-zeros (433 - length s), h)
+
+module _ (b : Bytes) (o : OurLogin b) where
+  abbrev ours : Record
+  ours = loginOfTable (o .table) (o .fields)
+
+  sound : Sound ours
+  sound = record { body-length = body-long (o .table) (o .fields) }
+
+  our-whole : framed b ≡ b
+  our-whole = ap framed (o .is ∙ sym (append-nil (logins.sessionBytes ours))) ∙ framed-as-written ours (o .room) sound (o .written) [] ∙ sym (o .is)
+
+  our-type : typeOf b ≡ 0x37
+  unfolding loginRecord
+  our-type = ap typeOf (o .is)
+
+  -- it is read
+  pub our-login : Login b
+  our-login = record {
+    frames = ap frameRefusal (o .is ∙ sym (append-nil (logins.sessionBytes ours))) ∙ framed-after ours (o .room) sound (o .written) [];
+    typed = ap typeOf our-whole ∙ our-type;
+    reads = ap logins.readRefusal (our-whole ∙ o .is) ∙ read-accepts ours (o .room) sound (o .written);
+  }
+
+  -- its thresholds are the numbers that it lists
+  pub our-thresholds : lastOf (thresholdsOf (logins.recordOf (framed b))) ≡ lists b
+  our-thresholds =
+      ap (λ (x : Bytes). lastOf (thresholdsOf (logins.recordOf x))) our-whole
+      ∙ ap (λ (r : Record). lastOf (thresholdsOf r)) (our-record o)
+      ∙ fun-ext (λ u. by u (eqb (unitRefusal u) 0) refl)
+      ∙ sym (our-lists o)
+    where
+      by : (u : ℕ) (q : Bool) → eqb (unitRefusal u) 0 ≡ q → lastOf (thresholdsOf ours) u ≡ lastOf (o .table) u
+      by u true e =
+          let z = eqb-true (unitRefusal u) 0 e in
+          threshold-at ours u z
+          ∙ listed-threshold ours u (lastOf (o .table) u)
+          (ap (λ (p : ℕ). groupListed p u ours) (our-units-at (o .table) (o .fields) (o .fit)) ∙ our-listed (o .table) (o .fields) (o .fit) u z)
+      by u false e =
+          let n = eqb-false (unitRefusal u) 0 e in
+          ap (λ (x : Entry). x .last .0) (no-entry (thresholdsOf ours) u n ∙ sym (no-entry (o .table) u n))
+
+pub accepts-ours : (room : ℕ) (b : Bytes) (w : Bench) → OurLogin b → w .venue .running ≡ false → 443 ≤ room → accepts room b w ≡ true
+accepts-ours room b w o r h = takes-it (w .venue) b room r (our-login b o) h
+
+pub takes-is : (room : ℕ) (b : Bytes) (w : Bench) → OurLogin b → accepts room b w ≡ true → GoodV w → ((u : ℕ) → lists b u ≤ count u (viewV w .log))
+    → viewV (takesLogin room b w) ≡ took (lists b) (viewV w)
+takes-is room b w o ok g h =
+    let e = our-thresholds b o in
+    takes-listed room b w g ok (λ u. (let k : lastOf (thresholdsOf (logins.recordOf (framed b))) u ≡ lists b u = ap (λ (f : Table). f u) e in omega (arith, h u, k)))
+    ∙ ap (λ (x : Table). took x (viewV w)) e

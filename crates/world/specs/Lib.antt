@@ -1,0 +1,4 @@
+pub mod Words
+pub mod WordLaws
+pub mod Demand3
+pub mod Proved
