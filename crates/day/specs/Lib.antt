@@ -8,3 +8,4 @@ pub mod Steps
 pub mod Story
 pub mod Generic
 pub mod Halves
+pub mod Example

@@ -1,6 +1,7 @@
 pub mod Venues
 pub mod VenueStages
 pub mod Seeks
+pub mod LoginLaws
 pub mod VenueLaws
 pub mod Responses
 pub mod Thresholds
@@ -8,6 +9,7 @@ pub mod Readable
 pub mod Logs
 pub mod Logged
 pub mod Replays
+pub mod Asked
 pub mod VenueDay
 pub mod VenueView
 pub mod VenueRuns

@@ -1,4 +1,5 @@
 -- What the venue sends is read.
+--     any-readable-login     any login that is read is taken while no session runs, where there is room for 443 bytes
 --     response-only-room     the response to a login that is read is refused for room alone, and 443 bytes are enough
 --     response-is-read       what is written of it is read by the member's reader, whatever bytes follow
 --     response-status        its status is A
@@ -7,10 +8,10 @@
 --     step-sends             a step sends Replay Complete, nothing, or a whole message of the log
 -- Assumes nothing.
 use mathlib.Core.Path.{_≡_, refl, sym, ap, _∙_}
-use mathlib.Core.Logic.{_⊎_, inl, inr}
+use mathlib.Core.Logic.{_⊎_, inl, inr, ⊎-elim}
 use mathlib.Core.Bool.{Bool, true, false, cond, _||_}
 use mathlib.Core.List.{List, [], _∷_, _++_, append-nil}
-use Prim.Native.Nat.{ℕ, _+_, _<_}
+use Prim.Native.Nat.{ℕ, _+_, _≤_, _<_}
 use native.Mathlib.Omega.{arith}
 use lib.Dec.{eqb, ltb}
 use lib.ListN.{length, getD, drop}
@@ -27,7 +28,7 @@ use Rattle.logins.specs.SessionLaws.{header-alone}
 use Rattle.logins.specs.SessionTrip.{read-accepts, framed-after, framed-as-written}
 use Rattle.messages.specs.Messages as messages
 use Rattle.venue.specs.declared.Venue.{Venue}
-use Rattle.venue.specs.Venues.{responseRecord, held, placeOf, tellsAt, completeBytes, bytesAt, nextBytes}
+use Rattle.venue.specs.Venues.{loginReadRefusal, responseRecord, loginRefusal, held, placeOf, tellsAt, completeBytes, bytesAt, nextBytes}
 use Rattle.venue.specs.VenueStages.{listsPart}
 use Rattle.venue.specs.Responses.{login-short, response-refusal, response-sound, response-bytes}
 
@@ -73,6 +74,27 @@ module _ (v : Venue) (m : List ℕ) (typed : typeOf m ≡ 0x37) (reads : logins.
   -- RESPONSE RECEIVED
   pub response-received : v .received .0 < 4294967296 → numberAt 4 72 (logins.sessionBytes (responseRecord v m)) ≡ v .received .0
   response-received h = ap (numberAt 4 72) (response-bytes v m typed reads) ∙ number-back 4 (v .received .0) (32 ∷ listsPart (v .table) (getD m 28 0 ∷ drop 29 m)) h
+
+-- ANY READABLE LOGIN
+login-read : (s : List ℕ) → loginReadRefusal s ≡ 0 → (typeOf (framed s) ≡ 0x37) × (logins.readRefusal (framed s) ≡ 0)
+unfolding loginReadRefusal
+login-read s z = by (eqb (frameRefusal s) 0) (eqb (typeOf (framed s)) 0x37) refl refl z
+  where
+    by : (p q : Bool) → eqb (frameRefusal s) 0 ≡ p → eqb (typeOf (framed s)) 0x37 ≡ q → cond p (cond q (logins.readRefusal (framed s)) 4) (frameRefusal s) ≡ 0
+        → (typeOf (framed s) ≡ 0x37) × (logins.readRefusal (framed s) ≡ 0)
+    by true true p q y = (eqb-true _ _ q, y)
+    by true false p q y = absurd (omega (arith, y))
+    by false q p r y = absurd (eqb-false _ _ p y)
+
+pub any-readable-login : (v : Venue) (s : List ℕ) (room : ℕ) → v .running ≡ false → loginReadRefusal s ≡ 0 → 443 ≤ room → loginRefusal v s room ≡ 0
+unfolding loginRefusal responseRecord
+any-readable-login v s room e z h =
+    let r = login-read s z in
+    rw (e, eq-eqb (loginReadRefusal s) 0 z)
+    (⊎-elim
+    (λ (k : logins.recordRefusal (responseRecord v (framed s)) room ≡ 0). k)
+    (λ (k : (logins.recordRefusal (responseRecord v (framed s)) room ≡ 13) × (room < 443)). absurd (omega (arith, h, k .1)))
+    (response-only-room v (framed s) (r .0) (r .1) room))
 
 -- ---- a step
 

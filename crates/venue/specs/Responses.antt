@@ -95,7 +95,7 @@ module _ (m : List ℕ) (typed : typeOf m ≡ 0x37) (reads : readRefusal m ≡ 0
   unfolding fixedSize
   login-long = omega (arith, good m reads .there, ap fixedSize typed)
 
-  groups-end : groupsEnd (getD m 28 0) (drop 29 m) ≡ suc (length (drop 29 m))
+  pub groups-end : groupsEnd (getD m 28 0) (drop 29 m) ≡ suc (length (drop 29 m))
   groups-end =
       let a = groups-of (drop 10 m) (length (drop 10 m)) end-of in
       let l : a .rest ≡ length (drop 29 m) = omega (arith, a .sum, length-drop 10 m, length-drop 29 m, login-long) in

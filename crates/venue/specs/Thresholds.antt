@@ -34,7 +34,7 @@ use Rattle.login_requests.specs.LoginRequests.{upFrom, choiceOf, one, bitsPart,
 use Rattle.login_requests.specs.LoginRequestLaws.{default-lists-all, said-most}
 use Rattle.session_fields.specs.SessionFields.{groupFrom, requestGroup, groupFlag, listedFrom, groupListed}
 use Rattle.venue.specs.Venues.{unitsAt, thresholdOf, entriesFor, thresholdsOf}
-use Rattle.venue.specs.VenueLaws.{listed-number, none-wanted, all-wanted}
+use Rattle.venue.specs.LoginLaws.{listed-number, none-wanted, all-wanted}
 
 -- ---- the table of thresholds
 

@@ -6,7 +6,7 @@ use native.Mathlib.Omega.{arith}
 use Rattle.numbers.proofs.Tail.{puts-then}
 use Rattle.venue.specs.Venues.{acceptedText}
 use Rattle.venue.specs.VenueStages.{countedPart}
-use Rattle.venue.specs.VenueLaws.{lists-long}
+use Rattle.venue.specs.LoginLaws.{lists-long}
 use borrow.Author.Needs.{needs}
 use Rattle.venue.proofs.answers.put_answer.Statement.{statement}
 use Rattle.venue.proofs.answers.put_answer.Tie as tie

@@ -8,7 +8,7 @@ use Rattle.numbers.specs.Numbers.{bytesOf}
 use Rattle.numbers.specs.NumberLaws.{patched-length}
 use Rattle.numbers.proofs.Tail.{puts-then, tail-length}
 use Rattle.venue.specs.VenueStages.{listsPart}
-use Rattle.venue.specs.VenueLaws.{head-kept, head-put, lists-long}
+use Rattle.venue.specs.LoginLaws.{head-kept, head-put, lists-long}
 use borrow.Author.Needs.{needs}
 use Rattle.venue.proofs.answers.put_counted.Statement.{statement}
 use Rattle.venue.proofs.answers.put_counted.Tie as tie

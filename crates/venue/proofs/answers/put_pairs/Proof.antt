@@ -14,7 +14,7 @@ use Rattle.table.specs.Table.{lastOf}
 use Rattle.login_requests.specs.LoginRequests.{upFrom, pairsFor}
 use Rattle.login_requests.specs.LoginRequestLaws.{pairs-size}
 use Rattle.login_requests.proofs.Parts.{pairs-more, pair-put, nothing-put}
-use Rattle.venue.specs.VenueLaws.{unit-at}
+use Rattle.venue.specs.LoginLaws.{unit-at}
 use Rattle.venue.proofs.answers.put_pairs.Statement.{statement}
 use Rattle.venue.proofs.answers.put_pairs.Tie as tie
 

@@ -1,5 +1,5 @@
 -- `venue::answers::threshold` meets its contract. Assumes nothing.
-use Rattle.venue.specs.VenueLaws.{listed-number, none-wanted, all-wanted}
+use Rattle.venue.specs.LoginLaws.{listed-number, none-wanted, all-wanted}
 use borrow.Author.Needs.{needs}
 use Rattle.venue.proofs.answers.threshold.Statement.{statement}
 use Rattle.venue.proofs.answers.threshold.Tie as tie

@@ -3,7 +3,7 @@ use mathlib.Core.Path.{_≡_}
 use Prim.Native.Nat.{_-_, _≤_}
 use native.Mathlib.Omega.{arith}
 use Rattle.venue.specs.Venues.{thresholdOf}
-use Rattle.venue.specs.VenueLaws.{filled, fill-more, fill-done}
+use Rattle.venue.specs.LoginLaws.{filled, fill-more, fill-done}
 use Rattle.venue.proofs.answers.thresholds.Statement.{statement}
 use Rattle.venue.proofs.answers.thresholds.Tie as tie
 
