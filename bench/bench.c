@@ -1,8 +1,11 @@
-/* Counts the instructions of a call of the proved reader and writer, and of the plain C ones, on five messages.
+/* Counts the instructions of a call of the proved reader, writer and restart, and of the plain C ones, on five messages and on a book.
  *
- * It prints lines of WORKLOAD CALL SIDE COUNT. Before it counts it compares both sides on each message and on each with
- * a byte changed or with bytes cut off; it says what differs and ends with status 1. A changed byte never makes it a session message, which
- * the plain C does not know.
+ * usage: bench [KIBIBYTES]
+ *
+ * It prints lines of WORKLOAD CALL SIDE COUNT. Before it counts it compares both sides on each message, on each with a byte changed or
+ * with bytes cut off, and on a small book in the same way; it says what differs and ends with status 1. A changed byte never makes one of
+ * the five a session message, which the plain C's reader does not know. With a size it counts nothing: it makes a book of that size,
+ * restarts it once by each side, for a counter outside, and prints its bytes and messages alone.
  *
  * It counts itself: with the processor's trap flag set, each instruction ends in a SIGTRAP, and the handler counts. The flag works
  * the same on an x86-64 processor and under an emulator of one. There is no C library in the program: it starts here, and its three
@@ -51,8 +54,11 @@ static void say_number(int file, uint64_t number) {
 
 typedef uint8_t call(uint8_t direction, const uint8_t *from, size_t from_len, uint8_t *to, size_t to_len);
 
+/* Any of the counted calls: five arguments. */
+typedef void counted(void);
+
 struct arguments {
-    uint64_t direction;
+    uint64_t first; /* the direction, or the date */
     const uint8_t *from;
     uint64_t from_len;
     uint8_t *to;
@@ -60,13 +66,15 @@ struct arguments {
 };
 
 /* Makes a call with the trap flag set. `nothing` is a call that returns at once. */
-uint8_t stepped(call *function, const struct arguments *arguments);
-call nothing;
+uint8_t stepped(counted *function, const struct arguments *arguments);
+counted nothing;
 void back_from_signal(void);
 
 __asm__(".text\n"
         ".globl _start, stepped, nothing, back_from_signal\n"
         "_start:\n"
+        "    mov %rsp, %rdi\n"
+        "    and $-16, %rsp\n"
         "    call begin\n"
         "nothing:\n"
         "    ret\n"
@@ -112,14 +120,14 @@ static void count_traps(void) {
     }
 }
 
-static uint64_t steps_of(call *function, const struct arguments *arguments, uint8_t *refusal) {
+static uint64_t steps_of(counted *function, const struct arguments *arguments, uint8_t *refusal) {
     steps = 0;
     *refusal = stepped(function, arguments);
     return steps;
 }
 
 /* The instructions of a call: its five arguments, the call itself and all to the return. */
-static uint64_t count(call *function, const struct arguments *arguments, uint8_t *refusal) {
+static uint64_t count(counted *function, const struct arguments *arguments, uint8_t *refusal) {
     uint8_t none;
     uint64_t least = steps_of(nothing, arguments, &none);
     uint64_t all = steps_of(function, arguments, refusal);
@@ -356,9 +364,118 @@ static void compare_damaged(const struct workload *w) {
     }
 }
 
+/* ---- the book */
+
+enum { DATE = 20250819, STATE = BOE_BOOK_BYTES, MARK_EVERY = 200 };
+
+static uint8_t book[BOE_BOOK_MOST_BYTES];
+
+struct books {
+    size_t length, last, messages;
+    uint32_t numbers[33];
+};
+
+static void put_number(uint8_t *at, uint32_t number) {
+    for (size_t i = 0; i < 4; i++)
+        at[i] = (uint8_t)(number >> 8 * i);
+}
+
+static void add_mark(struct books *b) {
+    uint8_t *mark = book + b->length;
+    put_number(mark, 0);
+    put_number(mark + 4, DATE);
+    put_number(mark + 8, (uint32_t)b->messages);
+    put_number(mark + 12, (uint32_t)(b->length - b->last));
+    b->last = b->length;
+    b->length += BOE_MARK_BYTES;
+}
+
+/* Two messages, in which unit, number and the end of ClOrdID are set anew each time. */
+static struct workload acknowledgment, execution;
+
+static void make_items(void) {
+    struct workload *w = &acknowledgment;
+    w->total = 0;
+    ADD("\xBA\xBA\x00\x00\x25\x00\x00\x00\x00\x00", 10);
+    ADD("\xE0\xFA\x20\xF7\x36\x71\xF8\x11", 8);
+    ADD("ABC", 20);
+    ADD("\x05\x10\x1E\xB7\x5E\x39\x2F\x02", 8);
+    ADD("\x00\x03\x00\x41\x05", 5);
+    ADD("MSFT", 8);  /* Symbol */
+    ADD("P", 1);     /* Capacity */
+    ADD("DEFG", 16); /* Account */
+    ADD("123C", 4);  /* ClearingAccount */
+    finish(w);
+    memcpy(&execution, &workloads[4], sizeof execution);
+}
+
+static void add_message(struct books *b, const struct workload *w) {
+    uint8_t *at = book + b->length, unit = (uint8_t)(1 + b->messages % 32);
+    uint32_t number = ++b->numbers[unit], rest = number;
+    memcpy(at, w->message, w->total);
+    at[5] = unit;
+    put_number(at + 6, number);
+    for (size_t i = 9; i > 2; i--, rest /= 10)
+        at[18 + i] = (uint8_t)('0' + rest % 10);
+    b->length += w->total;
+    b->messages++;
+}
+
+/* A book of at most so many bytes: of ten messages seven are acknowledgments with three bitfields and three executions, and a mark stands
+ * after each MARK_EVERY of them. */
+static struct books make_book(size_t most, size_t mark_every) {
+    struct books b = {0};
+    add_mark(&b);
+    for (;;) {
+        const struct workload *w = b.messages % 10 % 3 == 2 ? &execution : &acknowledgment;
+        if (most < b.length + w->total + BOE_MARK_BYTES)
+            return b;
+        add_message(&b, w);
+        if (b.messages % mark_every == 0)
+            add_mark(&b);
+    }
+}
+
+static void books_differ(const char *what) {
+    say(2, "bench: restart: ");
+    say(2, what);
+    say(2, "\n");
+    end(1);
+}
+
+/* Asks both sides and compares the refusals and all bytes of the two states. */
+static void ask_book(const char *what, uint32_t date, size_t len, size_t state_len) {
+    uint8_t one[STATE + 8], other[STATE + 8];
+    memset(one, FILLING, sizeof one);
+    memset(other, FILLING, sizeof other);
+    if (boe_restart(date, book, len, one, state_len) != base_restart(date, book, len, other, state_len))
+        books_differ(what);
+    if (memcmp(one, other, sizeof one) != 0)
+        books_differ(what);
+}
+
+/* The same on a small book: every cut, every byte with each of its other values, other dates, every size of the state. */
+static void compare_books(void) {
+    struct books b = make_book(330, 2);
+    for (size_t len = 0; len <= b.length; len++)
+        ask_book("the sides differ on a cut book", DATE, len, STATE + 8);
+    for (size_t len = 0; len <= STATE + 8; len++)
+        ask_book("the sides differ on a short state", DATE, b.length, len);
+    for (uint32_t date = DATE - 30; date <= DATE + 30; date++)
+        ask_book("the sides differ on a date", date, b.length, STATE);
+    for (size_t at = 0; at < b.length; at++) {
+        uint8_t kept = book[at];
+        for (unsigned other = 0; other < 256; other++) {
+            book[at] = (uint8_t)other;
+            ask_book("the sides differ on a damaged book", DATE, b.length, STATE);
+        }
+        book[at] = kept;
+    }
+}
+
 /* ---- the counts */
 
-static void tell(const struct workload *w, const char *call_and_side, call *function, const struct arguments *arguments) {
+static void tell(const struct workload *w, const char *call_and_side, counted *function, const struct arguments *arguments) {
     uint8_t refusal;
     uint64_t instructions = count(function, arguments, &refusal);
     if (refusal != 0)
@@ -369,23 +486,77 @@ static void tell(const struct workload *w, const char *call_and_side, call *func
     say(1, "\n");
 }
 
-void begin(void) {
+static void tell_book(const char *name, const char *call_and_side, uint64_t number) {
+    say(1, name);
+    say(1, call_and_side);
+    say_number(1, number);
+    say(1, "\n");
+}
+
+static uint64_t count_book(counted *restart, size_t len) {
+    static uint8_t state[STATE];
+    const struct arguments arguments = {DATE, book, len, state, STATE};
+    uint8_t refusal;
+    uint64_t instructions = count(restart, &arguments, &refusal);
+    if (refusal != 0)
+        books_differ("a counted call is refused");
+    return instructions;
+}
+
+static struct books tell_size(const char *name, size_t kibibytes) {
+    struct books b = make_book(1024 * kibibytes, MARK_EVERY);
+    tell_book(name, " restart bytes ", b.length);
+    tell_book(name, " restart messages ", b.messages);
+    return b;
+}
+
+static void count_books(const char *name, size_t kibibytes) {
+    struct books b = tell_size(name, kibibytes);
+    ask_book("the sides differ on a counted book", DATE, b.length, STATE);
+    tell_book(name, " restart proved ", count_book((counted *)boe_restart, b.length));
+    tell_book(name, " restart baseline ", count_book((counted *)base_restart, b.length));
+}
+
+static void count_messages(void) {
     static uint8_t to[LONGEST];
-    const size_t n = sizeof workloads / sizeof *workloads;
-    make_workloads();
-    for (size_t i = 0; i < n; i++) {
-        compare_good(&workloads[i]);
-        compare_damaged(&workloads[i]);
-    }
-    count_traps();
-    for (size_t i = 0; i < n; i++) {
+    for (size_t i = 0; i < sizeof workloads / sizeof *workloads; i++) {
         const struct workload *w = &workloads[i];
         const struct arguments reading = {w->direction, w->message, w->total, to, RECORD};
         const struct arguments writing = {w->direction, w->record, RECORD, to, w->total};
-        tell(w, " read proved ", boe_read, &reading);
-        tell(w, " read baseline ", base_read, &reading);
-        tell(w, " write proved ", boe_write, &writing);
-        tell(w, " write baseline ", base_write, &writing);
+        tell(w, " read proved ", (counted *)boe_read, &reading);
+        tell(w, " read baseline ", (counted *)base_read, &reading);
+        tell(w, " write proved ", (counted *)boe_write, &writing);
+        tell(w, " write baseline ", (counted *)base_write, &writing);
     }
+}
+
+static void restart_once(size_t kibibytes) {
+    if (kibibytes == 0 || kibibytes > BOE_BOOK_MOST_BYTES / 1024) {
+        say(2, "usage: bench [KIBIBYTES]\n");
+        end(2);
+    }
+    ask_book("the sides differ on a counted book", DATE, tell_size("book", kibibytes).length, STATE);
+    end(0);
+}
+
+/* The words of the command, as the system puts them: how many, then a pointer to each. */
+void begin(const long *words) {
+    make_workloads();
+    make_items();
+    if (words[0] > 1) {
+        size_t kibibytes = 0;
+        for (const char *digit = (const char *)words[2]; *digit >= '0' && *digit <= '9'; digit++)
+            kibibytes = 10 * kibibytes + (size_t)(*digit - '0');
+        restart_once(kibibytes);
+    }
+    for (size_t i = 0; i < sizeof workloads / sizeof *workloads; i++) {
+        compare_good(&workloads[i]);
+        compare_damaged(&workloads[i]);
+    }
+    compare_books();
+    count_traps();
+    count_messages();
+    count_books("f", 16);
+    count_books("g", 64);
     end(0);
 }

@@ -1,4 +1,4 @@
-/* Checks the C entry points: hand-made cases, and every stored question on framing, table steps, reading and writing.
+/* Checks the C entry points: hand-made cases, and every stored question on framing, table steps, reading, writing and the day book.
  * usage: test_gateway QUESTIONS ANSWERS */
 #include "boe.h"
 
@@ -6,7 +6,7 @@
 #include <stdlib.h>
 #include <string.h>
 
-enum { LONGEST = 13000, MOST_BYTES = 4200 };
+enum { LONGEST = 13000, MOST_BYTES = 6200 };
 
 static unsigned long checks, failures;
 
@@ -269,6 +269,76 @@ static void header_alone(uint8_t direction, const uint8_t *message) {
     check(boe_read(direction, bytes, sizeof bytes, record, sizeof record) == BOE_BAD_UNIT, "5 comes before 6");
 }
 
+static int same_bytes(const uint8_t *a, const uint8_t *b, size_t n) { return memcmp(a, b, n) == 0; }
+
+/* The day book: the first acknowledgment taken, marks, restart, and each refusal's place and that it changes nothing. */
+static void books(void) {
+    enum { DATE = 20250819, ROOM = 16 + sizeof acknowledgment + 16 };
+    uint8_t buffer[ROOM], state[BOE_BOOK_BYTES + 4], again[sizeof state], held[ROOM], kept[sizeof state];
+    uint8_t message[sizeof acknowledgment + 3];
+    memset(buffer, 0x5A, sizeof buffer);
+    memset(state, 0x5A, sizeof state);
+    check(boe_book_open(20250229, buffer, 0, state, 0) == BOE_NOT_A_DAY, "19 comes before 13");
+    check(boe_book_open(DATE, buffer, BOE_MARK_BYTES - 1, state, sizeof state) == BOE_NO_ROOM, "no room for the first mark");
+    check(boe_book_open(DATE, buffer, sizeof buffer, state, BOE_BOOK_BYTES - 1) == BOE_NO_ROOM, "a short state");
+    check(all_are(buffer, sizeof buffer, 0x5A) && all_are(state, sizeof state, 0x5A), "refusals stored nothing");
+    check(boe_book_open(DATE, buffer, BOE_MARK_BYTES, state, BOE_BOOK_BYTES) == 0, "a book is opened");
+    check(all_are(buffer, 4, 0) && number_at(buffer + 4) == DATE && all_are(buffer + 8, 8, 0), "its first mark");
+    check(all_are(buffer + 16, sizeof buffer - 16, 0x5A), "and no byte more");
+    check(all_are(state + BOE_BOOK_TABLE_AT, BOE_TABLE_BYTES, 0) && number_at(state + BOE_BOOK_DATE_AT) == DATE, "its table and date");
+    check(number_at(state + BOE_BOOK_LENGTH_AT) == 16 && all_are(state + BOE_BOOK_LAST_MARK_AT, 8, 0), "its length, mark and messages");
+    check(all_are(state + BOE_BOOK_BYTES, 4, 0x5A), "bytes past the state stay");
+
+    memcpy(message, acknowledgment, sizeof acknowledgment);
+    memset(message + sizeof acknowledgment, 0x5A, 3);
+    memset(message + 6, 0, 4);
+    memcpy(held, buffer, sizeof buffer);
+    memcpy(kept, state, sizeof state);
+    check(boe_book_append(state, BOE_BOOK_BYTES - 1, message, 0, buffer, sizeof buffer) == BOE_NO_ROOM, "13 for a short state comes first");
+    check(boe_book_append(state, sizeof state, message, 9, buffer, 0) == BOE_INCOMPLETE, "a cut message");
+    check(boe_book_append(state, sizeof state, server_heartbeat, 10, buffer, 0) == BOE_UNKNOWN_TYPE, "a session message");
+    check(boe_book_append(state, sizeof state, message, sizeof message, buffer, 0) == BOE_ALREADY_TAKEN, "number 0");
+    message[6] = 2;
+    check(boe_book_append(state, sizeof state, message, sizeof message, buffer, 0) == BOE_GAP, "number 2, and 15 comes before 13");
+    message[6] = 1;
+    check(boe_book_append(state, sizeof state, message, sizeof message, buffer, 15 + sizeof acknowledgment) == BOE_NO_ROOM, "one byte short");
+    check(boe_book_close(state, BOE_BOOK_BYTES - 1, buffer, sizeof buffer) == BOE_NO_ROOM, "closing with a short state");
+    check(boe_book_close(state, sizeof state, buffer, 31) == 0, "a mark without room");
+    check(same_bytes(buffer, held, sizeof buffer) && same_bytes(state, kept, sizeof state), "changed nothing");
+
+    check(boe_book_append(state, sizeof state, message, sizeof message, buffer, sizeof buffer) == 0, "the first message of its unit");
+    check(same_bytes(buffer + 16, message, sizeof acknowledgment) && all_are(buffer + ROOM - 16, 16, 0x5A), "its bytes, and no byte more");
+    check(entry(state, message[5]) == 1 && number_at(state + BOE_BOOK_MESSAGES_AT) == 1, "the table and the messages");
+    check(number_at(state + BOE_BOOK_LENGTH_AT) == ROOM - 16, "the length");
+    check(boe_book_append(state, sizeof state, message, sizeof message, buffer, sizeof buffer) == BOE_ALREADY_TAKEN, "a message is taken once");
+    check(boe_book_close(state, sizeof state, buffer, sizeof buffer) == 0, "the mark at a session's end");
+    check(number_at(buffer + ROOM - 8) == 1 && number_at(buffer + ROOM - 4) == ROOM - 16, "its messages and its way back");
+    check(number_at(state + BOE_BOOK_LAST_MARK_AT) == ROOM - 16 && number_at(state + BOE_BOOK_LENGTH_AT) == ROOM, "the last mark");
+
+    memset(again, 0x5A, sizeof again);
+    check(boe_restart(DATE, buffer, sizeof buffer, again, BOE_BOOK_BYTES - 1) == BOE_NO_ROOM, "restart with a short state");
+    check(boe_restart(20250229, buffer, 0, again, 0) == BOE_NOT_A_DAY, "no day");
+    check(boe_restart(DATE, buffer, 15, again, 0) == BOE_NO_FIRST_MARK, "22 comes before 13");
+    check(boe_restart(DATE + 1, buffer, sizeof buffer, again, 0) == BOE_OTHER_DATE, "17 comes before 13");
+    buffer[ROOM - 8] = 2;
+    check(boe_restart(DATE, buffer, sizeof buffer, again, 0) == BOE_BAD_BOOK, "18 comes before 13");
+    buffer[ROOM - 8] = 1;
+    check(all_are(again, sizeof again, 0x5A), "refusals stored nothing");
+    check(boe_restart(DATE, buffer, sizeof buffer, again, sizeof again) == 0, "restart");
+    check(same_bytes(again, state, sizeof state), "answers the state that the book was left in");
+    check(boe_restart(DATE, buffer, sizeof buffer - 1, again, BOE_BOOK_BYTES) == 0, "restart on a torn mark");
+    check(number_at(again + BOE_BOOK_LENGTH_AT) == ROOM - 16 && all_are(again + BOE_BOOK_LAST_MARK_AT, 4, 0), "answers the book without it");
+
+    memset(state, 0xFF, sizeof state);
+    memcpy(held, buffer, sizeof buffer);
+    check(boe_book_append(state, sizeof state, message, sizeof message, buffer, sizeof buffer) == BOE_ALREADY_TAKEN, "a state of FF has every number");
+    memset(state, 0, BOE_TABLE_BYTES);
+    check(boe_book_append(state, sizeof state, message, sizeof message, buffer, sizeof buffer) == BOE_NO_ROOM, "and no room");
+    memcpy(kept, state, sizeof state);
+    check(boe_book_close(state, sizeof state, buffer, sizeof buffer) == 0, "nor room for a mark");
+    check(same_bytes(buffer, held, sizeof buffer) && same_bytes(state, kept, sizeof state), "changed nothing");
+}
+
 /* ---- the stored questions */
 
 static int nibble(int c) {
@@ -300,12 +370,68 @@ static void tohex(const uint8_t *bytes, long n, char *out) {
     *out = 0;
 }
 
+/* A book restarted for a date, in a buffer with `room` bytes FF after it. */
+static unsigned restarted(const char *date, const uint8_t *book, size_t n, uint8_t *state, uint8_t *buffer, size_t room) {
+    memcpy(buffer, book, n);
+    memset(buffer + n, 0xFF, room);
+    memset(state, 0x5A, BOE_BOOK_BYTES);
+    return boe_restart((uint32_t)strtoul(date, NULL, 10), buffer, n, state, BOE_BOOK_BYTES);
+}
+
+/* What the C entry points answer to a question on the day book, or 0 where it is none. */
+static int book_answer(const char *call, const char *date, const char *book, const char *third, const char *fourth, char *out) {
+    static uint8_t bytes[MOST_BYTES], given[MOST_BYTES], buffer[2 * MOST_BYTES];
+    static char hex[2 * MOST_BYTES + 2];
+    uint8_t state[BOE_BOOK_BYTES];
+    long n = book ? unhex(book, bytes) : -1;
+    size_t room = third ? strtoul(third, NULL, 10) : 0;
+    if (n < 0 || (size_t)n + room > MOST_BYTES) return 0;
+    size_t end = (size_t)n + room;
+    if (strcmp(call, "open") == 0 && !third) {
+        unsigned refusal = boe_book_open((uint32_t)strtoul(date, NULL, 10), bytes, (size_t)n, state, sizeof state);
+        tohex(bytes, n, hex);
+        sprintf(out, "%u %s", refusal, hex);
+        return 1;
+    }
+    if (strcmp(call, "restart") == 0 && !third) {
+        unsigned refusal = restarted(date, bytes, (size_t)n, state, buffer, 0);
+        tohex(state, BOE_TABLE_BYTES, hex);
+        if (refusal)
+            sprintf(out, all_are(state, sizeof state, 0x5A) ? "%u" : "a refused restart has stored: %u", refusal);
+        else
+            sprintf(out, "0 %lu %lu %lu %s", (unsigned long)number_at(state + BOE_BOOK_LENGTH_AT), (unsigned long)number_at(state + BOE_BOOK_LAST_MARK_AT),
+                    (unsigned long)number_at(state + BOE_BOOK_MESSAGES_AT), hex);
+        return 1;
+    }
+    if (strcmp(call, "append") == 0 && fourth) {
+        long k = unhex(fourth, given);
+        if (k < 0) return 0;
+        unsigned refusal = restarted(date, bytes, (size_t)n, state, buffer, room);
+        if (refusal) return sprintf(out, "%u", refusal);
+        refusal = boe_book_append(state, sizeof state, given, (size_t)k, buffer, end);
+        tohex(buffer, (long)end, hex);
+        sprintf(out, "0 %u %lu %s", refusal, (unsigned long)number_at(state + BOE_BOOK_LENGTH_AT), hex);
+        return 1;
+    }
+    if (strcmp(call, "close") == 0 && third && !fourth) {
+        unsigned refusal = restarted(date, bytes, (size_t)n, state, buffer, room);
+        if (refusal) return sprintf(out, "%u", refusal);
+        refusal = boe_book_close(state, sizeof state, buffer, end);
+        tohex(buffer, (long)end, hex);
+        sprintf(out, "%u %lu %s", refusal, (unsigned long)number_at(state + BOE_BOOK_LENGTH_AT), hex);
+        return 1;
+    }
+    return 0;
+}
+
 /* What the C entry points answer to a question, or 0 where they answer no such question. */
 static int answer(char *question, char *out) {
     static uint8_t bytes[MOST_BYTES];
     static char hex[2 * MOST_BYTES + 2];
     char *call = strtok(question, " "), *first = strtok(NULL, " "), *second = strtok(NULL, " "), *third = strtok(NULL, " ");
-    if (!call || !first) return 0;
+    char *fourth = strtok(NULL, " ");
+    if (!call || !first || (fourth && strtok(NULL, " "))) return 0;
+    if (book_answer(call, first, second, third, fourth, out)) return 1;
     if (strcmp(call, "frame") == 0) {
         long n = unhex(first, bytes);
         if (n < 0 || second) return 0;
@@ -317,7 +443,7 @@ static int answer(char *question, char *out) {
             sprintf(out, total == 0 ? "%u" : "a refused message has a length: %u", refusal);
         return 1;
     }
-    if (strcmp(call, "step") == 0 && second && third && strtok(NULL, " ") == NULL) {
+    if (strcmp(call, "step") == 0 && second && third && !fourth) {
         long n = unhex(first, bytes);
         if (n < 0) return 0;
         unsigned refusal = boe_table_step(bytes, (size_t)n, (uint8_t)atoi(second), (uint32_t)strtoul(third, NULL, 10));
@@ -342,7 +468,7 @@ static int answer(char *question, char *out) {
         }
         return 1;
     }
-    if (strcmp(call, "write") == 0 && second && third && strtok(NULL, " ") == NULL) {
+    if (strcmp(call, "write") == 0 && second && third && !fourth) {
         static uint8_t given[MOST_BYTES];
         long k = unhex(second, given), n = unhex(third, bytes);
         if (k < 0 || n < 0) return 0;
@@ -374,7 +500,7 @@ static void stored(FILE *questions, FILE *answers) {
         }
     }
     check(fgets(expected, sizeof expected, answers) == NULL, "more answers than questions");
-    check(asked > 40000, "the stored questions were asked");
+    check(asked > 45000, "the stored questions were asked, those on the day book too");
 }
 
 int main(int argc, char **argv) {
@@ -394,6 +520,7 @@ int main(int argc, char **argv) {
     header_alone(BOE_FROM_MEMBER, client_heartbeat);
     header_alone(BOE_FROM_VENUE, server_heartbeat);
     header_alone(BOE_FROM_VENUE, replay_complete);
+    books();
     stored(questions, answers);
     printf("test_gateway: %lu checks, %lu failed\n", checks, failures);
     return failures == 0 ? 0 : 1;

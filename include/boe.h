@@ -56,6 +56,47 @@ size_t boe_frame_length(const uint8_t *bytes, size_t len);
  * more above it, in this order. Bytes past 128 are not touched. */
 uint8_t boe_table_step(uint8_t *table, size_t table_len, uint8_t unit, uint32_t number);
 
+/* The day book. Its bytes stand in a buffer of the caller's: the book is the first `length` bytes of it, and the caller keeps them in its file.
+ * What is known of a book beside its bytes is its state, 144 bytes of the caller's with the lowest byte of a number first:
+ *
+ *   place  bytes
+ *       0    128   the sequence table, as above
+ *     128      4   the date of its marks, as YYYYMMDD
+ *     132      4   the book's length in bytes
+ *     136      4   where its last mark starts
+ *     140      4   its messages
+ *
+ * Any 144 bytes are taken as a state: a length, or a place of the last mark, past the buffer or past 16,777,216 is no room. A state's buffer
+ * may be longer; its bytes past 144 are not touched. State, buffer and bytes of one call do not overlap. */
+#define BOE_BOOK_BYTES 144
+#define BOE_BOOK_TABLE_AT 0
+#define BOE_BOOK_DATE_AT 128
+#define BOE_BOOK_LENGTH_AT 132
+#define BOE_BOOK_LAST_MARK_AT 136
+#define BOE_BOOK_MESSAGES_AT 140
+#define BOE_MARK_BYTES 16
+#define BOE_BOOK_MOST_BYTES 16777216
+
+/* Opens a book for a date. 0: its first mark stands in the front of the buffer, and the state is that of a book of 16 bytes with a table of
+ * zeros. Otherwise buffer and state are as they were: 19, then 13 for a buffer under 16 bytes or a state under 144. What the buffer held
+ * before plays no part, so that a book of 22 is opened afresh by this call. */
+uint8_t boe_book_open(uint32_t date, uint8_t *buffer, size_t buffer_len, uint8_t *state, size_t state_len);
+
+/* Appends the first whole message of the bytes to the book. 0: its bytes stand at the book's end, and the state has the message: its unit's
+ * number, the length, the messages. Otherwise buffer and state are as they were: 13 for a state under 144 bytes, which comes first, since
+ * there is no book to judge by; then 1 to 10 by the message (4 for a type other than 0x25 and 0x2C), 14 and 15 by the table, and last 13 if
+ * the message finds no room in the buffer or within 16,777,216 bytes. */
+uint8_t boe_book_append(uint8_t *state, size_t state_len, const uint8_t *bytes, size_t len, uint8_t *buffer, size_t buffer_len);
+
+/* The mark at a session's end. 0: the mark stands at the book's end, and the state has it; or it found no room, and buffer and state are as
+ * they were: the length tells. 13 for a state under 144 bytes, and both are as they were. */
+uint8_t boe_book_close(uint8_t *state, size_t state_len, uint8_t *buffer, size_t buffer_len);
+
+/* Restarts from the book in the bytes, all of them, for a date. 0: the state is that of the book without its torn tail, if it has one. The
+ * bytes of a torn tail are to be cut off the file: the next message or mark goes where they start. Otherwise the state is as it was: 19, 22,
+ * 18 for a bad first mark, 17, 18, and after all of these 13 for a state under 144 bytes. */
+uint8_t boe_restart(uint32_t date, const uint8_t *bytes, size_t len, uint8_t *state, size_t state_len);
+
 /* The bytes of a record's buffer, which reading and writing want whatever the type. */
 #define BOE_RECORD_LEN 439
 

@@ -1,35 +1,47 @@
 //! Reads a question and writes its answer, in the format of README.md.
 
+use crate::bench::Bench;
 use crate::hex;
 use crate::rules::kinds::{self, Kind};
-use crate::rules::{book, calendar, frame, number, price, pulse, read, table, write, Refusal};
+use crate::rules::{
+    book, calendar, frame, listing, number, price, pulse, read, table, write, Refusal,
+};
+use crate::words::{read_number, read_u32, read_u8};
 
 /// The most characters of a question, its LF not counted.
 pub const LONGEST: usize = 8_000;
-const MOST_DIGITS: usize = 20;
 /// The most bytes that `append` and `close` add to a book's buffer, and what they hold.
 const MOST_ROOM: u64 = 2_100;
 const ROOM_BYTE: u8 = 0xFF;
 
-/// One answer line for each line ended by LF; what follows the last LF is no question.
+/// One answer line for each line ended by LF; what follows the last LF is no question. The bench is
+/// kept from line to line.
 pub fn answers(input: &[u8]) -> String {
     let mut pieces: Vec<&[u8]> = input.split(|byte| *byte == b'\n').collect();
     pieces.pop();
+    let mut bench = Bench::new();
     let mut output = String::new();
     for line in pieces {
-        output.push_str(&answer(line));
+        output.push_str(&answer_on(&mut bench, line));
         output.push('\n');
     }
     output
 }
 
-/// The answer to one line, without its LF.
+/// The answer to one line, without its LF, on a bench as at the start.
+#[cfg(test)]
 pub fn answer(line: &[u8]) -> String {
-    understood(line).unwrap_or_else(|| "?".to_string())
+    answer_on(&mut Bench::new(), line)
+}
+
+/// The answer to one line, without its LF. Of the bench only script questions see or change
+/// anything.
+pub fn answer_on(bench: &mut Bench, line: &[u8]) -> String {
+    understood(bench, line).unwrap_or_else(|| "?".to_string())
 }
 
 /// None for a line outside the format.
-fn understood(line: &[u8]) -> Option<String> {
+fn understood(bench: &mut Bench, line: &[u8]) -> Option<String> {
     if line.len() > LONGEST || !line.is_ascii() {
         return None;
     }
@@ -107,36 +119,12 @@ fn understood(line: &[u8]) -> Option<String> {
             let room = read_number(room, MOST_ROOM)?;
             Some(close(date, bytes, room as usize))
         }
-        _ => None,
+        ["list", bytes] => Some(listing::lines(&hex::read(bytes)?).join("|")),
+        _ => bench.answer(&words),
     }
 }
 
 // Arguments.
-
-fn read_number(word: &str, greatest: u64) -> Option<u64> {
-    if word.is_empty() || word.len() > MOST_DIGITS {
-        return None;
-    }
-    let mut value: u128 = 0;
-    for character in word.bytes() {
-        if !character.is_ascii_digit() {
-            return None;
-        }
-        value = value * 10 + u128::from(character - b'0');
-    }
-    if value > u128::from(greatest) {
-        return None;
-    }
-    Some(value as u64)
-}
-
-fn read_u8(word: &str) -> Option<u8> {
-    read_number(word, u64::from(u8::MAX)).map(|value| value as u8)
-}
-
-fn read_u32(word: &str) -> Option<u32> {
-    read_number(word, u64::from(u32::MAX)).map(|value| value as u32)
-}
 
 fn read_width(word: &str) -> Option<u64> {
     let width = read_number(word, 8)?;
@@ -437,11 +425,20 @@ mod tests {
             "close 20250819 -",
             "close 20250819 - 2101",
             "close 20250819 - -",
+            "list",
+            "list - -",
+            "list 0",
+            "list 20250819 -",
         ] {
             check(line, "?");
         }
         check("append 20250819 - 2100 -", "22");
         check("close 20250819 - 2100", "22");
+        check("list -", "22");
+        check(
+            &format!("list {}BA", book),
+            "mark 20250819 0 0|25 1 1 ABC123 123.4500|end 73 1",
+        );
     }
 
     #[test]

@@ -1,12 +1,15 @@
-//! The second program: makes the stored questions or more of them, or answers the questions it
-//! reads. README.md has the format.
+//! The second program: makes the stored questions and scripts or more of them, or answers the
+//! questions it reads. README.md has the format.
 
 mod ask;
+mod bench;
 mod examples;
 mod hex;
 mod questions;
 mod random;
 mod rules;
+mod scripts;
+mod words;
 
 use std::env;
 use std::io::{self, BufWriter, Read, Write};
@@ -25,6 +28,11 @@ fn main() -> ExitCode {
             (Ok(seed), Ok(count)) => write_more(seed, count),
             _ => return usage(),
         },
+        ["scripts"] => write_out(scripts::stored().as_bytes()),
+        ["more-scripts", seed, count] => match (seed.parse(), count.parse()) {
+            (Ok(seed), Ok(count)) => write_more_scripts(seed, count),
+            _ => return usage(),
+        },
         _ => return usage(),
     };
     match done {
@@ -37,7 +45,10 @@ fn main() -> ExitCode {
 }
 
 fn usage() -> ExitCode {
-    eprintln!("usage: second questions | second answers < QUESTIONS | second more SEED COUNT");
+    eprintln!(
+        "usage: second questions | second scripts | second answers < QUESTIONS | \
+         second more SEED COUNT | second more-scripts SEED COUNT"
+    );
     ExitCode::from(2)
 }
 
@@ -56,6 +67,14 @@ fn write_more(seed: u64, count: usize) -> io::Result<()> {
     let mut output = BufWriter::new(io::stdout().lock());
     for line in questions::more::More::new(seed).take(count) {
         writeln!(output, "{}", line)?;
+    }
+    output.flush()
+}
+
+fn write_more_scripts(seed: u64, count: usize) -> io::Result<()> {
+    let mut output = BufWriter::new(io::stdout().lock());
+    for script in scripts::more(seed, count) {
+        output.write_all(script.as_bytes())?;
     }
     output.flush()
 }

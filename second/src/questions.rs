@@ -1,12 +1,14 @@
 //! Makes the stored questions. Each section has its own seed, so that a new section leaves the
 //! others as they were.
 
-mod book;
+pub mod book;
 mod clock;
 pub mod damage;
 mod frame;
 #[cfg(test)]
 mod judged;
+mod listing;
+pub mod made;
 pub mod more;
 mod number;
 mod outside;
@@ -30,6 +32,7 @@ pub fn all() -> String {
     write::ask(&mut lines);
     session::ask(&mut lines);
     book::ask(&mut lines);
+    listing::ask(&mut lines);
     let mut output = String::new();
     for line in lines {
         output.push_str(&line);
@@ -52,7 +55,7 @@ mod tests {
     #[test]
     fn plain_text_of_a_fair_size() {
         let questions = all();
-        assert!(questions.len() < 9_000_000);
+        assert!(questions.len() < 9_800_000);
         for byte in questions.bytes() {
             assert!(byte == b'\n' || byte == b'\t' || (32..=126).contains(&byte));
         }
@@ -102,6 +105,7 @@ mod tests {
             ("restart", "0 17 18 19 22 ?"),
             ("append", "0 17 18 19 22 ?"),
             ("close", "0 17 18 19 22 ?"),
+            ("list", "mark 18 22 ?"),
         ] {
             for first in expected.split(' ') {
                 let pair = format!("{} {}", call, first);
@@ -134,7 +138,7 @@ mod tests {
             questions
                 .lines()
                 .filter(|line| {
-                    line.len() > 7_900 && (ask::answer(line.as_bytes()) == "?") == refused
+                    line.len() > 7_990 && (ask::answer(line.as_bytes()) == "?") == refused
                 })
                 .map(str::len)
                 .collect()

@@ -6,6 +6,9 @@ pub mod frame;
 pub mod groups;
 pub mod kinds;
 pub mod layout;
+pub mod listing;
+pub mod login;
+pub mod member;
 pub mod number;
 pub mod price;
 pub mod pulse;
@@ -13,9 +16,10 @@ pub mod read;
 pub mod record;
 pub mod session;
 pub mod table;
+pub mod venue;
 pub mod write;
 
-/// Document 01, "Numbers of refusal": those that the calls answered so far can give.
+/// Document 01, "Numbers of refusal".
 #[derive(Clone, Copy, Debug, PartialEq, Eq)]
 pub enum Refusal {
     /// A byte that should be BA is another.
@@ -48,12 +52,18 @@ pub enum Refusal {
     Behind = 14,
     /// At least one number is missing between the table's and this one.
     Ahead = 15,
+    /// The session's phase does not take the call or the message.
+    Phase = 16,
     /// The book was opened for another date than the one asked for.
     OtherDate = 17,
     /// A book that is neither whole nor torn.
     Broken = 18,
     /// Not a day of the years 1970 to 2099.
     Day = 19,
+    /// The last of the outgoing numbers has been used.
+    Spent = 20,
+    /// An order's number is not above the last one that the venue took.
+    Old = 21,
     /// A book that is shorter than its first mark.
     Small = 22,
 }

@@ -1,2 +1,5 @@
 pub mod TableBytes
 pub mod TableBytesLaws
+pub mod BookBytes
+pub mod BookBytesLaws
+pub mod BookRefusals

@@ -1,5 +1,5 @@
 -- A record's buffer put together from the reader's stages is that of the message. Assumes nothing.
-use mathlib.Core.Path.{_≡_, sym, ap, _∙_, subst}
+use mathlib.Core.Path.{_≡_, sym, ap, ap₂, _∙_}
 use mathlib.Core.List.{List, _++_}
 use Prim.Native.Nat.{ℕ, _+_, _-_, _≤_}
 use lib.ListN.{length, getD, take, drop, length-append, length-drop}
@@ -15,7 +15,9 @@ use Rattle.orders.specs.declared.Record.{Record}
 use Rattle.orders.specs.Shapes.{countAt}
 use Rattle.orders.specs.Orders.{countOf, bitsOf, fixedOf, optionalOf, headRefusal, blockRefusal, readRefusal, layoutOf, recordOf}
 use Rattle.records.specs.Records.{recordBytes}
-use Rattle.order_reader.specs.Stages.{bodyRecord, readRecord}
+use Rattle.order_reader.specs.declared.Parts.{Parts}
+use Rattle.order_reader.specs.Stages.{Parted, bodyRecord, readRecord}
+use Rattle.order_reader.proofs.Heads.{good-head}
 
 -- a part with zeros after it is as long as the whole
 pub padded-length : (s l : List ℕ) (a n k : ℕ) → a + n ≤ length s → n ≤ k → l ≡ take n (drop a s) ++ zeros (k - n) → length l ≡ k
@@ -55,30 +57,52 @@ module _ (m : List ℕ) (count : ℕ) (bits fixed : List ℕ) (start : ℕ) (wit
         ∙ ap (λ (x : ℕ). found (typeOf m) x number (layoutOf (typeOf m) count bits (drop start m))) u
         ∙ ap (λ (x : ℕ). found (typeOf m) (unitOf m) x (layoutOf (typeOf m) count bits (drop start m))) n))
 
+-- ---- the parts
+
+module _ (m : List ℕ) (message at count : ℕ) (bits fixed : List ℕ)
+    (z : headRefusal m ≡ 0) (e : message ≡ typeOf m) (f : at ≡ countAt message) (g : count ≡ getD m at 0)
+    (b : bits ≡ take count (drop (at + 1) m) ++ zeros (15 - count)) (x : fixed ≡ take (at - 10) (drop 10 m) ++ zeros (69 - at)) where
+  pub parted : Parted m (record { count = count; bits = bits; fixed = fixed; start = at + 1 + count })
+  unfolding bitsOf fixedOf
+  parted =
+      let h = good-head m message at count z e f g in
+      let i : at ≡ countAt (typeOf m) = f ∙ ap countAt e in
+      let n : count ≡ countOf m = g ∙ ap (λ (j : ℕ). getD m j 0) i in
+      let y : 69 - at ≡ 59 - (at - 10) = omega (arith, h .at-least) in
+      record {
+        count-is = n;
+        bits-is = b ∙ ap₂ (λ (k j : ℕ). take k (drop (j + 1) m) ++ zeros (15 - k)) n i;
+        fixed-is = x ∙ ap (λ (j : ℕ). take (j - 10) (drop 10 m) ++ zeros (69 - j)) i;
+        start-is = ap₂ (λ (j k : ℕ). j + 1 + k) i n;
+        within = h .fits;
+        few = h .few;
+        bits-long = padded-length m bits (at + 1) count 15 (h .fits) (h .few) b;
+        fixed-long = padded-length m fixed 10 (at - 10) 59 (omega (arith, h .fits, h .at-least)) (omega (arith, h .at-most)) (x ∙ ap (λ (k : ℕ). take (at - 10) (drop 10 m) ++ zeros k) y);
+      }
+
 -- ---- the whole message
 
-module _ (m buffer : List ℕ) where
-  pub head-refused : (r : ℕ) → r ≡ headRefusal m → (r ≡ 0 → ⊥) → (r ≡ readRefusal m) × (buffer ≡ readRecord m buffer)
-  unfolding readRecord readRefusal
-  head-refused r e n =
-      let q = ne-eqb (headRefusal m) 0 (λ z. n (e ∙ z)) in
-      (rw q e, rw (q, q))
+module _ (m : List ℕ) where
+  pub refused-by-head : {r : ℕ} → r ≡ headRefusal m → (r ≡ 0 → ⊥) → r ≡ readRefusal m
+  unfolding readRefusal
+  refused-by-head e n = rw (ne-eqb (headRefusal m) 0 (λ z. n (e ∙ z))) e
 
-  -- the refusal and the buffer of a body
-  abbrev Answers : ℕ → List ℕ → ℕ → List ℕ → List ℕ → List ℕ → Type 0
-  Answers r out count bits fixed optional = (r ≡ blockRefusal (typeOf m) count bits fixed optional) × (out ≡ bodyRecord m count bits fixed optional buffer)
+  -- the refusal of the parts' body is the message's
+  pub told-by-body : (p : Parts) → headRefusal m ≡ 0 → Parted m p → {r : ℕ} → r ≡ blockRefusal (typeOf m) (p .count) (p .bits) (p .fixed) (drop (p .start) m) → r ≡ readRefusal m
+  unfolding readRefusal optionalOf
+  told-by-body p z k e = e ∙ rw (k .count-is, k .bits-is, k .fixed-is, k .start-is, eq-eqb (headRefusal m) 0 z)
 
-  head-good : (r : ℕ) (out : List ℕ) → headRefusal m ≡ 0 → Answers r out (countOf m) (bitsOf m) (fixedOf m) (optionalOf m) → (r ≡ readRefusal m) × (out ≡ readRecord m buffer)
-  unfolding readRecord readRefusal recordOf bodyRecord
-  head-good r out z a = (rw (eq-eqb (headRefusal m) 0 z) (a .0), a .1 ∙ rw (eq-eqb (headRefusal m) 0 z))
+  module _ (buffer : List ℕ) where
+    pub head-refused : (r : ℕ) → r ≡ headRefusal m → (r ≡ 0 → ⊥) → (r ≡ readRefusal m) × (buffer ≡ readRecord m buffer)
+    unfolding readRecord
+    head-refused r e n =
+        let q = refused-by-head e n in
+        (q, rw (ne-eqb (readRefusal m) 0 (λ z. n (q ∙ z))))
 
-  pub read-is : (message at count : ℕ) (bits fixed : List ℕ) → headRefusal m ≡ 0 → message ≡ typeOf m → at ≡ countAt message → count ≡ getD m at 0
-      → bits ≡ take count (drop (at + 1) m) ++ zeros (15 - count) → fixed ≡ take (at - 10) (drop 10 m) ++ zeros (69 - at)
-      → {r : ℕ} {out : List ℕ} → Answers r out count bits fixed (drop (at + 1 + count) m) → (r ≡ readRefusal m) × (out ≡ readRecord m buffer)
-  unfolding bitsOf fixedOf optionalOf
-  read-is message at count bits fixed z e f g b x {r} {out} h =
-      head-good r out z
-      (subst (λ (i : ℕ). Answers r out (getD m i 0) (take (getD m i 0) (drop (i + 1) m) ++ zeros (15 - getD m i 0)) (take (i - 10) (drop 10 m) ++ zeros (69 - i)) (drop (i + 1 + getD m i 0) m)) (f ∙ ap countAt e)
-      (subst (λ (n : ℕ). Answers r out n (take n (drop (at + 1) m) ++ zeros (15 - n)) (take (at - 10) (drop 10 m) ++ zeros (69 - at)) (drop (at + 1 + n) m)) g
-      (subst (λ (l : List ℕ). Answers r out count (take count (drop (at + 1) m) ++ zeros (15 - count)) l (drop (at + 1 + count) m)) x
-      (subst (λ (l : List ℕ). Answers r out count l fixed (drop (at + 1 + count) m)) b h))))
+    -- and so is the record of their body
+    pub read-is : (p : Parts) → headRefusal m ≡ 0 → Parted m p → {r : ℕ} {out : List ℕ}
+        → (r ≡ blockRefusal (typeOf m) (p .count) (p .bits) (p .fixed) (drop (p .start) m)) × (out ≡ bodyRecord m (p .count) (p .bits) (p .fixed) (drop (p .start) m) buffer)
+        → (r ≡ readRefusal m) × (out ≡ readRecord m buffer)
+    unfolding readRecord readRefusal recordOf bodyRecord optionalOf
+    read-is p z k a =
+        (told-by-body p z k (a .0), a .1 ∙ rw (k .count-is, k .bits-is, k .fixed-is, k .start-is, eq-eqb (headRefusal m) 0 z))

@@ -1,5 +1,6 @@
 -- The stages of the reader, as its functions have them. Definitions alone. Assumes nothing.
-use Prim.Native.Nat.{ℕ, _+_}
+use mathlib.Core.Path.{_≡_}
+use Prim.Native.Nat.{ℕ, _+_, _≤_}
 use mathlib.Core.Bool.{cond, not, _&&_}
 use mathlib.Core.List.{List}
 use lib.Dec.{ltb, eqb}
@@ -9,9 +10,10 @@ use Rattle.refusals.specs.Names.{wrongTotal, tooManyBitfields, unlistedBit, not
 use Rattle.wire.specs.Header.{typeOf, unitOf, numberOf}
 use Rattle.fields.specs.Places.{hasRequired}
 use Rattle.spread.specs.declared.Taken.{Taken}
-use Rattle.orders.specs.Shapes.{mostOf, fixedGood}
-use Rattle.orders.specs.Orders.{blockRefusal, layoutOf, readRefusal, recordOf}
+use Rattle.orders.specs.Shapes.{countAt, mostOf, fixedGood}
+use Rattle.orders.specs.Orders.{countOf, bitsOf, fixedOf, blockRefusal, layoutOf, readRefusal, recordOf}
 use Rattle.records.specs.Records.{recordBytes}
+use Rattle.order_reader.specs.declared.Parts.{Parts}
 
 -- 7; 6 if the bitfields do not fit, where the count byte stands at `at`
 unfoldable pub countRefusal : ℕ → ℕ → List ℕ → ℕ
@@ -28,6 +30,17 @@ judgedOf message count bits fixed t have =
     (cond (not (eqb (t .at) have)) wrongTotal
     (cond (not (fixedGood message fixed && eqb (t .wrong) 0)) badValue
     0)))
+
+-- the parts of a message as the reader holds them, and that they lie within it
+pub record Parted (m : List ℕ) (p : Parts) : Type 0 where
+  pub count-is : p .count ≡ countOf m
+  pub bits-is : p .bits ≡ bitsOf m
+  pub fixed-is : p .fixed ≡ fixedOf m
+  pub start-is : p .start ≡ countAt (typeOf m) + 1 + countOf m
+  pub within : p .start ≤ length m
+  pub few : p .count ≤ 15
+  pub bits-long : length (p .bits) ≡ 15
+  pub fixed-long : length (p .fixed) ≡ 59
 
 -- the record's buffer after the body of a message whose head is good
 unfoldable pub bodyRecord : List ℕ → ℕ → List ℕ → List ℕ → List ℕ → List ℕ → List ℕ

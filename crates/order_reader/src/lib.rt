@@ -7,7 +7,7 @@ ghost use Rattle.wire.specs.Header.{typeOf};
 ghost use Rattle.fields.specs.Slots.{zeros};
 ghost use Rattle.orders.specs.Shapes.{countAt};
 ghost use Rattle.orders.specs.Orders.{headRefusal, blockRefusal, layoutOf, readRefusal};
-ghost use Rattle.order_reader.specs.Stages.{countRefusal, judgedOf, bodyRecord, readRecord};
+ghost use Rattle.order_reader.specs.Stages.{countRefusal, judgedOf, Parted, bodyRecord, readRecord};
 use spread::Taken;
 
 // The bitfields of a message, with zeros after them.
@@ -18,6 +18,14 @@ struct Bitfields {
 // The fixed part of a message, with zeros after it.
 struct Fixed {
     bytes: [u8; 59],
+}
+
+// A message's count, its bitfields and its fixed part, and where its optional bytes start.
+struct Parts {
+    count: u8,
+    bits: [u8; 15],
+    fixed: [u8; 59],
+    start: usize,
 }
 
 // 4; 5; 6 if the message ends before its count byte is whole; 7; 6 if the bitfields do not fit.
@@ -146,6 +154,36 @@ fn body(m: &[u8], count: u8, bits: &[u8; 15], fixed: &[u8], start: usize, buffer
     0
 }
 
+// The refusal of such a body alone.
+fn body_refusal(m: &[u8], count: u8, bits: &[u8; 15], fixed: &[u8], start: usize) -> u8
+    requires { ⌜ (start ≤ length (now m)) × (count ≤ 15) × (length (now fixed) ≡ 59) ⌝ }
+    ensures { λ r. ⌜ r ≡ blockRefusal (typeOf (now (m .entry))) count (now (bits .entry)) (now (fixed .entry)) (drop start (now (m .entry))) ⌝ }
+{
+    let message = wire::header::type_of(m);
+    let mut slots = [0u8; 154];
+    block_of(message, bits, count, fixed, &m[start..], &mut slots)
+}
+
+// The parts of a message whose head is good.
+fn parts_of(m: &[u8]) -> Parts
+    requires { ⌜ headRefusal (now m) ≡ 0 ⌝ }
+    ensures { λ r. ⌜ Parted (now (m .entry)) r ⌝ }
+{
+    let message = wire::header::type_of(m);
+    let at = orders::count_at(message);
+    let count = numbers::byte_at(m, at);
+    let b = bits_of(m, at, count);
+    let f = fixed_part(m, message);
+    let bits = b.bits;
+    let fixed = f.bytes;
+    Parts {
+        count: count,
+        bits: bits,
+        fixed: fixed,
+        start: at + 1 + (count as usize),
+    }
+}
+
 // Reads a whole message, as framing answers it, into a buffer that has room for its record: 0, and the record's bytes stand in the front of
 // the buffer; or the refusal (4 to 10), and the buffer is as it was.
 pub fn read_order(m: &[u8], buffer: &mut [u8]) -> u8
@@ -156,12 +194,22 @@ pub fn read_order(m: &[u8], buffer: &mut [u8]) -> u8
     if refusal != 0 {
         return refusal;
     }
-    let message = wire::header::type_of(m);
-    let at = orders::count_at(message);
-    let count = numbers::byte_at(m, at);
-    let b = bits_of(m, at, count);
-    let f = fixed_part(m, message);
-    let bits = b.bits;
-    let fixed = f.bytes;
-    body(m, count, &bits, &fixed, at + 1 + (count as usize), buffer)
+    let p = parts_of(m);
+    let bits = p.bits;
+    let fixed = p.fixed;
+    body(m, p.count, &bits, &fixed, p.start, buffer)
+}
+
+// The refusal of a whole message alone, 4 to 10, or 0: for callers that want no record.
+pub fn order_refusal(m: &[u8]) -> u8
+    ensures { λ r. ⌜ r ≡ readRefusal (now (m .entry)) ⌝ }
+{
+    let refusal = head_refusal(m);
+    if refusal != 0 {
+        return refusal;
+    }
+    let p = parts_of(m);
+    let bits = p.bits;
+    let fixed = p.fixed;
+    body_refusal(m, p.count, &bits, &fixed, p.start)
 }

@@ -75,6 +75,9 @@ fn book_call_of(word: &[u8]) -> u8 {
     if check::same(word, b"close") {
         return 17;
     }
+    if check::same(word, b"list") {
+        return 18;
+    }
     0
 }
 
@@ -112,6 +115,7 @@ pub fn answered(line: &[u8], bytes: &mut [u8]) -> bool {
         15 => books::restart(line, bytes),
         16 => books::append(line, bytes),
         17 => books::close(line),
+        18 => books::list(line, bytes),
         _ => false,
     }
 }

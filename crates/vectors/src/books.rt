@@ -5,6 +5,7 @@ use crate::answers;
 use asking::words;
 use asking::writing;
 use book::Book;
+use lines::Line;
 use table::Unit;
 
 // `open DATE BYTES`: the refusal and the buffer after the call.
@@ -142,4 +143,68 @@ fn closed(date: u32, n: usize, buffer: &mut [u8])
         writing::text(b" ");
         whole(buffer);
     }
+}
+
+// `list BYTES`: the lines of the book's listing, with | between them.
+pub fn list(line: &[u8], bytes: &mut [u8]) -> bool {
+    let run = words::read_bytes(words::word(line, 1), bytes);
+    if run.ok {
+        let n = run.count;
+        listed(&bytes[0..n]);
+        return true;
+    }
+    false
+}
+
+// The answer to `list` of a book. A proved loop has to end, so it counts its lines down from more than a question's book has.
+fn listed(s: &[u8]) {
+    let mut at = listing::start();
+    let mut pos: usize = 0;
+    let mut lines: u32 = 8192;
+    while lines > 0 {
+        let stepped = listing::step(at, rest(s, pos), true);
+        listed_line(stepped.line, lines == 8192);
+        pos = next_place(pos, stepped.taken, s.len());
+        let next = stepped.listing;
+        at = next;
+        lines -= 1;
+    }
+}
+
+// What stands from a place on; nothing past the end.
+fn rest(s: &[u8], pos: usize) -> &[u8] {
+    let n = s.len();
+    if pos < n { &s[pos..] } else { &s[n..] }
+}
+
+// A place so many bytes on, and no farther than the end.
+fn next_place(pos: usize, taken: usize, end: usize) -> usize {
+    if end < pos {
+        return end;
+    }
+    if end - pos < taken {
+        return end;
+    }
+    pos + taken
+}
+
+// A line without its end, and | before it unless it is the first; nothing where there is no text.
+fn listed_line(l: Line, first: bool) {
+    let text = l.bytes;
+    let n = l.length;
+    if n < 1 {
+        return;
+    }
+    if !first {
+        writing::text(b"|");
+    }
+    writing::text(front(&text, n - 1));
+}
+
+// The first n bytes, or all where there are fewer.
+fn front(s: &[u8], n: usize) -> &[u8] {
+    if s.len() < n {
+        return s;
+    }
+    &s[0..n]
 }

@@ -2,3 +2,4 @@ pub mod Words
 pub mod WordLaws
 pub mod Demand3
 pub mod Proved
+pub mod ADay

@@ -1,14 +1,16 @@
-//! Questions about the day book. Here a book is put together by document 01 and not by the rules'
-//! own code.
+//! Questions about the day book.
 
+use super::listing;
+use super::made::{
+    both, empty, example, greatest, least, mark, marks, numbered, random_book, some_type, units,
+    Made, DATE, MARK,
+};
 use super::sample::{self, Sample, ACKNOWLEDGMENT, EXECUTION};
 use crate::examples;
 use crate::hex;
 use crate::random::Random;
 use std::collections::BTreeSet;
 
-const DATE: u32 = 20_250_819;
-const MARK: usize = 16;
 /// Days at the ends of what is one, and numbers that are no day.
 const DATES: [u32; 12] = [
     19_700_101,
@@ -51,7 +53,8 @@ fn make(lines: &mut Vec<String>) {
     on_refused_books(lines);
     closes(lines, &mut random);
     for _ in 0..75 {
-        lines.extend(four(&mut random));
+        // The listing has a section of its own.
+        lines.extend(group(&mut random).into_iter().take(4));
     }
     outside(lines);
     longest(lines);
@@ -72,149 +75,6 @@ fn append(date: u32, book: &[u8], room: usize, message: &[u8]) -> String {
 
 fn close(date: u32, book: &[u8], room: usize) -> String {
     format!("close {} {} {}", date, hex::write(book), room)
-}
-
-// Books.
-
-fn mark(date: u32, count: u32, back: u32) -> Vec<u8> {
-    let mut mark = vec![0; 4];
-    for value in [date, count, back] {
-        mark.extend(value.to_le_bytes());
-    }
-    mark
-}
-
-/// Valid as it is made.
-#[derive(Clone)]
-struct Made {
-    date: u32,
-    bytes: Vec<u8>,
-    /// Where each mark and message starts.
-    starts: Vec<usize>,
-    last: usize,
-    count: u32,
-    entries: [u32; 33],
-}
-
-impl Made {
-    fn new(date: u32) -> Made {
-        Made {
-            date,
-            bytes: mark(date, 0, 0),
-            starts: vec![0],
-            last: 0,
-            count: 0,
-            entries: [0; 33],
-        }
-    }
-
-    fn mark(mut self) -> Made {
-        let place = self.bytes.len();
-        self.bytes
-            .extend(mark(self.date, self.count, (place - self.last) as u32));
-        self.starts.push(place);
-        self.last = place;
-        self
-    }
-
-    /// Takes a message of a unit, which gets the unit's next number.
-    fn with(mut self, mut sample: Sample, unit: u8) -> Made {
-        self.entries[usize::from(unit)] += 1;
-        sample.unit = unit;
-        sample.number = self.entries[usize::from(unit)];
-        self.starts.push(self.bytes.len());
-        self.bytes.extend(sample.bytes());
-        self.count += 1;
-        self
-    }
-
-    fn next(&self, unit: u8) -> u32 {
-        self.entries[usize::from(unit)] + 1
-    }
-}
-
-fn least(random: &mut Random, which: usize) -> Sample {
-    Sample::least(random, which)
-}
-
-/// All bits and all bitfields.
-fn greatest(random: &mut Random, which: usize) -> Sample {
-    let mut sample = Sample::least(random, which);
-    sample.select_all();
-    sample.lengthen(sample.layout.most);
-    sample
-}
-
-fn some_type(random: &mut Random) -> usize {
-    match random.below(2) {
-        0 => ACKNOWLEDGMENT,
-        _ => EXECUTION,
-    }
-}
-
-fn numbered(mut sample: Sample, unit: u8, number: u32) -> Vec<u8> {
-    sample.unit = unit;
-    sample.number = number;
-    sample.bytes()
-}
-
-/// Document 01's example of a book, and a mark after it.
-fn example() -> Vec<u8> {
-    let mut book = mark(DATE, 0, 0);
-    book.extend(examples::booked_acknowledgment());
-    book.extend(mark(DATE, 1, 73));
-    book
-}
-
-fn empty() -> Made {
-    Made::new(DATE)
-}
-
-/// Marks back to back.
-fn marks() -> Made {
-    Made::new(DATE).mark().mark().mark()
-}
-
-/// The least message of both types.
-fn both(random: &mut Random) -> Made {
-    Made::new(DATE)
-        .with(least(random, ACKNOWLEDGMENT), 1)
-        .with(least(random, EXECUTION), 1)
-        .mark()
-}
-
-/// Several units in turn, marks between them.
-fn units(random: &mut Random) -> Made {
-    Made::new(DATE)
-        .with(least(random, ACKNOWLEDGMENT), 32)
-        .mark()
-        .mark()
-        .with(least(random, ACKNOWLEDGMENT), 1)
-        .with(least(random, ACKNOWLEDGMENT), 32)
-        .mark()
-}
-
-fn random_book(random: &mut Random) -> Made {
-    let date = match random.below(4) {
-        0 => 19_700_101,
-        1 => 20_991_231,
-        _ => DATE,
-    };
-    let mut book = Made::new(date);
-    let first = random.between(1, 32) as u8;
-    let second = random.between(1, 32) as u8;
-    for _ in 0..random.between(0, 4) {
-        book = match random.below(3) {
-            0 => book.mark(),
-            _ => {
-                let which = some_type(random);
-                let sample = Sample::any(random, which);
-                let unit = random.pick(&[first, second]);
-                book.with(sample, unit)
-            }
-        };
-    }
-    book
 }
 
 // Opening and restart.
@@ -310,24 +170,27 @@ fn changed_bytes(lines: &mut Vec<String>) {
     }
 }
 
+/// The parts of first marks: all but those of DATE + 1, 0 and 0 are out of order.
+pub const FIRST_MARKS: [(u32, u32, u32); 14] = [
+    (DATE, 1, 0),
+    (DATE, 0, 1),
+    (DATE, 0, 16),
+    (DATE, 0, u32::MAX),
+    (DATE, u32::MAX, 0),
+    (DATE, 0x0100_0000, 0),
+    (20_250_832, 0, 0),
+    (20_250_229, 0, 0),
+    (19_691_231, 0, 0),
+    (21_000_101, 0, 0),
+    (0, 0, 0),
+    (DATE + 1, 0, 0),
+    (DATE + 1, 1, 0),
+    (DATE + 1, 0, 1),
+];
+
 /// First marks with a wrong part, alone and with another date asked besides.
 fn first_marks(lines: &mut Vec<String>) {
-    for (date, count, back) in [
-        (DATE, 1, 0),
-        (DATE, 0, 1),
-        (DATE, 0, 16),
-        (DATE, 0, u32::MAX),
-        (DATE, u32::MAX, 0),
-        (DATE, 0x0100_0000, 0),
-        (20_250_832, 0, 0),
-        (20_250_229, 0, 0),
-        (19_691_231, 0, 0),
-        (21_000_101, 0, 0),
-        (0, 0, 0),
-        (DATE + 1, 0, 0),
-        (DATE + 1, 1, 0),
-        (DATE + 1, 0, 1),
-    ] {
+    for (date, count, back) in FIRST_MARKS {
         for asked in [DATE, DATE + 1, date] {
             lines.push(restart(asked, &mark(date, count, back)));
         }
@@ -355,27 +218,7 @@ fn first_marks(lines: &mut Vec<String>) {
 /// Later marks of another date, a wrong count or a wrong way back; whole, and one byte short.
 fn later_marks(lines: &mut Vec<String>, random: &mut Random) {
     for book in [empty(), marks(), both(random), units(random)] {
-        let count = book.count;
-        let back = (book.bytes.len() - book.last) as u32;
-        for (date, count, back) in [
-            (DATE, count, back),
-            (DATE + 1, count, back),
-            (DATE - 1, count, back),
-            (0, count, back),
-            (20_250_832, count, back),
-            (DATE, count + 1, back),
-            (DATE, count.wrapping_sub(1), back),
-            (DATE, 0, back),
-            (DATE, 1, back),
-            (DATE, count + 0x0100_0000, back),
-            (DATE, count, 0),
-            (DATE, count, back + 1),
-            (DATE, count, back - 1),
-            (DATE, count, back + 16),
-            (DATE, count, book.bytes.len() as u32),
-            (DATE, count, u32::MAX),
-            (DATE, count, back + 0x0100_0000),
-        ] {
+        for (date, count, back) in some_marks(&book) {
             let bad = [book.bytes.clone(), mark(date, count, back)].concat();
             lines.push(restart(DATE, &bad));
             lines.push(restart(DATE, &bad[..bad.len() - 1]));
@@ -387,6 +230,31 @@ fn later_marks(lines: &mut Vec<String>, random: &mut Random) {
         book[place] ^= 2;
         lines.push(restart(DATE, &book));
     }
+}
+
+/// The parts of marks that come after a book; the first is in order.
+pub fn some_marks(book: &Made) -> Vec<(u32, u32, u32)> {
+    let count = book.count;
+    let back = (book.bytes.len() - book.last) as u32;
+    vec![
+        (DATE, count, back),
+        (DATE + 1, count, back),
+        (DATE - 1, count, back),
+        (0, count, back),
+        (20_250_832, count, back),
+        (DATE, count + 1, back),
+        (DATE, count.wrapping_sub(1), back),
+        (DATE, 0, back),
+        (DATE, 1, back),
+        (DATE, count + 0x0100_0000, back),
+        (DATE, count, 0),
+        (DATE, count, back + 1),
+        (DATE, count, back - 1),
+        (DATE, count, back + 16),
+        (DATE, count, book.bytes.len() as u32),
+        (DATE, count, u32::MAX),
+        (DATE, count, back + 0x0100_0000),
+    ]
 }
 
 /// Message numbers about the next one.
@@ -411,7 +279,7 @@ fn numbers(lines: &mut Vec<String>, random: &mut Random) {
 }
 
 /// Messages that a book does not take, by the number that the reader gives.
-fn bad_messages(random: &mut Random) -> Vec<Vec<u8>> {
+pub fn bad_messages(random: &mut Random) -> Vec<Vec<u8>> {
     let mut bad = vec![
         examples::new_order(),
         examples::cancel(),
@@ -473,6 +341,16 @@ fn strangers(lines: &mut Vec<String>, random: &mut Random) {
 }
 
 fn tails(lines: &mut Vec<String>) {
+    let whole = example();
+    for book in [&whole[..16], &whole[..73], &whole[..]] {
+        for tail in some_tails() {
+            lines.push(restart(DATE, &[book, &tail].concat()));
+        }
+    }
+}
+
+/// Torn tails, and tails that are not.
+pub fn some_tails() -> Vec<Vec<u8>> {
     let mut tails: Vec<Vec<u8>> = Vec::new();
     for digits in [
         "-",
@@ -523,12 +401,7 @@ fn tails(lines: &mut Vec<String>) {
     for size in 5..=16 {
         tails.push(mark(DATE + 1, 1, 16)[..size].to_vec());
     }
-    let whole = example();
-    for book in [&whole[..16], &whole[..73], &whole[..]] {
-        for tail in &tails {
-            lines.push(restart(DATE, &[book, tail].concat()));
-        }
-    }
+    tails
 }
 
 // Appending.
@@ -709,8 +582,9 @@ fn closes(lines: &mut Vec<String>, random: &mut Random) {
 
 // Random ones.
 
-/// A random book cut or damaged and restarted, a message appended to it, its session closed.
-pub fn four(random: &mut Random) -> Vec<String> {
+/// A random book cut or damaged and restarted, a message appended to it, its session closed, and
+/// the listing of both.
+pub fn group(random: &mut Random) -> Vec<String> {
     let book = random_book(random);
     let size = book.bytes.len();
     let cut = &book.bytes[..random.between(MARK, size)];
@@ -747,11 +621,13 @@ pub fn four(random: &mut Random) -> Vec<String> {
         restart(book.date, &damaged),
         append(book.date, onto, room, &message),
         close(book.date, cut, random.between(0, 18)),
+        listing::line(cut),
+        listing::line(&damaged),
     ]
 }
 
 /// One byte changed, left out, put in, or some put at the end.
-fn damaged(random: &mut Random, bytes: &[u8]) -> Vec<u8> {
+pub fn damaged(random: &mut Random, bytes: &[u8]) -> Vec<u8> {
     let mut bytes = bytes.to_vec();
     let place = random.between(0, bytes.len() - 1);
     match random.below(6) {

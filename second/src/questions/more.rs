@@ -71,10 +71,10 @@ impl More {
     }
 
     /// A message, its record, and both of them damaged, one time in three of the session; one time
-    /// in nine of a day book.
-    fn four(&mut self) {
+    /// in nine six of a day book.
+    fn group(&mut self) {
         match self.random.below(9) {
-            0 => self.waiting.extend(book::four(&mut self.random)),
+            0 => self.waiting.extend(book::group(&mut self.random)),
             1..=3 => self.four_of_the_session(),
             _ => self.four_with_bitfields(),
         }
@@ -123,7 +123,7 @@ impl Iterator for More {
 
     fn next(&mut self) -> Option<String> {
         if self.waiting.is_empty() {
-            self.four();
+            self.group();
         }
         self.waiting.pop_front()
     }
@@ -172,14 +172,14 @@ mod tests {
         assert!(!More::new(1).nth(191).unwrap().starts_with("read"));
     }
 
-    /// Each answer comes, and about a third of the questions are of the session, a ninth of books.
+    /// Each answer comes, and about a third of the questions are of the session, some of books.
     #[test]
     fn every_answer_and_every_type() {
         let mut seen = BTreeSet::new();
         let mut types = BTreeSet::new();
         let mut of_the_session = 0;
         let mut of_books = 0;
-        for line in More::new(3).skip(190).take(6_000) {
+        for line in More::new(3).skip(190).take(12_000) {
             let answer = ask::answer(line.as_bytes());
             let words: Vec<&str> = line.split(' ').collect();
             let number = answer.split(' ').next().unwrap();
@@ -214,12 +214,15 @@ mod tests {
             "restart 22",
             "append 0",
             "close 0",
+            "list mark",
+            "list 18",
+            "list 22",
         ] {
             expected.insert(answer.to_string());
         }
         assert_eq!(seen, expected);
         assert_eq!(types.len(), 10);
-        assert!((500..900).contains(&of_books));
-        assert!((1_700..2_300).contains(&of_the_session));
+        assert!((1_600..2_200).contains(&of_books));
+        assert!((3_200..4_400).contains(&of_the_session));
     }
 }

@@ -1,0 +1,251 @@
+// The questions to the member: a session's state, and the buffer of its day book.
+use crate::asked;
+use crate::parts;
+use asking::words;
+use asking::writing;
+use book::Book;
+use login_requests::Bitfields;
+use login_requests::Choice;
+use session::Phase;
+use session::Session;
+use table::OutgoingNumber;
+
+// Whether a line was a question, and the session after it.
+pub struct Told {
+    pub ok: bool,
+    pub session: Session,
+}
+
+// Answers a line by its call.
+pub fn answered(call: u8, line: &[u8], s: Session, bytes: &mut [u8], book: &mut [u8]) -> Told {
+    match call {
+        2 => get(line, s, bytes, book),
+        3 => order(line, s, bytes),
+        4 => login(line, s),
+        5 => broken(line, s, book),
+        6 => beat(line, s),
+        7 => open(line, s, book),
+        8 => restart(line, s, book),
+        9 => state(line, s),
+        _ => stored(s, book),
+    }
+}
+
+// A line that was no question.
+fn unknown(s: Session) -> Told {
+    Told {
+        ok: false,
+        session: s,
+    }
+}
+
+// The number of a phase.
+fn number_of(p: Phase) -> u64 {
+    match p {
+        Phase::Closed => 0,
+        Phase::Asked => 1,
+        Phase::Replaying => 2,
+        Phase::Live => 3,
+    }
+}
+
+// The phase of a number.
+fn phase_of(n: u64) -> Phase {
+    match n {
+        1 => Phase::Asked,
+        2 => Phase::Replaying,
+        3 => Phase::Live,
+        _ => Phase::Closed,
+    }
+}
+
+// The member's numbers, which are the answer or its end.
+fn say(s: Session) -> Told {
+    let phase = s.phase;
+    let b = s.book;
+    writing::decimal(number_of(phase));
+    writing::next_decimal(s.outgoing.0 as u64);
+    writing::next_decimal(b.date as u64);
+    writing::next_decimal(b.length as u64);
+    writing::next_decimal(b.last as u64);
+    writing::next_decimal(b.count as u64);
+    writing::next_decimal(parts::sum(b.table));
+    Told {
+        ok: true,
+        session: s,
+    }
+}
+
+// A refusal, or 0, and the member after the call.
+fn refused(refusal: u8, s: Session) -> Told {
+    writing::decimal(refusal as u64);
+    writing::text(b" ");
+    say(s)
+}
+
+// The same, and the output buffer after the call.
+fn sent(a: session::Answer, out: &[u8]) -> Told {
+    let s = a.session;
+    let t = refused(a.refusal, s);
+    parts::output(out);
+    t
+}
+
+// The member with the book that opening or restart answers, closed; or as it was, where they refuse.
+fn begun(a: book::Answer, s: Session) -> Told {
+    if a.refusal != 0 {
+        return refused(a.refusal, s);
+    }
+    let b = a.book;
+    refused(0, session::closed_with(b))
+}
+
+// `m-open DATE ROOM`: the refusal and the member.
+fn open(line: &[u8], s: Session, book: &mut [u8]) -> Told {
+    let date = words::read_number(words::word(line, 1), 4294967295);
+    let room = words::read_number(words::word(line, 2), book.len() as u64);
+    if date.ok && room.ok {
+        let n = room.value as usize;
+        let a = book::open(date.value as u32, &mut book[0..n]);
+        return begun(a, s);
+    }
+    unknown(s)
+}
+
+// `m-restart DATE N`: the refusal and the member.
+fn restart(line: &[u8], s: Session, book: &[u8]) -> Told {
+    let date = words::read_number(words::word(line, 1), 4294967295);
+    let count = words::read_number(words::word(line, 2), book.len() as u64);
+    if date.ok && count.ok {
+        let n = count.value as usize;
+        let a = restart::restart(date.value as u32, &book[0..n]);
+        return begun(a, s);
+    }
+    unknown(s)
+}
+
+// `m-state PHASE OUTGOING DATE LENGTH LAST COUNT TABLE`: the member.
+fn state(line: &[u8], s: Session) -> Told {
+    let phase = words::read_number(words::word(line, 1), 3);
+    let outgoing = words::read_number(words::word(line, 2), 4294967295);
+    let four = parts::read_four(line, 3);
+    let given = parts::read_table(words::word(line, 7));
+    if phase.ok && outgoing.ok && four.ok && given.ok {
+        let p = phase_of(phase.value);
+        let table = given.table;
+        return say(Session {
+            phase: p,
+            outgoing: OutgoingNumber(outgoing.value as u32),
+            book: Book {
+                table: table,
+                date: four.first,
+                length: four.second,
+                last: four.third,
+                count: four.fourth,
+            },
+        });
+    }
+    unknown(s)
+}
+
+// `m-login WHICH FLAG COUNT UNITS NAMES GIVEN COUNT BITS GIVEN COUNT BITS ROOM`: the refusal, the member and the output.
+fn login(line: &[u8], s: Session) -> Told {
+    let units = asked::read_units(line);
+    let given = asked::read_names(words::word(line, 5));
+    let acknowledgments = asked::read_bits(line, 6);
+    let executions = asked::read_bits(line, 9);
+    let room = words::read_number(words::word(line, 12), 600);
+    if units.ok && given.ok && acknowledgments.ok && executions.ok && room.ok {
+        let mut out = [0xFFu8; 600];
+        let n = room.value as usize;
+        let choice = units.choice;
+        let names = given.names;
+        let first = acknowledgments.fields;
+        let second = executions.fields;
+        return logged_in(s, choice, names, first, second, &mut out[0..n]);
+    }
+    unknown(s)
+}
+
+// The answer to `m-login` with an output buffer.
+fn logged_in(
+    s: Session,
+    choice: Choice,
+    names: [u8; 18],
+    acknowledgments: Bitfields,
+    executions: Bitfields,
+    out: &mut [u8],
+) -> Told {
+    let a = s.login(choice, names, acknowledgments, executions, out);
+    sent(a, out)
+}
+
+// `m-get BYTES ROOM`: the refusal and the member.
+fn get(line: &[u8], s: Session, bytes: &mut [u8], book: &mut [u8]) -> Told {
+    let run = words::read_bytes(words::word(line, 1), bytes);
+    let room = words::read_number(words::word(line, 2), book.len() as u64);
+    if run.ok && room.ok {
+        let k = run.count;
+        let n = room.value as usize;
+        let a = s.receive(&bytes[0..k], &mut book[0..n]);
+        let after = a.session;
+        return refused(a.refusal, after);
+    }
+    unknown(s)
+}
+
+// `m-order RECORD ROOM`: the refusal, the member and the output.
+fn order(line: &[u8], s: Session, bytes: &mut [u8]) -> Told {
+    let run = words::read_bytes(words::word(line, 1), bytes);
+    let room = words::read_number(words::word(line, 2), 2100);
+    if run.ok && room.ok {
+        let mut out = [0xFFu8; 2100];
+        let k = run.count;
+        let n = room.value as usize;
+        return ordered(s, &bytes[0..k], &mut out[0..n]);
+    }
+    unknown(s)
+}
+
+// The answer to `m-order` with an output buffer.
+fn ordered(s: Session, given: &[u8], out: &mut [u8]) -> Told {
+    let a = s.order(given, out);
+    sent(a, out)
+}
+
+// `m-beat ROOM`: the refusal, the member and the output.
+fn beat(line: &[u8], s: Session) -> Told {
+    let room = words::read_number(words::word(line, 1), 16384);
+    if room.ok {
+        let mut out = [0xFFu8; 16384];
+        let n = room.value as usize;
+        return beaten(s, &mut out[0..n]);
+    }
+    unknown(s)
+}
+
+// The answer to `m-beat` with an output buffer.
+fn beaten(s: Session, out: &mut [u8]) -> Told {
+    let a = s.heartbeat(out);
+    sent(a, out)
+}
+
+// `m-break ROOM`: the member.
+fn broken(line: &[u8], s: Session, book: &mut [u8]) -> Told {
+    let room = words::read_number(words::word(line, 1), book.len() as u64);
+    if room.ok {
+        let n = room.value as usize;
+        return say(s.broken(&mut book[0..n]));
+    }
+    unknown(s)
+}
+
+// `m-book`: the book's bytes and its table.
+fn stored(s: Session, book: &[u8]) -> Told {
+    let b = s.book;
+    parts::stored(book, b.length, b.table);
+    Told {
+        ok: true,
+        session: s,
+    }
+}

@@ -1,0 +1,354 @@
+//! The member's session (document 01, "Session and replay").
+
+use super::book::{self, Book};
+use super::frame;
+use super::layout::{check, MEMBER, VENUE};
+use super::login::Login;
+use super::number;
+use super::read;
+use super::record::{LENT, SIZE};
+use super::table;
+use super::write;
+use super::Refusal;
+
+#[derive(Clone, Copy, Debug, PartialEq, Eq)]
+pub enum Phase {
+    Closed = 0,
+    Asked = 1,
+    Replaying = 2,
+    Live = 3,
+}
+
+const LOGIN_RESPONSE: u8 = 0x24;
+const LOGOUT: u8 = 0x08;
+const SERVER_HEARTBEAT: u8 = 0x09;
+const REPLAY_COMPLETE: u8 = 0x13;
+const BOOKED: [u8; 2] = [0x25, 0x2C];
+const ORDERS: [u8; 2] = [0x38, 0x39];
+const CLIENT_HEARTBEAT: u8 = 0x03;
+/// In a Login Response.
+const STATUS_PLACE: usize = 10;
+const RECEIVED_PLACE: u64 = 72;
+const ACCEPTED: u8 = b'A';
+
+#[derive(Clone, Debug, PartialEq, Eq)]
+pub struct Member {
+    pub phase: Phase,
+    /// The number of the last order that went out.
+    pub outgoing: u32,
+    pub book: Book,
+}
+
+impl Member {
+    /// Closed, and without a book.
+    pub fn blank() -> Member {
+        Member::closed(Book {
+            date: 0,
+            length: 0,
+            last: 0,
+            count: 0,
+            table: [0; table::SIZE],
+        })
+    }
+
+    fn closed(book: Book) -> Member {
+        Member {
+            phase: Phase::Closed,
+            outgoing: 0,
+            book,
+        }
+    }
+
+    /// A new book in a buffer: 19, 13.
+    pub fn open(&mut self, date: u32, buffer: &mut [u8]) -> Result<(), Refusal> {
+        book::open(date, buffer)?;
+        *self = Member::closed(book::opened(date));
+        Ok(())
+    }
+
+    /// After a restart on a book's bytes.
+    pub fn restart(&mut self, date: u32, bytes: &[u8]) -> Result<(), Refusal> {
+        *self = Member::closed(book::restart(date, bytes)?);
+        Ok(())
+    }
+
+    pub fn login(&mut self, login: &Login, out: &mut [u8]) -> Result<(), Refusal> {
+        check(self.phase == Phase::Closed, Refusal::Phase)?;
+        login.write(&self.book.table, out)?;
+        self.phase = Phase::Asked;
+        Ok(())
+    }
+
+    /// The first whole message of what came from the venue: 16 if closed, the reader's, 16 for a
+    /// type that the phase does not take, 14, 15, 13.
+    pub fn get(&mut self, bytes: &[u8], buffer: &mut [u8]) -> Result<(), Refusal> {
+        check(self.phase != Phase::Closed, Refusal::Phase)?;
+        read::message(VENUE, bytes)?;
+        let message = frame::message(bytes)?;
+        let kind = frame::header(message).kind;
+        check(self.takes(kind), Refusal::Phase)?;
+        match kind {
+            LOGIN_RESPONSE if message[STATUS_PLACE] == ACCEPTED => {
+                self.phase = Phase::Replaying;
+                self.outgoing = number::get(message, RECEIVED_PLACE, 4) as u32;
+            }
+            LOGIN_RESPONSE | LOGOUT => self.end(buffer),
+            REPLAY_COMPLETE => self.phase = Phase::Live,
+            SERVER_HEARTBEAT => {}
+            _ => self.book.append(buffer, message)?,
+        }
+        Ok(())
+    }
+
+    /// Whether a message of a type is for the phase.
+    fn takes(&self, kind: u8) -> bool {
+        let open = kind == LOGOUT;
+        let running = BOOKED.contains(&kind) || kind == SERVER_HEARTBEAT || open;
+        match self.phase {
+            Phase::Closed => false,
+            Phase::Asked => kind == LOGIN_RESPONSE || open,
+            Phase::Replaying => kind == REPLAY_COMPLETE || running,
+            Phase::Live => running,
+        }
+    }
+
+    /// An order goes out with the next number, whatever number its record has: 16, 20, then what
+    /// the record is refused for.
+    pub fn order(&mut self, record: &[u8], out: &mut [u8]) -> Result<(), Refusal> {
+        check(self.phase == Phase::Live, Refusal::Phase)?;
+        let next = self.outgoing.checked_add(1).ok_or(Refusal::Spent)?;
+        check(record.len() >= SIZE, Refusal::Room)?;
+        check(ORDERS.contains(&record[0]), Refusal::Type)?;
+        let mut numbered = record.to_vec();
+        numbered[2..6].copy_from_slice(&next.to_le_bytes());
+        numbered.resize(numbered.len().max(LENT), 0);
+        write::record(MEMBER, &numbered, out)?;
+        self.outgoing = next;
+        Ok(())
+    }
+
+    /// A heartbeat goes out: 16, 13.
+    pub fn beat(&self, out: &mut [u8]) -> Result<(), Refusal> {
+        let running = self.phase == Phase::Replaying || self.phase == Phase::Live;
+        check(running, Refusal::Phase)?;
+        let mut record = vec![CLIENT_HEARTBEAT];
+        record.resize(LENT, 0);
+        write::record(MEMBER, &record, out)
+    }
+
+    /// The line broke. A session that was closed stays so.
+    pub fn broken(&mut self, buffer: &mut [u8]) {
+        if self.phase != Phase::Closed {
+            self.end(buffer);
+        }
+    }
+
+    /// The session's end: its mark if there is room for it.
+    fn end(&mut self, buffer: &mut [u8]) {
+        self.book.close(buffer);
+        self.phase = Phase::Closed;
+    }
+}
+
+#[cfg(test)]
+mod tests {
+    use super::*;
+    use crate::examples;
+    use crate::rules::login::Choice;
+    use crate::rules::table::entry;
+
+    const DATE: u32 = 20_250_819;
+    const PHASES: [Phase; 4] = [Phase::Closed, Phase::Asked, Phase::Replaying, Phase::Live];
+
+    fn refusal(result: Result<(), Refusal>) -> u8 {
+        result.map_or_else(Refusal::number, |()| 0)
+    }
+
+    /// A member in a phase with document 01's book, and its buffer.
+    fn member(phase: Phase) -> (Member, Vec<u8>) {
+        let mut buffer = vec![0xFF; 300];
+        let mut member = Member::blank();
+        assert_eq!(member.open(DATE, &mut buffer), Ok(()));
+        let message = examples::booked_acknowledgment();
+        assert_eq!(member.book.append(&mut buffer, &message), Ok(()));
+        member.phase = phase;
+        member.outgoing = 7;
+        (member, buffer)
+    }
+
+    fn second_message() -> Vec<u8> {
+        let mut message = examples::booked_acknowledgment();
+        message[6] = 2;
+        message
+    }
+
+    fn response(status: u8) -> Vec<u8> {
+        let mut message = examples::login_response_of_the_notes();
+        message[10] = status;
+        message
+    }
+
+    /// Each type in each phase, by the phases that follow; the refused leave all as it was.
+    #[test]
+    fn phases() {
+        for (message, expected) in [
+            (response(b'A'), [16, 2, 16, 16]),
+            (response(b'a'), [16, 0, 16, 16]),
+            (response(0), [16, 0, 16, 16]),
+            (examples::logout_with_its_length(), [16, 0, 0, 0]),
+            (second_message(), [16, 16, 2, 3]),
+            (examples::server_heartbeat(), [16, 16, 2, 3]),
+            (examples::replay_complete(), [16, 16, 3, 16]),
+            (examples::client_heartbeat(), [16, 4, 4, 4]),
+            (examples::cancel(), [16, 4, 4, 4]),
+        ] {
+            for (phase, expected) in PHASES.into_iter().zip(expected) {
+                let (mut member, mut buffer) = self::member(phase);
+                let before = (member.clone(), buffer.clone());
+                let answer = refusal(member.get(&message, &mut buffer));
+                if expected > 3 {
+                    assert_eq!(answer, expected);
+                    assert_eq!((member, buffer), before);
+                    continue;
+                }
+                assert_eq!(answer, 0);
+                assert_eq!(member.phase, PHASES[usize::from(expected)]);
+                let closed = expected == 0;
+                assert_eq!(member.book.last, if closed { 73 } else { 0 });
+                let taken = if message[4] == 0x25 { 2 } else { 1 };
+                assert_eq!(entry(&member.book.table, 1), taken);
+                let accepted = message == response(b'A');
+                assert_eq!(member.outgoing, if accepted { 0x0002_4A54 } else { 7 });
+            }
+        }
+    }
+
+    /// A message is appended and counted; 14 and 15 come before 13, and 16 before all of them.
+    #[test]
+    fn numbers_and_room() {
+        let next = second_message();
+        let (mut member, mut buffer) = self::member(Phase::Live);
+        let before = (member.clone(), buffer.clone());
+        for (number, room, expected) in [(1, 0, 14), (3, 0, 15), (2, 0, 13), (2, 129, 13)] {
+            let mut message = next.clone();
+            message[6] = number;
+            assert_eq!(refusal(member.get(&message, &mut buffer[..room])), expected);
+            assert_eq!((member.clone(), buffer.clone()), before);
+        }
+        assert_eq!(member.get(&next, &mut buffer[..130]), Ok(()));
+        assert_eq!((member.book.length, member.book.count), (130, 2));
+        assert_eq!(buffer[73..130], next);
+        assert_eq!(entry(&member.book.table, 1), 2);
+        let (mut asked, mut buffer) = self::member(Phase::Asked);
+        assert_eq!(refusal(asked.get(&next, &mut buffer[..0])), 16);
+        let mut damaged = next;
+        damaged[18] = b' ';
+        assert_eq!(refusal(asked.get(&damaged, &mut buffer)), 10);
+        asked.phase = Phase::Closed;
+        assert_eq!(refusal(asked.get(&damaged, &mut buffer)), 16);
+        assert_eq!(refusal(asked.get(&[], &mut buffer)), 16);
+    }
+
+    /// The mark at a session's end, or none where it has no room.
+    #[test]
+    fn ends() {
+        for room in [73, 88, 89] {
+            let (mut member, mut buffer) = self::member(Phase::Replaying);
+            member.broken(&mut buffer[..room]);
+            assert_eq!(member.phase, Phase::Closed);
+            let length = if room < 89 { 73 } else { 89 };
+            assert_eq!(member.book.length, length);
+            assert_eq!(buffer[length..], vec![0xFF; 300 - length]);
+            let after = (member.clone(), buffer.clone());
+            member.broken(&mut buffer);
+            assert_eq!((member, buffer), after);
+        }
+    }
+
+    #[test]
+    fn orders() {
+        let record = read::message(MEMBER, &examples::new_order()).unwrap();
+        for phase in PHASES {
+            let (mut member, _) = self::member(phase);
+            let mut out = [0xEE; 77];
+            let answer = refusal(member.order(&record, &mut out));
+            assert_eq!(answer, if phase == Phase::Live { 0 } else { 16 });
+            if answer == 0 {
+                assert_eq!(out[6], 8);
+                assert_eq!(out[10..76], examples::new_order()[10..]);
+                assert_eq!(out[76], 0xEE);
+                assert_eq!(member.outgoing, 8);
+            }
+        }
+        let (mut member, _) = self::member(Phase::Live);
+        let mut session = record.clone();
+        session[0] = 3;
+        let mut unit = record.clone();
+        unit[1] = 1;
+        for (record, room, expected) in [
+            (&record[..234], 76, 13),
+            (&session[..], 76, 4),
+            (&unit, 76, 5),
+            (&record, 75, 13),
+        ] {
+            let answer = member.order(record, &mut vec![0; room]);
+            assert_eq!(refusal(answer), expected);
+            assert_eq!(member.outgoing, 7);
+        }
+        member.outgoing = u32::MAX;
+        assert_eq!(refusal(member.order(&[], &mut [])), 20);
+        member.outgoing = u32::MAX - 1;
+        assert_eq!(member.order(&record, &mut [0; 76]), Ok(()));
+        assert_eq!(refusal(member.order(&record, &mut [0; 76])), 20);
+    }
+
+    #[test]
+    fn heartbeats_and_logins() {
+        for phase in PHASES {
+            let (mut member, _) = self::member(phase);
+            let mut out = [0xEE; 10];
+            let beats = matches!(phase, Phase::Replaying | Phase::Live);
+            assert_eq!(
+                refusal(member.beat(&mut out[..9])),
+                if beats { 13 } else { 16 }
+            );
+            assert_eq!(refusal(member.beat(&mut out)), if beats { 0 } else { 16 });
+            assert_eq!(out == *examples::client_heartbeat(), beats);
+            let login = Login {
+                choice: Choice::Listed {
+                    flag: 0,
+                    count: 1,
+                    units: [1; 32],
+                },
+                names: [0; 18],
+                returned: [None, None],
+            };
+            let mut out = [0; 39];
+            let answer = refusal(member.login(&login, &mut out[..38]));
+            assert_eq!(answer, if phase == Phase::Closed { 13 } else { 16 });
+            assert_eq!(member.phase, phase);
+            let answer = refusal(member.login(&login, &mut out));
+            assert_eq!(answer, if phase == Phase::Closed { 0 } else { 16 });
+            if answer == 0 {
+                assert_eq!(member.phase, Phase::Asked);
+                assert_eq!(out[34..], [1, 1, 0, 0, 0]);
+            }
+        }
+    }
+
+    /// Both set the outgoing number to 0; a refused one changes nothing.
+    #[test]
+    fn openings_and_restarts() {
+        let (mut member, mut buffer) = self::member(Phase::Live);
+        let before = member.clone();
+        assert_eq!(refusal(member.open(20_250_832, &mut buffer[..0])), 19);
+        assert_eq!(refusal(member.open(DATE, &mut buffer[..15])), 13);
+        assert_eq!(refusal(member.restart(DATE, &buffer[..15])), 22);
+        assert_eq!(member, before);
+        assert_eq!(member.restart(DATE, &buffer[..73]), Ok(()));
+        assert_eq!(member, Member::closed(before.book));
+        assert_eq!(member.open(DATE, &mut buffer[..16]), Ok(()));
+        assert_eq!(member, Member::closed(book::opened(DATE)));
+        assert_eq!(member.book, book::restart(DATE, &buffer[..16]).unwrap());
+    }
+}

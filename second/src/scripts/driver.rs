@@ -1,0 +1,348 @@
+//! Asks questions of a bench of its own, so that it knows what each side has sent, and keeps what
+//! is on the line between them.
+
+use crate::ask;
+use crate::bench::Bench;
+use crate::hex;
+use crate::questions::made::some_type;
+use crate::questions::sample::{Sample, CANCEL, NEW_ORDER};
+use crate::questions::session::sample::{self as session, LOGIN};
+use crate::random::Random;
+use crate::rules::frame;
+use crate::rules::table::entry;
+use std::collections::VecDeque;
+
+/// The books that are shown whole are no longer than this.
+pub const SHOWN: usize = 3_500;
+
+/// Something that a driver does.
+pub type Step = fn(&mut Driver);
+
+pub struct Driver {
+    pub bench: Bench,
+    pub random: Random,
+    pub lines: Vec<String>,
+    /// What the venue sent and the member has not got yet, first first.
+    pub to_member: VecDeque<Vec<u8>>,
+    /// What the member sent.
+    pub to_venue: VecDeque<Vec<u8>>,
+    /// What the member got.
+    pub got: Vec<Vec<u8>>,
+    /// Whether the venue's session is on the line that the member has. What it sends on another
+    /// line is lost, but for a few messages that come all the same.
+    pub joined: bool,
+    pub date: u32,
+    /// The bytes of the book's buffer and of the log's that are lent on this day.
+    pub book_room: usize,
+    pub log_room: usize,
+    /// The units that have messages on this day.
+    pub units: Vec<u8>,
+    /// Whether logins choose units.
+    pub choices: bool,
+}
+
+impl Driver {
+    /// Begins with `new`.
+    pub fn new(random: Random) -> Driver {
+        let mut driver = Driver {
+            bench: Bench::new(),
+            random,
+            lines: Vec::new(),
+            to_member: VecDeque::new(),
+            to_venue: VecDeque::new(),
+            got: Vec::new(),
+            joined: false,
+            date: 20_250_819,
+            book_room: SHOWN,
+            log_room: SHOWN,
+            units: vec![1],
+            choices: false,
+        };
+        driver.ask("new".to_string());
+        driver
+    }
+
+    /// Asks, and answers the first word of the answer.
+    pub fn ask(&mut self, line: String) -> String {
+        let answer = self.answer(line);
+        let first = answer.split(' ').next().unwrap_or_default();
+        first.to_string()
+    }
+
+    /// Asks, and answers what was written to the output buffer, if it is a message.
+    pub fn ask_for_message(&mut self, line: String) -> Option<Vec<u8>> {
+        let answer = self.answer(line);
+        let out = hex::read(answer.rsplit(' ').next()?)?;
+        let message = frame::message(&out).ok()?;
+        Some(message.to_vec())
+    }
+
+    fn answer(&mut self, line: String) -> String {
+        let answer = ask::answer_on(&mut self.bench, line.as_bytes());
+        self.lines.push(line);
+        answer
+    }
+
+    /// True one time in `times`.
+    pub fn one_in(&mut self, times: u64) -> bool {
+        self.random.below(times) == 0
+    }
+
+    /// Takes one of the steps, each as often as its weight says.
+    pub fn one_of(&mut self, steps: &[(u64, Step)]) {
+        let all: u64 = steps.iter().map(|(weight, _)| weight).sum();
+        let mut chosen = self.random.below(all);
+        for (weight, step) in steps {
+            if chosen < *weight {
+                step(self);
+                return;
+            }
+            chosen -= weight;
+        }
+    }
+
+    // What goes as it should.
+
+    pub fn open(&mut self) {
+        self.ask(format!("m-open {} {}", self.date, self.book_room));
+        self.lose_line();
+    }
+
+    /// What was on the way to the member is lost.
+    pub fn lose_line(&mut self) {
+        self.to_member.clear();
+        self.joined = false;
+    }
+
+    /// The venue sends a message.
+    pub fn send(&mut self, message: Vec<u8>) {
+        if self.joined || self.one_in(8) {
+            self.to_member.push_back(message);
+        }
+    }
+
+    /// A message for the log: of a unit of the day, with its next number.
+    pub fn next_message(&mut self) -> Vec<u8> {
+        let mut sample = self.booked();
+        let unit = self.random.between(0, self.units.len() - 1);
+        sample.unit = self.units[unit];
+        let last = entry(&self.bench.venue.table, sample.unit);
+        sample.number = last.wrapping_add(1);
+        sample.bytes()
+    }
+
+    /// A message of one of the two types that are logged, most of them short.
+    pub fn booked(&mut self) -> Sample {
+        let random = &mut self.random;
+        let which = some_type(random);
+        if random.below(8) == 0 {
+            return Sample::any(random, which);
+        }
+        let mut sample = Sample::least(random, which);
+        for _ in 0..random.between(0, 2) {
+            let listed = sample.layout.listed;
+            sample.select(listed[random.between(0, listed.len() - 1)].name);
+        }
+        sample
+    }
+
+    pub fn log(&mut self) {
+        let message = hex::write(&self.next_message());
+        self.ask(format!("v-log {} {}", message, self.log_room));
+    }
+
+    pub fn login(&mut self) {
+        let login = LoginLine::good(&mut self.random, self.choices, &self.units);
+        let room = 240 + self.random.between(0, 20);
+        if let Some(message) = self.ask_for_message(login.line(room)) {
+            self.to_venue.push_back(message);
+        }
+    }
+
+    /// The venue gets what the member sent first.
+    pub fn pass(&mut self) {
+        let message = match self.to_venue.pop_front() {
+            Some(message) => message,
+            None => return,
+        };
+        if message[4] != 0x37 {
+            self.ask(format!("v-order {}", hex::write(&message)));
+            return;
+        }
+        let room = 450 + self.random.between(0, 20);
+        let line = format!("v-login {} {}", hex::write(&message), room);
+        match self.ask_for_message(line) {
+            Some(response) => {
+                self.joined = true;
+                self.to_member.push_back(response);
+            }
+            // It may be taken after the venue has seen a break.
+            None if self.one_in(2) => self.to_venue.push_front(message),
+            None => {}
+        }
+    }
+
+    pub fn step(&mut self) {
+        let room = match self.random.below(6) {
+            0 => 400,
+            _ => self.random.between(100, 260),
+        };
+        let line = format!("v-step {} {}", self.log_room, room);
+        if let Some(message) = self.ask_for_message(line) {
+            self.send(message);
+        }
+    }
+
+    /// The member gets what the venue sent first.
+    pub fn deliver(&mut self) {
+        if let Some(message) = self.to_member.pop_front() {
+            self.get(&message);
+            self.got.push(message);
+        }
+    }
+
+    pub fn get(&mut self, bytes: &[u8]) {
+        self.ask(format!("m-get {} {}", hex::write(bytes), self.book_room));
+    }
+
+    pub fn some_order(&mut self) -> Sample {
+        let which = if self.one_in(3) { CANCEL } else { NEW_ORDER };
+        Sample::any(&mut self.random, which)
+    }
+
+    pub fn order(&mut self) {
+        let sample = self.some_order();
+        let mut record = sample.record();
+        if self.one_in(8) {
+            let more = self.random.between(1, 20);
+            record.extend(self.random.bytes(more));
+        }
+        let room = sample.bytes().len() + self.random.between(0, 3);
+        let line = format!("m-order {} {}", hex::write(&record), room);
+        if let Some(message) = self.ask_for_message(line) {
+            self.to_venue.push_back(message);
+        }
+    }
+
+    pub fn beat(&mut self) {
+        let room = self.random.between(10, 13);
+        if let Some(message) = self.ask_for_message(format!("m-beat {}", room)) {
+            self.to_venue.push_back(message);
+        }
+    }
+
+    /// The member sees a break: what was on the way to it is lost.
+    pub fn break_member(&mut self) {
+        self.ask(format!("m-break {}", self.book_room));
+        self.lose_line();
+    }
+
+    /// The venue sees a break: what was on the way to it is lost, what it sent may still come.
+    pub fn break_venue(&mut self) {
+        self.ask("v-break".to_string());
+        self.to_venue.clear();
+    }
+
+    /// The member's process starts again on its book's first bytes.
+    pub fn restart(&mut self, size: usize) {
+        let answer = self.ask(format!("m-restart {} {}", self.date, size));
+        self.lose_line();
+        if answer == "22" {
+            self.open();
+        }
+    }
+
+    /// Both books, if they are not too long to be shown.
+    pub fn books(&mut self) {
+        if self.bench.member.book.length <= SHOWN {
+            self.ask("m-book".to_string());
+        }
+        if self.bench.venue.length <= SHOWN {
+            self.ask("v-book".to_string());
+        }
+    }
+
+    /// Both books at the end, after states whose books can be shown.
+    pub fn end(&mut self) {
+        let zeros = "00".repeat(128);
+        if self.bench.member.book.length > SHOWN {
+            self.ask(format!("m-state 0 0 0 {} 0 0 {}", SHOWN, zeros));
+        }
+        if self.bench.venue.length > SHOWN {
+            self.ask(format!("v-state 0 0 0 0 {} 0 {} {}", SHOWN, zeros, zeros));
+        }
+        self.books();
+    }
+}
+
+/// The arguments of `m-login` but for its room.
+#[derive(Clone)]
+pub struct LoginLine {
+    pub which: u8,
+    pub flag: u8,
+    pub count: u8,
+    pub units: [u8; 32],
+    pub names: Vec<u8>,
+    /// GIVEN, COUNT and BITS, twice.
+    pub returned: [(bool, u8, [u8; 15]); 2],
+}
+
+impl LoginLine {
+    /// One that is taken; the places that play no part hold anything.
+    pub fn good(random: &mut Random, choices: bool, day: &[u8]) -> LoginLine {
+        let mut units = [0; 32];
+        for (index, unit) in units.iter_mut().enumerate() {
+            *unit = index as u8 + 1;
+        }
+        session::shuffle(random, &mut units);
+        // The units of the day come first, so that a short list has some of them.
+        if random.below(2) == 0 {
+            units.sort_by_key(|unit| !day.contains(unit));
+        }
+        let which = match random.below(if choices { 5 } else { 40 }) {
+            0 => random.pick(&[2, 3, 255]),
+            1 | 2 => 1,
+            _ => 0,
+        };
+        let names = match random.below(3) {
+            0 => session::Sample::least(random, LOGIN),
+            _ => session::Sample::any(random, LOGIN),
+        };
+        let mut returned = [(false, 0, [0; 15]); 2];
+        for (given, count, bits) in &mut returned {
+            *given = random.below(3) == 0;
+            *count = random.between(0, 15) as u8;
+            for bit in bits.iter_mut() {
+                *bit = random.byte();
+            }
+        }
+        LoginLine {
+            which,
+            flag: random.below(2) as u8,
+            count: random.between(0, 32) as u8,
+            units,
+            names: names.fields.concat(),
+            returned,
+        }
+    }
+
+    pub fn line(&self, room: usize) -> String {
+        let mut line = format!(
+            "m-login {} {} {} {} {}",
+            self.which,
+            self.flag,
+            self.count,
+            hex::write(&self.units),
+            hex::write(&self.names)
+        );
+        for (given, count, bits) in &self.returned {
+            line.push_str(&format!(
+                " {} {} {}",
+                u8::from(*given),
+                count,
+                hex::write(bits)
+            ));
+        }
+        format!("{} {}", line, room)
+    }
+}

@@ -1,0 +1,164 @@
+//! Lines outside the format among the steps of a day: they are answered `?` and change nothing.
+
+use super::driver::{Driver, LoginLine};
+use crate::bench::BUFFER;
+use crate::examples;
+use crate::hex;
+use crate::questions::sample::{Sample, CANCEL};
+
+/// All of them, in pieces that steps can come between.
+pub fn lines(driver: &mut Driver) -> Vec<String> {
+    let mut lines: Vec<String> = FIXED.iter().map(|line| line.to_string()).collect();
+    let table = "00".repeat(128);
+    let (less, more) = (&table[2..], format!("{}00", table));
+    for bad in [less, &more, "-", &table[1..]] {
+        lines.push(format!("m-state 0 0 0 0 0 0 {}", bad));
+        lines.push(format!("v-state 0 0 0 0 0 0 {} {}", bad, table));
+        lines.push(format!("v-state 0 0 0 0 0 0 {} {}", table, bad));
+    }
+    for numbers in [
+        "4 0 0 0 0 0",
+        "255 0 0 0 0 0",
+        "0 4294967296 0 0 0 0",
+        "0 0 4294967296 0 0 0",
+        "0 0 0 4294967296 0 0",
+        "0 0 0 0 4294967296 0",
+        "0 0 0 0 0 4294967296",
+        "0 0 0 0 0",
+        "0 0 0 0 0 0 0",
+        "- 0 0 0 0 0",
+    ] {
+        lines.push(format!("m-state {} {}", numbers, table));
+    }
+    for numbers in [
+        "2 0 0 0 0 0",
+        "0 2 0 0 0 0",
+        "0 0 4294967296 0 0 0",
+        "0 0 0 4294967296 0 0",
+        "0 0 0 0 4294967296 0",
+        "0 0 0 0 0 4294967296",
+        "0 0 0 0 0",
+        "0 0 0 0 0 0 0",
+    ] {
+        lines.push(format!("v-state {} {} {}", numbers, table, table));
+    }
+    lines.extend(logins(driver));
+    let cancel = Sample::least(&mut driver.random, CANCEL).record();
+    let (record, bytes) = (hex::write(&cancel), hex::write(&examples::login()));
+    for line in [
+        format!("m-order {} 2101", record),
+        format!("m-order {}", record),
+        format!("m-order {}0 40", record),
+        format!("m-get {} {}", bytes, BUFFER + 1),
+        format!("m-get {}", bytes),
+        format!("m-get {} 100 100", bytes),
+        format!("v-log {} {}", bytes, BUFFER + 1),
+        format!("v-login {} 601", bytes),
+        format!("v-login {}", bytes),
+        format!("v-order {} 10", bytes),
+        format!("v-order {}0", bytes),
+    ] {
+        lines.push(line);
+    }
+    lines
+}
+
+/// `m-login` with one word that is not in the format.
+fn logins(driver: &mut Driver) -> Vec<String> {
+    let good = LoginLine::good(&mut driver.random, true, &[1]).line(250);
+    let words: Vec<&str> = good.split(' ').collect();
+    let mut lines = vec![format!("{} 0", good), words[..12].join(" ")];
+    for (index, bad) in [
+        (1, "256"),
+        (1, "-"),
+        (2, "256"),
+        (3, "256"),
+        (4, &words[4][2..]),
+        (4, "-"),
+        (5, &words[5][2..]),
+        (5, "-"),
+        (6, "2"),
+        (7, "256"),
+        (8, &words[8][2..]),
+        (9, "2"),
+        (10, "256"),
+        (11, "-"),
+        (12, "601"),
+    ] {
+        let mut words = words.clone();
+        words[index] = bad;
+        lines.push(words.join(" "));
+    }
+    lines
+}
+
+const FIXED: &[&str] = &[
+    "",
+    "New",
+    "new ",
+    " new",
+    "new 0",
+    "news",
+    "m-",
+    "v-",
+    "m",
+    "v",
+    "m-close",
+    "v-open 20250819 100",
+    "v-restart 20250819 100",
+    "v-beat 10",
+    "m-step 100 100",
+    "M-OPEN 20250819 100",
+    "m-open",
+    "m-open 20250819",
+    "m-open 20250819 16385",
+    "m-open 20250819 100 100",
+    "m-open 4294967296 100",
+    "m-open -1 100",
+    "m-open  20250819 100",
+    "m-open 20250819 100 ",
+    "m-open 20250819 000000000000000000100",
+    "m-restart",
+    "m-restart 20250819",
+    "m-restart 20250819 16385",
+    "m-restart 4294967296 16",
+    "m-restart 20250819 -",
+    "m-get",
+    "m-get -",
+    "m-get - -",
+    "m-get 0 100",
+    "m-get ba 100",
+    "m-get 100 -",
+    "m-order",
+    "m-order - 2101",
+    "m-order - -1",
+    "m-beat",
+    "m-beat -",
+    "m-beat 16385",
+    "m-beat 10 10",
+    "m-break",
+    "m-break 16385",
+    "m-break -",
+    "m-book ",
+    "m-book 0",
+    "m-login",
+    "m-login 0 0 0 - - 0 0 - 0 0 - 250",
+    "v-log",
+    "v-log -",
+    "v-log - 16385",
+    "v-login - 601",
+    "v-login -",
+    "v-step",
+    "v-step 100",
+    "v-step 100 2101",
+    "v-step 16385 100",
+    "v-step - 100",
+    "v-step 100 100 100",
+    "v-order",
+    "v-order 0",
+    "v-break 0",
+    "v-break ",
+    "v-book -",
+    "v-state",
+    "m-state 0 0 0 0 0 0",
+];
