@@ -1,0 +1,88 @@
+// A power failure, and the restart after it; and the listing of a book.
+use crate::bench;
+use crate::bench::Bench;
+use crate::bench::Room;
+use crate::say;
+use asking::writing;
+use lines::Line;
+
+// The first n bytes of a book, as far as they are lent.
+fn first_part(book: &[u8], n: usize) -> &[u8] {
+    if n < book.len() {
+        &book[..n]
+    } else {
+        &book[..]
+    }
+}
+
+// The power fails: of our book the first n bytes are on the disk, and the session is gone from memory.
+pub fn power_fails(b: Bench, n: u32) -> Bench {
+    let v = b.venue;
+    say::gateway(b.clock);
+    say::count(
+        b"loses power while it writes that message: ",
+        n as u64,
+        b" of the book's ",
+    );
+    say::count(b"", bench::length_of(b) as u64, b" bytes are on the disk\n");
+    say::venue(b.clock);
+    say::note(b"sees the line break");
+    let gone = session::closed_with(book::blank_book());
+    bench::with_session(bench::with_venue(b, v.broken()), gone)
+}
+
+// Our gateway restarts for a date from the first n bytes of a book.
+pub fn restarts(b: Bench, date: u32, book: &Room, n: u32) -> Bench {
+    let answer = restart::restart(date, first_part(book, n as usize));
+    say::count(b" and restarts for ", date as u64, b": ");
+    if answer.refusal != 0 {
+        say::refusal(answer.refusal);
+        say::note(b", nothing is loaded");
+        return b;
+    }
+    let kept = answer.book;
+    say::note(b"accepted");
+    say::further();
+    say::count(
+        b"kept ",
+        kept.count as u64,
+        b" whole messages, good length ",
+    );
+    let torn = std::num::wrapping_sub_u32(n, kept.length);
+    say::count(b"", kept.length as u64, b" bytes; torn and cut off ");
+    say::count(b"", torn as u64, b" bytes; table: ");
+    say::table(kept.table);
+    writing::line_end();
+    bench::with_session(b, session::closed_with(kept))
+}
+
+// Writes a line of a listing.
+fn put(l: Line) {
+    let bytes = l.bytes;
+    let n = l.length;
+    if n <= 96 {
+        writing::text(&bytes[0..n]);
+    }
+}
+
+// The listing of our book.
+pub fn lists(b: Bench, book: &Room) {
+    let part = first_part(book, bench::length_of(b) as usize);
+    let mut at = listing::start();
+    let mut place: usize = 0;
+    loop {
+        let left = &part[place..];
+        let stepped = listing::step(at, left, true);
+        put(stepped.line);
+        let taken = stepped.taken;
+        let next = stepped.listing;
+        at = next;
+        if taken == 0 {
+            return;
+        }
+        if left.len() < taken {
+            return;
+        }
+        place += taken;
+    }
+}

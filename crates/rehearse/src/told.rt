@@ -1,0 +1,134 @@
+// The sentences on a message, read from its bytes, or on an order by its record.
+use crate::say;
+use crate::written;
+use asking::writing;
+use orders::Record;
+
+// The record of an order, an acknowledgment or an execution.
+pub fn record_of(bytes: &[u8]) -> Record {
+    let mut record = [0u8; 235];
+    order_reader::read_order(wire::frame(bytes), &mut record);
+    records::unpack(&record)
+}
+
+// What an acknowledgment says.
+fn acknowledged(r: Record) {
+    let id = named::acknowledgment::cl_ord_id(r);
+    let bytes = id.bytes;
+    say::name(&bytes);
+    writing::text(b" acknowledged at ");
+    let price = named::acknowledgment::price(r);
+    writing::price(price.value);
+}
+
+// What an execution says.
+fn executed(r: Record) {
+    let id = named::execution::cl_ord_id(r);
+    let bytes = id.bytes;
+    say::name(&bytes);
+    let shares = named::execution::last_shares(r);
+    say::count(b" executed, ", shares.value as u64, b" shares at ");
+    let price = named::execution::last_px(r);
+    writing::price(price.value);
+    let left = named::execution::leaves_qty(r);
+    say::count(b", ", left.value as u64, b" left");
+}
+
+// What a message of the venue's log says.
+fn said(r: Record) {
+    let message = r.message;
+    match message {
+        0x25 => acknowledged(r),
+        0x2C => executed(r),
+        _ => writing::text(b"a session message"),
+    }
+}
+
+// A message of the venue's: its unit, its number and what it says.
+pub fn report(bytes: &[u8]) {
+    let r = record_of(bytes);
+    say::count(b"unit ", r.unit as u64, b" number ");
+    writing::decimal(r.number as u64);
+    writing::text(b", ");
+    said(r);
+}
+
+// A message's size.
+pub fn size(bytes: &[u8]) {
+    let m = wire::frame(bytes);
+    say::count(b" (", m.len() as u64, b" bytes)");
+}
+
+// Buy or sell.
+fn side(b: u8) {
+    if b == written::SELL {
+        writing::text(b": sell ");
+    } else {
+        writing::text(b": buy ");
+    }
+}
+
+// What a New Order says.
+fn new_order(r: Record) {
+    writing::text(b"New Order ");
+    let id = named::new_order::cl_ord_id(r);
+    let bytes = id.bytes;
+    say::name(&bytes);
+    let sided = named::new_order::side(r);
+    side(sided.bytes[0]);
+    let quantity = named::new_order::order_qty(r);
+    writing::decimal(quantity.value as u64);
+    writing::text(b" at ");
+    let price = named::new_order::price(r);
+    writing::price(price.value);
+}
+
+// What a Cancel Order says.
+fn cancel(r: Record) {
+    writing::text(b"Cancel Order of ");
+    let id = named::cancel_order::orig_cl_ord_id(r);
+    let bytes = id.bytes;
+    say::name(&bytes);
+}
+
+// An order of ours, by its record.
+pub fn order(r: Record) {
+    if r.message == 0x38 {
+        new_order(r);
+    } else {
+        cancel(r);
+    }
+}
+
+// The Login Response: its status and text, and the last order that the venue has of ours.
+pub fn response(bytes: &[u8]) {
+    let m = wire::frame(bytes);
+    let read = logins::read_session(m);
+    let r = read.session;
+    let status = session_fields::login_response::status(r);
+    let letter = status.bytes;
+    writing::text(b"with status ");
+    say::name(&letter);
+    let text = session_fields::login_response::text(r);
+    let words = text.bytes;
+    writing::text(b", ");
+    say::name(&words);
+    size(bytes);
+    let received = session_fields::login_response::last_received(r);
+    say::count(b": last order received ", received.value.0 as u64, b"");
+}
+
+// The Logout: its reason and text.
+pub fn logout(bytes: &[u8]) {
+    let m = wire::frame(bytes);
+    let read = logins::read_session(m);
+    let r = read.session;
+    let reason = session_fields::logout::reason(r);
+    let letter = reason.bytes;
+    writing::text(b"a Logout, reason ");
+    say::name(&letter);
+    let text = session_fields::logout::text(r);
+    let words = text.bytes;
+    writing::text(b", ");
+    say::name(&words);
+}

@@ -1,0 +1,133 @@
+// The bytes of the rehearsal's messages: each is a record, field by field by name, that the proved writer writes into a lent buffer.
+use login_requests::Bitfields;
+use orders::Record;
+use table::OutgoingNumber;
+
+// Buy and sell, as the field Side has them.
+pub const BUY: u8 = b'1';
+
+pub const SELL: u8 = b'2';
+
+// A text filled up with NULs to the 20 characters of an identifier.
+fn identifier(text: &[u8]) -> [u8; 20] {
+    let mut field = [0u8; 20];
+    if text.len() <= 20 {
+        fields::copy(text, &mut field);
+    }
+    field
+}
+
+// A record with its type, unit and number alone.
+fn started(message: u8, unit: u8, number: u32) -> Record {
+    let mut r = orders::blank_record();
+    r.message = message;
+    r.unit = unit;
+    r.number = number;
+    r
+}
+
+// Writes a record's message.
+fn write(r: Record, out: &mut [u8]) {
+    let mut given = [0u8; 235];
+    records::pack(r, &mut given);
+    order_writer::write_order(&given, out);
+}
+
+// An Order Acknowledgment: the venue has the order, at this price.
+pub fn acknowledgment(unit: u8, number: u32, id: &[u8], price: i64, out: &mut [u8]) {
+    let r = started(0x25, unit, number);
+    let timed = named::acknowledgment::with_transaction_time(r, 1755590400000000000);
+    let named = named::acknowledgment::with_cl_ord_id(timed, identifier(id));
+    let known = named::acknowledgment::with_order_id(named, 700000 + (number as u64));
+    let priced = named::acknowledgment::with_price(known, price);
+    write(priced, out);
+}
+
+// An Order Execution: so many shares at this price, so many left.
+pub fn execution(
+    unit: u8,
+    number: u32,
+    id: &[u8],
+    shares: u32,
+    price: i64,
+    left: u32,
+    out: &mut [u8],
+) {
+    let r = started(0x2C, unit, number);
+    let timed = named::execution::with_transaction_time(r, 1755590400000000000);
+    let named = named::execution::with_cl_ord_id(timed, identifier(id));
+    let known = named::execution::with_exec_id(named, 900000 + (number as u64));
+    let filled = named::execution::with_last_shares(known, shares);
+    let priced = named::execution::with_last_px(filled, price);
+    let rest = named::execution::with_leaves_qty(priced, left);
+    write(rest, out);
+}
+
+// A New Order's record, as our desk hands it over: its number is given by the session.
+pub fn new_order(id: &[u8], side: u8, quantity: u32, price: i64) -> Record {
+    let r = started(0x38, 0, 0);
+    let named = named::new_order::with_cl_ord_id(r, identifier(id));
+    let sided = named::new_order::with_side(named, [side]);
+    let sized = named::new_order::with_order_qty(sided, quantity);
+    let priced = named::new_order::with_price(sized, price);
+    let symbol = [b'Z', b'V', b'Z', b'Z', b'T', 0, 0, 0];
+    let listed = named::new_order::with_symbol(priced, symbol);
+    named::new_order::with_capacity(listed, [b'A'])
+}
+
+// A Cancel Order's record.
+pub fn cancel(id: &[u8]) -> Record {
+    let r = started(0x39, 0, 0);
+    named::cancel_order::with_orig_cl_ord_id(r, identifier(id))
+}
+
+// The login's SessionSubID, Username and Password.
+pub fn names() -> [u8; 18] {
+    let mut field = [0u8; 18];
+    fields::copy(b"0001TESTTESTING", &mut field);
+    field
+}
+
+// The login asks for Price in acknowledgments.
+pub fn acknowledgment_fields() -> Bitfields {
+    Bitfields {
+        given: true,
+        count: 1,
+        bits: [4, 0, 0, 0, 0, 0, 0, 0, 0, 0, 0, 0, 0, 0, 0],
+    }
+}
+
+// It asks for no optional field in executions.
+pub fn execution_fields() -> Bitfields {
+    Bitfields {
+        given: true,
+        count: 0,
+        bits: [0; 15],
+    }
+}
+
+// A session message's record with nothing said yet.
+fn session_record(message: u8) -> logins::Record {
+    logins::Record {
+        message: message,
+        unit: 0,
+        number: 0,
+        body: [0; 433],
+    }
+}
+
+// A Server Heartbeat.
+pub fn server_heartbeat(out: &mut [u8]) {
+    logins::write_session(session_record(0x09), out);
+}
+
+// A Logout at the end of the day.
+pub fn logout(received: OutgoingNumber, out: &mut [u8]) {
+    let mut text = [0u8; 60];
+    fields::copy(b"End of Day", &mut text);
+    let r = session_record(0x08);
+    let reasoned = session_fields::logout::with_reason(r, [b'E']);
+    let told = session_fields::logout::with_text(reasoned, text);
+    let counted = session_fields::logout::with_last_received(told, received);
+    logins::write_session(counted, out);
+}
