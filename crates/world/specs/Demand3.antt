@@ -140,5 +140,8 @@ TheReplayCompletes =
 
 -- ---- our bench venue is such a venue
 
-abbrev pub TheBenchIsSuchAVenue : Type 1
-TheBenchIsSuchAVenue = SuchAVenue ourVenue
+-- with 443 bytes for its answer to a login, and 2,048 for a step
+pub record TheBenchIsSuchAVenue : Type 1 where
+  pub such : SuchAVenue ourVenue
+  pub for-an-answer : such .answerRoom ≡ 443
+  pub for-a-step : such .stepRoom ≡ 2048

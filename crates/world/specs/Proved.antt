@@ -200,7 +200,8 @@ pub when-a-replay-completes-the-book-is-whole : WhenAReplayCompletes
 when-a-replay-completes-the-book-is-whole date d X such es room c r u = completed date d X such es room c r u
 
 pub the-bench-is-such-a-venue : TheBenchIsSuchAVenue
-the-bench-is-such-a-venue = meets
+unfolding meets
+the-bench-is-such-a-venue = record { such = meets; for-an-answer = refl; for-a-step = refl }
 
 pub each-restart-keeps-every-whole-message : EachRestart
 each-restart-keeps-every-whole-message date d X such es k = restarts date d X such es k
