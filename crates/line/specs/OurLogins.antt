@@ -151,7 +151,7 @@ module _ (table : Table) (f : Fields) (small : (u : ℕ) → lastOf table u < 42
 
 -- ---- read from its bytes
 
-body-long : (table : Table) (f : Fields) → length (loginOfTable table f .body) ≡ 433
+pub body-long : (table : Table) (f : Fields) → length (loginOfTable table f .body) ≡ 433
 unfolding loginRecord
 body-long table f =
     let s : List ℕ = saidOf table (choiceOf wholeTable) (f .names) (f .acknowledgments) (f .executions) in

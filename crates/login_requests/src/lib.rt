@@ -7,7 +7,7 @@ ghost use Rattle.numbers.specs.Numbers.{bytesOf, patched};
 ghost use Rattle.fields.specs.Slots.{zeros};
 ghost use Rattle.groups.specs.Values.{pairsBytes};
 ghost use Rattle.logins.specs.Sessions.{recordRefusal, recordBuffer};
-ghost use Rattle.login_requests.specs.LoginRequests.{choiceOf, least, pairsFor, unitsPart, bitsPart, groupCount, groupsPart, saidOf, loginRecord};
+ghost use Rattle.login_requests.specs.LoginRequests.{allUnits, choiceOf, least, pairsFor, unitsPart, bitsPart, groupCount, groupsPart, saidOf, loginRecord};
 use logins::Record;
 use table::Table;
 use table::Unit;
@@ -64,50 +64,57 @@ pub fn no_units() -> Choice
     }
 }
 
+// All 32 units, ascending, with flag 1.
+pub fn all_units() -> Choice
+    ensures { λ r. ⌜ r ≡ allUnits ⌝ }
+{
+    Choice {
+        which: 1,
+        flag: 1,
+        count: 32,
+        units: [
+            1,
+            2,
+            3,
+            4,
+            5,
+            6,
+            7,
+            8,
+            9,
+            10,
+            11,
+            12,
+            13,
+            14,
+            15,
+            16,
+            17,
+            18,
+            19,
+            20,
+            21,
+            22,
+            23,
+            24,
+            25,
+            26,
+            27,
+            28,
+            29,
+            30,
+            31,
+            32,
+        ],
+    }
+}
+
 // The choice as it is carried out: all 32 units with flag 1 where none is given.
 fn choice_of(choice: Choice) -> Choice
     ensures { λ r. ⌜ r ≡ choiceOf choice ⌝ }
 {
     if choice.which == 0 {
-        return Choice {
-            which: 1,
-            flag: 1,
-            count: 32,
-            units: [
-                1,
-                2,
-                3,
-                4,
-                5,
-                6,
-                7,
-                8,
-                9,
-                10,
-                11,
-                12,
-                13,
-                14,
-                15,
-                16,
-                17,
-                18,
-                19,
-                20,
-                21,
-                22,
-                23,
-                24,
-                25,
-                26,
-                27,
-                28,
-                29,
-                30,
-                31,
-                32,
-            ],
-        };
+        return all_units();
     }
     choice
 }
@@ -135,7 +142,7 @@ fn put_group_head(size: u16, kind: u8, x: u8, count: u8, tail: &mut [u8])
 }
 
 // The pairs of units, each with its number in the table.
-fn put_pairs(table: Table, units: &[u8], tail: &mut [u8])
+pub fn put_pairs(table: Table, units: &[u8], tail: &mut [u8])
     requires { ⌜ (length (now units) ≤ 32) × (5 * length (now units) ≤ length (now tail)) ⌝ }
     ensures { λ _. ⌜ now (tail .exit) ≡ patched (now (tail .entry)) 0 (pairsBytes (pairsFor table (now (units .entry)))) ⌝ }
 {

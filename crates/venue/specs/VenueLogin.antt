@@ -4,14 +4,12 @@ use native.Mathlib.Omega.{arith}
 use mathlib.Core.Path.{_≡_, refl, sym, ap, _∙_, fun-ext}
 use mathlib.Core.List.{List, [], map, append-nil}
 use mathlib.Core.Bool.{Bool, true, false, cond, false≢true, true≢false}
-use lib.ListN.{length, getD, take, length-append}
+use lib.ListN.{length, getD, take}
 use lib.Seq.{take-length}
 use lib.Dec.{eqb}
 use borrow.Author.Tests.{eqb-true, eqb-false}
 use Rattle.wire.specs.Header.{typeOf}
 use Rattle.wire.specs.Frame.{frameRefusal, framed}
-use Rattle.fields.specs.Slots.{zeros}
-use Rattle.fields.specs.SlotLaws.{length-zeros}
 use Rattle.table.specs.declared.Entry.{Entry}
 use Rattle.table.specs.declared.Table as table
 use Rattle.table.specs.Table.{unitRefusal, entryAt, lastOf}
@@ -19,14 +17,13 @@ use Rattle.table.specs.TableLaws.{unit-in-range, entry-is, no-entry}
 use Rattle.logins.specs.declared.Record.{Record}
 use Rattle.logins.specs.Sessions as logins
 use Rattle.logins.specs.SessionTrip.{Sound, read-accepts, framed-after, framed-as-written}
-use Rattle.login_requests.specs.LoginRequests.{upFrom, saidOf, choiceOf, loginRecord}
-use Rattle.login_requests.specs.LoginRequestLaws.{said-most}
+use Rattle.login_requests.specs.LoginRequests.{upFrom, loginRecord}
 use Rattle.session_fields.specs.declared.ListedField.{ListedField}
 use Rattle.session_fields.specs.SessionFields.{groupFlag, groupListed}
 use Rattle.day.specs.Model.{Msg, Table, count, Venue, took}
 use Rattle.day.specs.Story.{Bytes}
-use Rattle.line.specs.Lines.{msgOf, lists, Fields, wholeTable, loginOfTable, OurLogin}
-use Rattle.line.specs.OurLogins.{our-units-at, our-listed, our-record, our-lists}
+use Rattle.line.specs.Lines.{msgOf, lists, loginOfTable, OurLogin}
+use Rattle.line.specs.OurLogins.{our-units-at, our-listed, body-long, our-record, our-lists}
 use Rattle.venue.specs.declared.Answer.{Answer}
 use Rattle.venue.specs.Venues.{unitsAt, thresholdOf, entriesFor, thresholdsOf, loggedIn}
 use Rattle.venue.specs.VenueDay.{Bench, with, accepts, takesLogin}
@@ -111,13 +108,6 @@ unfolding thresholdOf
 listed-threshold r u n e = ap (λ (x : ListedField). cond (x .there) (x .number .0) (cond (eqb (groupFlag (unitsAt r) r .value) 1) 4294967295 0)) e
 
 -- ---- our login
-
-body-long : (table : table.Table) (f : Fields) → length (loginOfTable table f .body) ≡ 433
-unfolding loginRecord
-body-long table f =
-    let s : List ℕ = saidOf table (choiceOf wholeTable) (f .names) (f .acknowledgments) (f .executions) in
-    let h = said-most table (choiceOf wholeTable) (f .names) (f .acknowledgments) (f .executions) (f .long) in
-    length-append s (zeros (433 - length s)) ∙ omega (arith, length-zeros (433 - length s), h)
 
 module _ (b : Bytes) (o : OurLogin b) where
   abbrev ours : Record

@@ -52,14 +52,9 @@ pub fn put_pairs(table: Table, tail: &mut [u8])
     requires { ⌜ 160 ≤ length (now tail) ⌝ }
     ensures { λ _. ⌜ now (tail .exit) ≡ patched (now (tail .entry)) 0 (pairsBytes (pairsFor table (upFrom 32 1))) ⌝ }
 {
-    let mut i: usize = 0;
-    while i < 32 {
-        let unit = (i + 1) as u8;
-        let entry = table.entry(Unit(unit));
-        tail[5 * i] = unit;
-        numbers::write_u32(tail, 5 * i + 1, entry.last.0);
-        i += 1;
-    }
+    let all = login_requests::all_units();
+    let units = all.units;
+    login_requests::put_pairs(table, &units, tail);
 }
 
 // The pairs, and the login's groups after them.
