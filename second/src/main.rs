@@ -1,16 +1,7 @@
 //! The second program: makes the stored questions and scripts or more of them, or answers the
 //! questions it reads. README.md has the format.
 
-mod ask;
-mod bench;
-mod examples;
-mod hex;
-mod questions;
-mod random;
-mod rules;
-mod scripts;
-mod words;
-
+use second::{ask, questions, scripts};
 use std::env;
 use std::io::{self, BufWriter, Read, Write};
 use std::process::ExitCode;
