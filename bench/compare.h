@@ -1,0 +1,18 @@
+/* Both sides answer the same, or the run ends with status 1. */
+#ifndef COMPARE_H
+#define COMPARE_H
+
+#include "messages.h"
+
+/* Says what differs, and ends. */
+void differ(const struct workload *w, const char *what);
+
+/* The workload's message is read and written by both sides, without refusal and to the same bytes. What stands after an order's record
+ * in the buffer stays there. Its record is made. */
+void compare_good(struct workload *w);
+
+/* The same refusals: every cut, every direction, every byte with each of its other values; but no session message, which the plain C
+ * does not know. */
+void compare_damaged(const struct workload *w);
+
+#endif

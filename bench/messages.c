@@ -1,0 +1,121 @@
+/* The messages a to e. */
+#include "messages.h"
+
+#include <string.h>
+
+struct workload workloads[WORKLOADS];
+
+void add(struct workload *w, const char *bytes, size_t n, size_t width) {
+    memcpy(w->message + w->total, bytes, n);
+    memset(w->message + w->total + n, 0, width - n);
+    w->total += width;
+}
+
+static struct workload *start(size_t at, const char *name, uint8_t direction) {
+    struct workload *w = &workloads[at];
+    w->name = name;
+    w->direction = direction;
+    w->total = 0;
+    return w;
+}
+
+void finish(struct workload *w) {
+    w->message[2] = (uint8_t)(w->total - 2);
+    w->message[3] = (uint8_t)((w->total - 2) >> 8);
+}
+
+void make_workloads(void) {
+    /* a: 000's New Order, table 25 */
+    struct workload *w = start(0, "a", 0);
+    ADD("\xBA\xBA\x00\x00\x38\x00\x64\x00\x00\x00", 10);
+    ADD("ABC123", 20);
+    ADD("1\xE8\x03\x00\x00", 5);
+    ADD("\x03\x04\xC1\x01", 4);
+    ADD("\x44\xD6\x12", 8);
+    ADD("MSFT", 8);
+    ADD("P", 1);
+    ADD("R", 4);
+    ADD("DEFG", 16);
+    finish(w);
+
+    /* b: New Order with all listed bits, its texts filled */
+    w = start(1, "b", 0);
+    ADD("\xBA\xBA\x00\x00\x38\x00\x64\x00\x00\x00", 10);
+    ADD("ABCDEFGHIJ0123456789", 20);
+    ADD("1\xE8\x03\x00\x00", 5);
+    ADD("\x0A\xFF\xC3\xC1\x00\x00\x33\x00\x00\x00\x02", 11);
+    ADD("TEST", 4);                                                             /* ClearingFirm */
+    ADD("123C", 4);                                                             /* ClearingAccount */
+    ADD("\x44\xD6\x12", 8);                                                     /* Price */
+    ADD("G", 1);                                                                /* ExecInst */
+    ADD("2", 1);                                                                /* OrdType */
+    ADD("0", 1);                                                                /* TimeInForce */
+    ADD("\x64", 4);                                                             /* MinQty */
+    ADD("\xC8", 4);                                                             /* MaxFloor */
+    ADD("MSFTMSFT", 8);                                                         /* Symbol */
+    ADD("SUFFIXES", 8);                                                         /* SymbolSfx */
+    ADD("P", 1);                                                                /* Capacity */
+    ADD("R123", 4);                                                             /* RoutingInst */
+    ADD("DEFGHIJKLMNOPQRS", 16);                                                /* Account */
+    ADD("Y", 1);                                                                /* LocateReqd */
+    ADD("\xE0\xFA\x20\xF7\x36\x71\xF8\x11", 8);                                 /* ExpireTime */
+    ADD("\x0A", 4);                                                             /* DisplayRange */
+    ADD("\x08\xE2\x01", 8);                                                     /* StopPx */
+    ADD("X", 1);                                                                /* ExDestination */
+    ADD("Text of sixty-four characters that the venue sends back as it is", 64); /* EchoText */
+    ADD("ABCD", 4);                                                             /* LocateBroker */
+    finish(w);
+
+    /* c: 000's smallest acknowledgment, table 35: no bitfields */
+    w = start(2, "c", 1);
+    ADD("\xBA\xBA\x00\x00\x25\x03\x64\x00\x00\x00", 10);
+    ADD("\xE0\xFA\x20\xF7\x36\x71\xF8\x11", 8);
+    ADD("ABC123", 20);
+    ADD("\x05\x10\x1E\xB7\x5E\x39\x2F\x02", 8);
+    ADD("\x00\x00", 2);
+    finish(w);
+
+    /* d: an acknowledgment with 15 bitfields and all listed bits, its texts filled */
+    w = start(3, "d", 1);
+    ADD("\xBA\xBA\x00\x00\x25\x03\x64\x00\x00\x00", 10);
+    ADD("\xE0\xFA\x20\xF7\x36\x71\xF8\x11", 8);
+    ADD("ABCDEFGHIJ0123456789", 20);
+    ADD("\x05\x10\x1E\xB7\x5E\x39\x2F\x02", 8);
+    ADD("\x00\x0F\x7D\x43\x57\x00\x8E", 2 + 15);
+    ADD("1", 1);                                /* Side */
+    ADD("\x44\xD6\x12", 8);                     /* Price */
+    ADD("G", 1);                                /* ExecInst */
+    ADD("2", 1);                                /* OrdType */
+    ADD("0", 1);                                /* TimeInForce */
+    ADD("\x64", 4);                             /* MinQty */
+    ADD("MSFTMSFT", 8);                         /* Symbol */
+    ADD("SUFFIXES", 8);                         /* SymbolSfx */
+    ADD("P", 1);                                /* Capacity */
+    ADD("DEFGHIJKLMNOPQRS", 16);                /* Account */
+    ADD("TEST", 4);                             /* ClearingFirm */
+    ADD("123C", 4);                             /* ClearingAccount */
+    ADD("\xC8", 4);                             /* MaxFloor */
+    ADD("\xE8\x03", 4);                         /* OrderQty */
+    ADD("\x84\x03", 4);                         /* LeavesQty */
+    ADD("\x64", 4);                             /* LastShares */
+    ADD("\x08\xE2\x01", 8);                     /* LastPx */
+    ADD("\xE0\xFA\x20\xF7\x36\x71\xF8\x11", 8); /* ExpireTime */
+    finish(w);
+
+    /* e: 000's Order Execution, table 50 */
+    w = start(4, "e", 1);
+    ADD("\xBA\xBA\x00\x00\x2C\x03\x64\x00\x00\x00", 10);
+    ADD("\xE0\xFA\x20\xF7\x36\x71\xF8\x11", 8);
+    ADD("ABC123", 20);
+    ADD("\x01\xF0\xB7\xD9\x71\x21\x00\x00", 8);
+    ADD("\x64", 4);
+    ADD("\x08\xE2\x01", 8);
+    ADD("\x14", 4);
+    ADD("A", 2);
+    ADD("BATS", 4);
+    ADD("\x00\x03\x00\x00\x46", 5);
+    ADD("TEST", 4);
+    ADD("123C", 4);
+    ADD("\x78", 4);
+    finish(w);
+}
