@@ -159,7 +159,7 @@ fn frame(buffer: &[u8]) -> String {
             format!(
                 "0 {} {} {} {}",
                 message.len(),
-                header.kind,
+                header.type_byte,
                 header.unit,
                 header.number
             )

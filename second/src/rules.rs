@@ -16,6 +16,7 @@ pub mod read;
 pub mod record;
 pub mod session;
 pub mod table;
+pub mod types;
 pub mod venue;
 pub mod write;
 
@@ -72,4 +73,18 @@ impl Refusal {
     pub fn number(self) -> u8 {
         self as u8
     }
+}
+
+/// Refuses what is not good.
+fn check(good: bool, refusal: Refusal) -> Result<(), Refusal> {
+    if good {
+        Ok(())
+    } else {
+        Err(refusal)
+    }
+}
+
+/// The number of a result: that of its refusal, or 0.
+pub fn refusal<T>(result: Result<T, Refusal>) -> u8 {
+    result.map_or_else(Refusal::number, |_| 0)
 }

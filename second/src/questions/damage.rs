@@ -3,7 +3,8 @@
 
 use super::sample::{self, Sample};
 use crate::random::Random;
-use crate::rules::layout::{Layout, HEADER};
+use crate::rules::frame::HEADER;
+use crate::rules::layout::Layout;
 use crate::rules::record::{LENT, SIZE};
 
 /// Bytes at the ends of the ranges that the rules name.

@@ -2,9 +2,9 @@
 
 use crate::examples;
 use crate::hex;
-use crate::rules::layout::MEMBER;
 use crate::rules::read;
 use crate::rules::record::LENT;
+use crate::rules::types::MEMBER;
 
 pub fn ask(lines: &mut Vec<String>) {
     for line in OUTSIDE.iter().chain(INSIDE).chain(READ).chain(WRITE) {

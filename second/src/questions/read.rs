@@ -5,8 +5,10 @@ use super::sample::{self, Sample, ACKNOWLEDGMENT, CANCEL, EXECUTION, NEW_ORDER};
 use crate::examples;
 use crate::hex;
 use crate::random::Random;
-use crate::rules::layout::{self, HEADER, MEMBER, VENUE};
+use crate::rules::frame::HEADER;
+use crate::rules::layout;
 use crate::rules::read;
+use crate::rules::types::{MEMBER, VENUE};
 use std::collections::BTreeSet;
 
 /// DIRECTION and BYTES of each question.

@@ -4,15 +4,17 @@ use super::number;
 use super::Refusal;
 
 /// Both bytes that begin a message.
-pub const START: u8 = 0xBA;
+const START: u8 = 0xBA;
 /// The least length that covers the header: 2 of length, 1 type, 1 unit, 4 number.
-pub const LEAST_LENGTH: u64 = 8;
-pub const GREATEST_LENGTH: u64 = 2046;
+const LEAST_LENGTH: u64 = 8;
+const GREATEST_LENGTH: u64 = 2046;
 /// The length does not count the two start bytes.
-pub const UNCOUNTED: u64 = 2;
+const UNCOUNTED: u64 = 2;
+/// The bytes of a header.
+pub const HEADER: usize = 10;
 
 pub struct Header {
-    pub kind: u8,
+    pub type_byte: u8,
     pub unit: u8,
     pub number: u32,
 }
@@ -42,21 +44,30 @@ pub fn message(buffer: &[u8]) -> Result<&[u8], Refusal> {
 /// The parts of the header of a whole message, which has at least ten bytes.
 pub fn header(message: &[u8]) -> Header {
     Header {
-        kind: message[4],
+        type_byte: message[4],
         unit: message[5],
         number: number::get(message, 6, 4) as u32,
     }
 }
 
+/// The message of a header and of what follows it, at most as much as a length can say.
+pub fn put_together(header: &Header, rest: &[u8]) -> Vec<u8> {
+    let length = (HEADER + rest.len()) as u16 - UNCOUNTED as u16;
+    let mut message = vec![START, START];
+    message.extend(length.to_le_bytes());
+    message.extend([header.type_byte, header.unit]);
+    message.extend(header.number.to_le_bytes());
+    message.extend(rest);
+    message
+}
+
 #[cfg(test)]
 mod tests {
     use super::*;
+    use crate::rules;
 
     fn refusal(buffer: &[u8]) -> u8 {
-        match message(buffer) {
-            Ok(_) => 0,
-            Err(refusal) => refusal.number(),
-        }
+        rules::refusal(message(buffer))
     }
 
     #[test]
@@ -88,9 +99,10 @@ mod tests {
             assert_eq!(whole, &buffer[..10]);
             let parts = header(whole);
             assert_eq!(
-                (parts.kind, parts.unit, parts.number),
+                (parts.type_byte, parts.unit, parts.number),
                 (0x25, 3, 0x04030201)
             );
+            assert_eq!(put_together(&parts, &[]), whole);
         }
     }
 

@@ -1,16 +1,16 @@
 //! Unit pairs and parameter groups (document 01, "The bit dictionary", at Login Request). All that
 //! is against their rules is 11, also where a list or a group goes past the end of its bytes.
 
-use super::layout::check;
 use super::number;
 use super::table::UNITS;
-use super::Refusal;
+use super::types;
+use super::{check, Refusal};
 
 /// A group of unit pairs, and one of the bitfields that a message type is to have.
 pub const UNIT_SEQUENCES: u8 = 0x80;
 pub const RETURN_BITFIELDS: u8 = 0x81;
 /// The message types that bitfields may be asked for.
-pub const RETURNED: [u8; 2] = [0x25, 0x2C];
+pub const RETURNED: [u8; 2] = [types::ACKNOWLEDGMENT, types::EXECUTION];
 pub const MOST_BITFIELDS: u8 = 15;
 /// A unit (1) and a number (4).
 pub const PAIR: usize = 5;

@@ -2,14 +2,12 @@
 //! numbers are those of the table.
 
 use super::groups::{MOST_BITFIELDS, RETURNED, RETURN_BITFIELDS, UNIT_SEQUENCES};
-use super::layout::MEMBER;
-use super::record::{BODY_PLACE, LENT};
 use super::table::{entry, SIZE, UNITS};
+use super::types::{self, MEMBER};
 use super::write;
 use super::Refusal;
 
 pub const NAMES: usize = 18;
-const TYPE: u8 = 0x37;
 /// The bytes of a group before its list.
 const GROUP_HEAD: u16 = 5;
 
@@ -47,14 +45,11 @@ pub struct Login {
 impl Login {
     /// Writes the Login Request to the start of `buffer`: 10, 11, 13.
     pub fn write(&self, table: &[u8; SIZE], buffer: &mut [u8]) -> Result<(), Refusal> {
-        let mut record = vec![TYPE];
-        record.resize(BODY_PLACE, 0);
-        record.extend(self.names);
         let groups = self.groups(table);
-        record.push(groups.len() as u8);
-        record.extend(groups.concat());
-        record.resize(LENT, 0);
-        write::record(MEMBER, &record, buffer)
+        let mut body = self.names.to_vec();
+        body.push(groups.len() as u8);
+        body.extend(groups.concat());
+        write::session(MEMBER, types::LOGIN_REQUEST, &body, buffer)
     }
 
     /// The units first. A count past its list stands as it was given, and the writer refuses it.
@@ -98,8 +93,8 @@ fn group(type_byte: u8, choice: u8, count: u8, list: &[u8]) -> Vec<u8> {
 mod tests {
     use super::*;
     use crate::examples;
-    use crate::rules::read;
     use crate::rules::table::set_entry;
+    use crate::rules::{self, read};
 
     fn login(choice: Choice) -> Login {
         Login {
@@ -129,10 +124,7 @@ mod tests {
     }
 
     fn refusal(login: &Login, table: &[u8; SIZE]) -> u8 {
-        match login.write(table, &mut [0; 300]) {
-            Ok(()) => 0,
-            Err(refusal) => refusal.number(),
-        }
+        rules::refusal(login.write(table, &mut [0; 300]))
     }
 
     /// The logins of both documents come out, their units chosen and their numbers in the table.

@@ -1,15 +1,18 @@
 //! The member's session (document 01, "Session and replay").
 
-use super::book::{self, Book};
+use super::book::{self, Book, BOOKED};
 use super::frame;
-use super::layout::{check, MEMBER, VENUE};
 use super::login::Login;
 use super::number;
 use super::read;
 use super::record::{LENT, SIZE};
 use super::table;
+use super::types::{
+    CANCEL_ORDER, CLIENT_HEARTBEAT, LOGIN_RESPONSE, LOGOUT, MEMBER, NEW_ORDER, REPLAY_COMPLETE,
+    SERVER_HEARTBEAT, VENUE,
+};
 use super::write;
-use super::Refusal;
+use super::{check, Refusal};
 
 #[derive(Clone, Copy, Debug, PartialEq, Eq)]
 pub enum Phase {
@@ -19,13 +22,7 @@ pub enum Phase {
     Live = 3,
 }
 
-const LOGIN_RESPONSE: u8 = 0x24;
-const LOGOUT: u8 = 0x08;
-const SERVER_HEARTBEAT: u8 = 0x09;
-const REPLAY_COMPLETE: u8 = 0x13;
-const BOOKED: [u8; 2] = [0x25, 0x2C];
-const ORDERS: [u8; 2] = [0x38, 0x39];
-const CLIENT_HEARTBEAT: u8 = 0x03;
+const ORDERS: [u8; 2] = [NEW_ORDER, CANCEL_ORDER];
 /// In a Login Response.
 const STATUS_PLACE: usize = 10;
 const RECEIVED_PLACE: u64 = 72;
@@ -85,9 +82,9 @@ impl Member {
         check(self.phase != Phase::Closed, Refusal::Phase)?;
         read::message(VENUE, bytes)?;
         let message = frame::message(bytes)?;
-        let kind = frame::header(message).kind;
-        check(self.takes(kind), Refusal::Phase)?;
-        match kind {
+        let type_byte = frame::header(message).type_byte;
+        check(self.takes(type_byte), Refusal::Phase)?;
+        match type_byte {
             LOGIN_RESPONSE if message[STATUS_PLACE] == ACCEPTED => {
                 self.phase = Phase::Replaying;
                 self.outgoing = number::get(message, RECEIVED_PLACE, 4) as u32;
@@ -101,13 +98,13 @@ impl Member {
     }
 
     /// Whether a message of a type is for the phase.
-    fn takes(&self, kind: u8) -> bool {
-        let open = kind == LOGOUT;
-        let running = BOOKED.contains(&kind) || kind == SERVER_HEARTBEAT || open;
+    fn takes(&self, type_byte: u8) -> bool {
+        let open = type_byte == LOGOUT;
+        let running = BOOKED.contains(&type_byte) || type_byte == SERVER_HEARTBEAT || open;
         match self.phase {
             Phase::Closed => false,
-            Phase::Asked => kind == LOGIN_RESPONSE || open,
-            Phase::Replaying => kind == REPLAY_COMPLETE || running,
+            Phase::Asked => type_byte == LOGIN_RESPONSE || open,
+            Phase::Replaying => type_byte == REPLAY_COMPLETE || running,
             Phase::Live => running,
         }
     }
@@ -131,9 +128,7 @@ impl Member {
     pub fn beat(&self, out: &mut [u8]) -> Result<(), Refusal> {
         let running = self.phase == Phase::Replaying || self.phase == Phase::Live;
         check(running, Refusal::Phase)?;
-        let mut record = vec![CLIENT_HEARTBEAT];
-        record.resize(LENT, 0);
-        write::record(MEMBER, &record, out)
+        write::session(MEMBER, CLIENT_HEARTBEAT, &[], out)
     }
 
     /// The line broke. A session that was closed stays so.
@@ -155,14 +150,11 @@ mod tests {
     use super::*;
     use crate::examples;
     use crate::rules::login::Choice;
+    use crate::rules::refusal;
     use crate::rules::table::entry;
 
     const DATE: u32 = 20_250_819;
     const PHASES: [Phase; 4] = [Phase::Closed, Phase::Asked, Phase::Replaying, Phase::Live];
-
-    fn refusal(result: Result<(), Refusal>) -> u8 {
-        result.map_or_else(Refusal::number, |()| 0)
-    }
 
     /// A member in a phase with document 01's book, and its buffer.
     fn member(phase: Phase) -> (Member, Vec<u8>) {

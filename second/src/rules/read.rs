@@ -1,21 +1,31 @@
 //! Reading a message (document 01, "Numbers of refusal", the reading order).
 
-use super::frame;
-use super::layout::{self, Layout, HEADER};
+use super::frame::{self, HEADER};
+use super::layout::{self, Layout};
 use super::record::{Record, BITFIELDS, FIXED, SLOTS};
 use super::session::Session;
-use super::Refusal;
+use super::{check, Refusal};
 
 /// The record of the first whole message of a buffer. What the message does not hold is zero in
 /// the record; what follows the message plays no part.
 pub fn message(direction: u8, buffer: &[u8]) -> Result<Vec<u8>, Refusal> {
     let message = frame::message(buffer)?;
-    let type_byte = frame::header(message).kind;
+    let type_byte = frame::header(message).type_byte;
     if let Some(session) = Session::of(direction, type_byte) {
         return session.read(message);
     }
     let layout = Layout::of(direction, type_byte)?;
     Ok(with_bitfields(layout, message)?.bytes())
+}
+
+/// The first whole message of a buffer, if it can be read. A type other than these is 4, at 4's
+/// place.
+pub fn of_types<'a>(direction: u8, buffer: &'a [u8], types: &[u8]) -> Result<&'a [u8], Refusal> {
+    let whole = frame::message(buffer)?;
+    let type_byte = frame::header(whole).type_byte;
+    check(types.contains(&type_byte), Refusal::Type)?;
+    message(direction, whole)?;
+    Ok(whole)
 }
 
 /// The record of a whole message with bitfields.
@@ -26,18 +36,18 @@ fn with_bitfields(layout: &Layout, message: &[u8]) -> Result<Record, Refusal> {
     // The total is judged three times: up to the count byte, up to the end of the bitfields, and
     // in whole.
     let first = layout.bitfields_place();
-    layout::check(message.len() >= first, Refusal::Total)?;
+    check(message.len() >= first, Refusal::Total)?;
     let count = message[layout.count_place()];
     layout.check_count(count)?;
     let end = first + usize::from(count);
-    layout::check(message.len() >= end, Refusal::Total)?;
+    check(message.len() >= end, Refusal::Total)?;
     let bitfields = &message[first..end];
     layout.check_bits(bitfields)?;
     layout.check_required(bitfields)?;
-    layout::check(message.len() == layout.total(bitfields), Refusal::Total)?;
+    check(message.len() == layout.total(bitfields), Refusal::Total)?;
 
     let mut record = Record {
-        type_byte: header.kind,
+        type_byte: header.type_byte,
         unit: header.unit,
         number: header.number,
         fixed: [0; FIXED],
@@ -63,6 +73,7 @@ mod tests {
     use super::*;
     use crate::examples;
     use crate::questions::sample;
+    use crate::rules;
 
     /// The record of a message with bitfields.
     fn record_of(direction: u8, buffer: &[u8]) -> Record {
@@ -70,10 +81,7 @@ mod tests {
     }
 
     fn refusal(direction: u8, buffer: &[u8]) -> u8 {
-        match message(direction, buffer) {
-            Ok(_) => 0,
-            Err(refusal) => refusal.number(),
-        }
+        rules::refusal(message(direction, buffer))
     }
 
     #[test]

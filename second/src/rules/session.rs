@@ -1,13 +1,13 @@
 //! The session messages (document 01, "The bit dictionary" and "Numbers of refusal"). The fixed
 //! parts of Login Response and Logout are those of document 000.
 
-use super::frame::{self, START, UNCOUNTED};
+use super::frame::{self, Header, HEADER};
 use super::groups::{self, Rest};
 use super::kinds::{self, Kind};
-use super::layout::{check, HEADER, MEMBER, VENUE};
 use super::number;
 use super::record::{BODY_PLACE, LENT};
-use super::Refusal;
+use super::types::{self, MEMBER, VENUE};
+use super::{check, Refusal};
 
 /// A field of the fixed part; it may be blank.
 #[derive(Debug)]
@@ -41,7 +41,7 @@ pub struct Session {
 pub static ALL: [Session; 6] = [
     Session {
         direction: MEMBER,
-        type_byte: 0x37,
+        type_byte: types::LOGIN_REQUEST,
         fields: &[
             field("SessionSubID", 4, N),
             field("Username", 4, N),
@@ -52,7 +52,7 @@ pub static ALL: [Session; 6] = [
     },
     Session {
         direction: VENUE,
-        type_byte: 0x24,
+        type_byte: types::LOGIN_RESPONSE,
         fields: &[
             field("LoginResponseStatus", 1, N),
             field("LoginResponseText", 60, T),
@@ -64,7 +64,7 @@ pub static ALL: [Session; 6] = [
     },
     Session {
         direction: VENUE,
-        type_byte: 0x08,
+        type_byte: types::LOGOUT,
         fields: &[
             Field {
                 name: "LogoutReason",
@@ -78,9 +78,9 @@ pub static ALL: [Session; 6] = [
         flag: None,
         lists: &[List::Pairs],
     },
-    header_alone(MEMBER, 0x03),
-    header_alone(VENUE, 0x09),
-    header_alone(VENUE, 0x13),
+    header_alone(MEMBER, types::CLIENT_HEARTBEAT),
+    header_alone(VENUE, types::SERVER_HEARTBEAT),
+    header_alone(VENUE, types::REPLAY_COMPLETE),
 ];
 
 const N: Kind = Kind::LettersAndDigits;
@@ -136,7 +136,7 @@ impl Session {
         let rest = self.check_body(body)?;
         check(rest.is_empty(), Refusal::Total)?;
 
-        let mut record = vec![header.kind, header.unit];
+        let mut record = vec![header.type_byte, header.unit];
         record.extend(header.number.to_le_bytes());
         record.extend(body);
         record.resize(LENT, 0);
@@ -145,9 +145,12 @@ impl Session {
 
     /// The message of a record of this type and direction; the record has all its bytes.
     pub fn write(&self, record: &[u8]) -> Result<Vec<u8>, Refusal> {
-        let unit = record[1];
-        let number = number::get(record, 2, 4) as u32;
-        check_header(unit, number)?;
+        let header = Header {
+            type_byte: self.type_byte,
+            unit: record[1],
+            number: number::get(record, 2, 4) as u32,
+        };
+        check_header(header.unit, header.number)?;
         let body = &record[BODY_PLACE..LENT];
         let rest = self.check_body(body)?;
         let unused = if self.lists.is_empty() {
@@ -157,15 +160,8 @@ impl Session {
         };
         check(kinds::blank(rest), unused)?;
 
-        let body = &body[..body.len() - rest.len()];
-        let length = (HEADER + body.len()) as u16 - UNCOUNTED as u16;
-        let mut message = vec![START, START];
-        message.extend(length.to_le_bytes());
-        message.push(self.type_byte);
-        message.push(unit);
-        message.extend(number.to_le_bytes());
-        message.extend(body);
-        Ok(message)
+        let used = body.len() - rest.len();
+        Ok(frame::put_together(&header, &body[..used]))
     }
 
     /// 10 in the fields, then 11 in the flag and the lists; what follows the last list is left.
@@ -205,20 +201,14 @@ mod tests {
     use super::*;
     use crate::examples;
     use crate::questions::sample::measure;
-    use crate::rules::{read, write};
+    use crate::rules::{self, read, write};
 
     fn reads(direction: u8, message: &[u8]) -> u8 {
-        match read::message(direction, message) {
-            Ok(_) => 0,
-            Err(refusal) => refusal.number(),
-        }
+        rules::refusal(read::message(direction, message))
     }
 
     fn writes(direction: u8, record: &[u8], buffer: &mut [u8]) -> u8 {
-        match write::record(direction, record, buffer) {
-            Ok(()) => 0,
-            Err(refusal) => refusal.number(),
-        }
+        rules::refusal(write::record(direction, record, buffer))
     }
 
     /// The answer to a message with a length that fits it.

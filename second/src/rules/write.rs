@@ -1,24 +1,39 @@
 //! Writing a record (document 01, "Numbers of refusal", the writing order; README.md for what comes
 //! before it).
 
-use super::frame::{START, UNCOUNTED};
+use super::frame::{self, Header};
 use super::kinds;
 use super::layout::{self, Layout, Place};
-use super::record::{Record, LENT};
+use super::record::{Record, BODY_PLACE, LENT};
 use super::session::Session;
-use super::Refusal;
+use super::{check, Refusal};
 
 /// Writes the record that `record` begins with to the start of `buffer`. Only the bytes of the
 /// message change, and none if it is refused.
 pub fn record(direction: u8, record: &[u8], buffer: &mut [u8]) -> Result<(), Refusal> {
-    layout::check(record.len() >= LENT, Refusal::Room)?;
+    check(record.len() >= LENT, Refusal::Room)?;
     let message = match Session::of(direction, record[0]) {
         Some(session) => session.write(record)?,
         None => with_bitfields(Layout::of(direction, record[0])?, &Record::of_bytes(record))?,
     };
-    layout::check(buffer.len() >= message.len(), Refusal::Room)?;
+    check(buffer.len() >= message.len(), Refusal::Room)?;
     buffer[..message.len()].copy_from_slice(&message);
     Ok(())
+}
+
+/// Writes the session message of a type and a body in the same way. The body is no longer than a
+/// record's.
+pub fn session(
+    direction: u8,
+    type_byte: u8,
+    body: &[u8],
+    buffer: &mut [u8],
+) -> Result<(), Refusal> {
+    let mut bytes = vec![type_byte];
+    bytes.resize(BODY_PLACE, 0);
+    bytes.extend(body);
+    bytes.resize(LENT, 0);
+    record(direction, &bytes, buffer)
 }
 
 /// The message of a record with bitfields.
@@ -37,21 +52,20 @@ fn with_bitfields(layout: &Layout, record: &Record) -> Result<Vec<u8>, Refusal> 
     for place in &places {
         layout::check_optional(place.field, value(record, place))?;
     }
-    layout::check(unused_is_zero(layout, record, &places), Refusal::Unused)?;
+    check(unused_is_zero(layout, record, &places), Refusal::Unused)?;
 
-    let length = (layout.total(bitfields) as u16) - UNCOUNTED as u16;
-    let mut message = vec![START, START];
-    message.extend(length.to_le_bytes());
-    message.push(record.type_byte);
-    message.push(record.unit);
-    message.extend(record.number.to_le_bytes());
-    message.extend(fixed);
-    message.push(record.count);
-    message.extend(bitfields);
+    let header = Header {
+        type_byte: record.type_byte,
+        unit: record.unit,
+        number: record.number,
+    };
+    let mut rest = fixed.to_vec();
+    rest.push(record.count);
+    rest.extend(bitfields);
     for place in &places {
-        message.extend(value(record, place));
+        rest.extend(value(record, place));
     }
-    Ok(message)
+    Ok(frame::put_together(&header, &rest))
 }
 
 fn value<'a>(record: &'a Record, place: &Place) -> &'a [u8] {
@@ -77,8 +91,8 @@ mod tests {
     use crate::questions::damage;
     use crate::questions::sample::Sample;
     use crate::random::Random;
-    use crate::rules::read;
     use crate::rules::record::SIZE;
+    use crate::rules::{self, read};
 
     /// The record of a message, in as many bytes as are wanted for one.
     fn lent(direction: u8, message: &[u8]) -> Vec<u8> {
@@ -88,10 +102,7 @@ mod tests {
     }
 
     fn refusal(direction: u8, bytes: &[u8], buffer: &mut [u8]) -> u8 {
-        match record(direction, bytes, buffer) {
-            Ok(()) => 0,
-            Err(refusal) => refusal.number(),
-        }
+        rules::refusal(record(direction, bytes, buffer))
     }
 
     #[test]

@@ -11,8 +11,8 @@ use crate::questions::session::sample::{
     Sample as Session, CLIENT_HEARTBEAT, LOGIN, LOGOUT, REPLAY_COMPLETE, RESPONSE, SERVER_HEARTBEAT,
 };
 use crate::random::Random;
-use crate::rules::layout::VENUE;
 use crate::rules::table::entry;
+use crate::rules::types::VENUE;
 
 /// A day up to a live session, and then all faults.
 pub fn round(driver: &mut Driver) {

@@ -7,7 +7,7 @@ use crate::questions::damage::{
 };
 use crate::questions::sample::measure;
 use crate::random::Random;
-use crate::rules::layout::HEADER;
+use crate::rules::frame::HEADER;
 
 /// A direction and the bytes of a damaged message, which may still be valid.
 pub fn message(random: &mut Random, sample: &Sample) -> (u8, Vec<u8>) {

@@ -7,9 +7,10 @@ use crate::examples;
 use crate::questions::read::line;
 use crate::questions::sample::{bad_bytes, end_bytes, measure, textual};
 use crate::random::Random;
-use crate::rules::layout::{HEADER, MEMBER, VENUE};
+use crate::rules::frame::HEADER;
 use crate::rules::read;
 use crate::rules::session::{self, List};
+use crate::rules::types::{MEMBER, VENUE};
 use std::collections::BTreeSet;
 
 /// DIRECTION and BYTES of each question.

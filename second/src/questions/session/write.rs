@@ -9,7 +9,7 @@ use crate::questions::sample::{bad_bytes, textual};
 use crate::questions::write::line;
 use crate::random::Random;
 use crate::rules;
-use crate::rules::layout::HEADER;
+use crate::rules::frame::HEADER;
 use crate::rules::session;
 use std::collections::BTreeSet;
 

@@ -1,0 +1,152 @@
+//! The table of each message with bitfields. The fixed part of Order Execution and the choice of
+//! its bits are those of document 000.
+
+use super::{Fixed, Layout, Listed, Rule};
+use crate::rules::kinds::Kind;
+use crate::rules::types::{self, MEMBER, VENUE};
+
+pub static ALL: [Layout; 4] = [
+    Layout {
+        direction: MEMBER,
+        type_byte: types::NEW_ORDER,
+        least_unit: 0,
+        greatest_unit: 0,
+        fixed: NEW_ORDER_FIXED,
+        most: 10,
+        listed: NEW_ORDER_LISTED,
+        required: &[&["Symbol"], &["Capacity"], &["Price", "OrdType"]],
+    },
+    Layout {
+        direction: MEMBER,
+        type_byte: types::CANCEL_ORDER,
+        least_unit: 0,
+        greatest_unit: 0,
+        fixed: CANCEL_ORDER_FIXED,
+        most: 2,
+        listed: CANCEL_ORDER_LISTED,
+        required: &[],
+    },
+    Layout {
+        direction: VENUE,
+        type_byte: types::ACKNOWLEDGMENT,
+        least_unit: 1,
+        greatest_unit: 32,
+        fixed: ACKNOWLEDGMENT_FIXED,
+        most: 15,
+        listed: ACKNOWLEDGMENT_LISTED,
+        required: &[],
+    },
+    Layout {
+        direction: VENUE,
+        type_byte: types::EXECUTION,
+        least_unit: 1,
+        greatest_unit: 32,
+        fixed: EXECUTION_FIXED,
+        most: 15,
+        listed: EXECUTION_LISTED,
+        required: &[],
+    },
+];
+
+// Short names for the columns of the tables.
+const A: Kind = Kind::Letters;
+const N: Kind = Kind::LettersAndDigits;
+const T: Kind = Kind::Text;
+const B: Kind = Kind::Binary;
+const P: Kind = Kind::Price;
+const IDENTIFIER: Rule = Rule::Filled(Kind::Identifier);
+
+const fn fixed(name: &'static str, width: usize, rule: Rule) -> Fixed {
+    Fixed { name, width, rule }
+}
+
+const fn bit(byte: usize, bit: u8, name: &'static str, width: usize, kind: Kind) -> Listed {
+    Listed {
+        byte,
+        bit,
+        name,
+        width,
+        kind,
+    }
+}
+
+const NEW_ORDER_FIXED: &[Fixed] = &[
+    fixed("ClOrdID", 20, IDENTIFIER),
+    fixed("Side", 1, Rule::Filled(N)),
+    fixed("OrderQty", 4, Rule::Quantity),
+];
+
+const NEW_ORDER_LISTED: &[Listed] = &[
+    bit(1, 1, "ClearingFirm", 4, A),
+    bit(1, 2, "ClearingAccount", 4, T),
+    bit(1, 4, "Price", 8, P),
+    bit(1, 8, "ExecInst", 1, T),
+    bit(1, 16, "OrdType", 1, N),
+    bit(1, 32, "TimeInForce", 1, N),
+    bit(1, 64, "MinQty", 4, B),
+    bit(1, 128, "MaxFloor", 4, B),
+    bit(2, 1, "Symbol", 8, N),
+    bit(2, 2, "SymbolSfx", 8, N),
+    bit(2, 64, "Capacity", 1, A),
+    bit(2, 128, "RoutingInst", 4, T),
+    bit(3, 1, "Account", 16, T),
+    bit(3, 64, "LocateReqd", 1, A),
+    bit(3, 128, "ExpireTime", 8, B),
+    bit(6, 1, "DisplayRange", 4, B),
+    bit(6, 2, "StopPx", 8, P),
+    bit(6, 16, "ExDestination", 1, T),
+    bit(6, 32, "EchoText", 64, T),
+    bit(10, 2, "LocateBroker", 4, A),
+];
+
+const CANCEL_ORDER_FIXED: &[Fixed] = &[fixed("OrigClOrdID", 20, IDENTIFIER)];
+
+const CANCEL_ORDER_LISTED: &[Listed] = &[bit(1, 1, "ClearingFirm", 4, A)];
+
+const ACKNOWLEDGMENT_FIXED: &[Fixed] = &[
+    fixed("TransactionTime", 8, Rule::Any(B)),
+    fixed("ClOrdID", 20, IDENTIFIER),
+    fixed("OrderID", 8, Rule::Any(B)),
+    fixed("Reserved", 1, Rule::Any(B)),
+];
+
+const ACKNOWLEDGMENT_LISTED: &[Listed] = &[
+    bit(1, 1, "Side", 1, N),
+    bit(1, 4, "Price", 8, P),
+    bit(1, 8, "ExecInst", 1, T),
+    bit(1, 16, "OrdType", 1, N),
+    bit(1, 32, "TimeInForce", 1, N),
+    bit(1, 64, "MinQty", 4, B),
+    bit(2, 1, "Symbol", 8, N),
+    bit(2, 2, "SymbolSfx", 8, N),
+    bit(2, 64, "Capacity", 1, A),
+    bit(3, 1, "Account", 16, T),
+    bit(3, 2, "ClearingFirm", 4, A),
+    bit(3, 4, "ClearingAccount", 4, T),
+    bit(3, 16, "MaxFloor", 4, B),
+    bit(3, 64, "OrderQty", 4, B),
+    bit(5, 2, "LeavesQty", 4, B),
+    bit(5, 4, "LastShares", 4, B),
+    bit(5, 8, "LastPx", 8, P),
+    bit(5, 128, "ExpireTime", 8, B),
+];
+
+const EXECUTION_FIXED: &[Fixed] = &[
+    fixed("TransactionTime", 8, Rule::Any(B)),
+    fixed("ClOrdID", 20, IDENTIFIER),
+    fixed("ExecID", 8, Rule::Any(B)),
+    fixed("LastShares", 4, Rule::Any(B)),
+    fixed("LastPx", 8, Rule::Any(P)),
+    fixed("LeavesQty", 4, Rule::Any(B)),
+    fixed("BaseLiquidityIndicator", 1, Rule::Any(N)),
+    fixed("SubLiquidityIndicator", 1, Rule::Any(N)),
+    fixed("ContraBroker", 4, Rule::Any(N)),
+    fixed("Reserved", 1, Rule::Any(B)),
+];
+
+/// The acknowledgment's bits without its last four: 000 leaves these blank or forbids them in an
+/// execution.
+const EXECUTION_LISTED: &[Listed] = match ACKNOWLEDGMENT_LISTED {
+    [listed @ .., _leaves_qty, _last_shares, _last_px, _expire_time] => listed,
+    _ => &[],
+};

@@ -1,0 +1,216 @@
+use super::*;
+use crate::rules::record;
+use crate::rules::types::MEMBER;
+
+fn layout(type_byte: u8) -> &'static Layout {
+    ALL.iter()
+        .find(|layout| layout.type_byte == type_byte)
+        .unwrap()
+}
+
+/// The places that document 01 gives, and 000 for the execution.
+#[test]
+fn places_of_the_fixed_parts() {
+    let places = |type_byte: u8| {
+        let mut at = HEADER;
+        let mut text = String::new();
+        for field in layout(type_byte).fixed {
+            text.push_str(&format!("{} {} ", field.name, at));
+            at += field.width;
+        }
+        text.push_str(&format!("count {}", at));
+        assert_eq!(at, layout(type_byte).count_place());
+        text
+    };
+    assert_eq!(places(0x38), "ClOrdID 10 Side 30 OrderQty 31 count 35");
+    assert_eq!(places(0x39), "OrigClOrdID 10 count 30");
+    assert_eq!(
+        places(0x25),
+        "TransactionTime 10 ClOrdID 18 OrderID 38 Reserved 46 count 47"
+    );
+    assert_eq!(
+        places(0x2C),
+        "TransactionTime 10 ClOrdID 18 ExecID 38 LastShares 46 LastPx 50 LeavesQty 58 \
+         BaseLiquidityIndicator 62 SubLiquidityIndicator 63 ContraBroker 64 Reserved 68 count 69"
+    );
+}
+
+/// Widths and kinds, once more as the documents have them; `!` is never blank.
+#[test]
+fn forms_of_the_fields() {
+    let forms = |type_byte: u8| {
+        let layout = layout(type_byte);
+        let mut text = String::new();
+        for field in layout.fixed {
+            let rule = match field.rule {
+                Rule::Any(kind) => kind.letter().to_string(),
+                Rule::Filled(kind) => format!("{}!", kind.letter()),
+                Rule::Quantity => "quantity".to_string(),
+            };
+            text.push_str(&format!("{}{} ", field.width, rule));
+        }
+        text.push_str(&format!("most {}", layout.most));
+        let mut byte = 0;
+        for field in layout.listed {
+            if field.byte != byte {
+                byte = field.byte;
+                text.push_str(&format!(" byte {}:", byte));
+            }
+            let letter = field.kind.letter();
+            text.push_str(&format!(" {} {}{}", field.bit, field.width, letter));
+        }
+        text
+    };
+    assert_eq!(
+        forms(0x38),
+        "20I! 1N! 4quantity most 10 \
+         byte 1: 1 4A 2 4T 4 8P 8 1T 16 1N 32 1N 64 4B 128 4B \
+         byte 2: 1 8N 2 8N 64 1A 128 4T \
+         byte 3: 1 16T 64 1A 128 8B \
+         byte 6: 1 4B 2 8P 16 1T 32 64T \
+         byte 10: 2 4A"
+    );
+    assert_eq!(forms(0x39), "20I! most 2 byte 1: 1 4A");
+    assert_eq!(
+        forms(0x25),
+        "8B 20I! 8B 1B most 15 \
+         byte 1: 1 1N 4 8P 8 1T 16 1N 32 1N 64 4B \
+         byte 2: 1 8N 2 8N 64 1A \
+         byte 3: 1 16T 2 4A 4 4T 16 4B 64 4B \
+         byte 5: 2 4B 4 4B 8 8P 128 8B"
+    );
+    assert_eq!(
+        forms(0x2C),
+        "8B 20I! 8B 4B 8P 4B 1N 1N 4N 1B most 15 \
+         byte 1: 1 1N 4 8P 8 1T 16 1N 32 1N 64 4B \
+         byte 2: 1 8N 2 8N 64 1A \
+         byte 3: 1 16T 2 4A 4 4T 16 4B 64 4B"
+    );
+}
+
+/// First byte first and lowest bit first, each of them a single bit within the bitfields.
+#[test]
+fn order_of_the_bits() {
+    for layout in &ALL {
+        let orders: Vec<(usize, u8)> = layout
+            .listed
+            .iter()
+            .map(|field| (field.byte, field.bit))
+            .collect();
+        assert!(orders.windows(2).all(|pair| pair[0] < pair[1]));
+        for field in layout.listed {
+            assert!((1..=layout.most).contains(&field.byte));
+            assert_eq!(field.bit.count_ones(), 1);
+        }
+    }
+}
+
+#[test]
+fn counts_and_sums_of_the_bits() {
+    let sums: Vec<(usize, usize)> = ALL
+        .iter()
+        .map(|layout| {
+            let widths = layout.listed.iter().map(|field| field.width).sum();
+            (layout.listed.len(), widths)
+        })
+        .collect();
+    assert_eq!(sums, [(20, 154), (1, 4), (18, 89), (14, 65)]);
+    let bitfields = |type_byte: u8| {
+        let mut bitfields = [0; 15];
+        for field in layout(type_byte).listed {
+            bitfields[field.byte - 1] |= field.bit;
+        }
+        bitfields
+    };
+    assert_eq!(
+        bitfields(0x38),
+        [255, 195, 193, 0, 0, 51, 0, 0, 0, 2, 0, 0, 0, 0, 0]
+    );
+    assert_eq!(bitfields(0x39)[..3], [1, 0, 0]);
+    assert_eq!(bitfields(0x25)[..6], [125, 67, 87, 0, 142, 0]);
+    assert_eq!(bitfields(0x2C)[..6], [125, 67, 87, 0, 0, 0]);
+}
+
+/// A field has one width and one kind wherever it is listed.
+#[test]
+fn same_field_same_form() {
+    let listed: Vec<&Listed> = ALL.iter().flat_map(|layout| layout.listed).collect();
+    for one in &listed {
+        for other in &listed {
+            if one.name == other.name {
+                assert_eq!((one.width, one.kind), (other.width, other.kind));
+            }
+        }
+    }
+}
+
+#[test]
+fn all_fit_a_record() {
+    for layout in &ALL {
+        let slots: usize = layout.listed.iter().map(|field| field.width).sum();
+        assert!(layout.fixed_width() <= record::FIXED);
+        assert!(layout.most <= record::BITFIELDS);
+        assert!(slots <= record::SLOTS);
+    }
+}
+
+#[test]
+fn only_four_types() {
+    for direction in 0..=255 {
+        for type_byte in 0..=255 {
+            let known = Layout::of(direction, type_byte).is_ok();
+            let expected = matches!(
+                (direction, type_byte),
+                (0, 0x38) | (0, 0x39) | (1, 0x25) | (1, 0x2C)
+            );
+            assert_eq!(known, expected, "{} {}", direction, type_byte);
+        }
+    }
+}
+
+#[test]
+fn units() {
+    for layout in &ALL {
+        for unit in 0..=255 {
+            let good = if layout.direction == MEMBER {
+                unit == 0
+            } else {
+                unit > 0 && unit < 33
+            };
+            assert_eq!(layout.check_unit(unit).is_ok(), good);
+        }
+    }
+}
+
+#[test]
+fn quantities() {
+    let takes = |quantity: u32| Rule::Quantity.takes(&quantity.to_le_bytes());
+    for quantity in [1, 2, 65_536, 999_998, 999_999] {
+        assert!(takes(quantity));
+    }
+    for quantity in [0, 1_000_000, 1_000_001, 16_777_216, u32::MAX] {
+        assert!(!takes(quantity));
+    }
+}
+
+/// All 16 choices of the four fields that the rule names.
+#[test]
+fn required_fields() {
+    let new_order = layout(0x38);
+    for choice in 0..16_u8 {
+        let (price, ord_type) = (choice & 1 != 0, choice & 2 != 0);
+        let (symbol, capacity) = (choice & 4 != 0, choice & 8 != 0);
+        let first = u8::from(price) * 4 + u8::from(ord_type) * 16;
+        let second = u8::from(symbol) + u8::from(capacity) * 64;
+        let good = symbol && capacity && (price || ord_type);
+        for bitfields in [vec![first, second], vec![first | 0x20, second | 0x80, 1]] {
+            let result = new_order.check_required(&bitfields);
+            assert_eq!(result.is_ok(), good, "{:?}", bitfields);
+        }
+    }
+    assert_eq!(new_order.check_required(&[]), Err(Refusal::Missing));
+    assert_eq!(new_order.check_required(&[0x14]), Err(Refusal::Missing));
+    for type_byte in [0x39, 0x25, 0x2C] {
+        assert_eq!(layout(type_byte).check_required(&[]), Ok(()));
+    }
+}

@@ -1,0 +1,20 @@
+//! The directions and the type bytes of the messages: those that document 01 gives, the others from
+//! document 000.
+
+/// DIRECTION: from the member, and from the venue.
+pub const MEMBER: u8 = 0;
+pub const VENUE: u8 = 1;
+
+// From the member.
+pub const LOGIN_REQUEST: u8 = 0x37;
+pub const NEW_ORDER: u8 = 0x38;
+pub const CANCEL_ORDER: u8 = 0x39;
+pub const CLIENT_HEARTBEAT: u8 = 0x03;
+
+// From the venue.
+pub const LOGIN_RESPONSE: u8 = 0x24;
+pub const LOGOUT: u8 = 0x08;
+pub const SERVER_HEARTBEAT: u8 = 0x09;
+pub const REPLAY_COMPLETE: u8 = 0x13;
+pub const ACKNOWLEDGMENT: u8 = 0x25;
+pub const EXECUTION: u8 = 0x2C;
