@@ -6,8 +6,8 @@ use crate::rules::login::{Choice, Login, Returned};
 use crate::rules::member::{Member, Phase};
 use crate::rules::table::{entry, SIZE, UNITS};
 use crate::rules::venue::Venue;
-use crate::rules::Refusal;
-use crate::words::{read_number, read_u32, read_u8};
+use crate::rules::{refusal, Refusal};
+use crate::words::{read_bytes, read_number, read_size, read_truth, read_u32, read_u8};
 
 /// The bytes of the book's buffer and of the log's, and what they and every output buffer hold at
 /// first.
@@ -54,12 +54,12 @@ impl Bench {
     fn of_member(&mut self, question: &str, arguments: &[&str]) -> Option<String> {
         match (question, arguments) {
             ("m-open", [date, room]) => {
-                let (date, room) = (read_u32(date)?, read_room(room, BUFFER)?);
+                let (date, room) = (read_u32(date)?, read_size(room, BUFFER)?);
                 let result = self.member.open(date, &mut self.book[..room]);
                 Some(self.member_after(result))
             }
             ("m-restart", [date, size]) => {
-                let (date, size) = (read_u32(date)?, read_room(size, BUFFER)?);
+                let (date, size) = (read_u32(date)?, read_size(size, BUFFER)?);
                 let result = self.member.restart(date, &self.book[..size]);
                 Some(self.member_after(result))
             }
@@ -77,28 +77,28 @@ impl Bench {
             }
             ("m-login", [words @ .., room]) => {
                 let login = read_login(words)?;
-                let mut out = vec![FILL; read_room(room, LOGIN_ROOM)?];
+                let mut out = vec![FILL; read_size(room, LOGIN_ROOM)?];
                 let result = self.member.login(&login, &mut out);
                 Some(self.member_after(result) + " " + &hex::write(&out))
             }
             ("m-get", [bytes, room]) => {
-                let (bytes, room) = (hex::read(bytes)?, read_room(room, BUFFER)?);
+                let (bytes, room) = (hex::read(bytes)?, read_size(room, BUFFER)?);
                 let result = self.member.get(&bytes, &mut self.book[..room]);
                 Some(self.member_after(result))
             }
             ("m-order", [record, room]) => {
                 let record = hex::read(record)?;
-                let mut out = vec![FILL; read_room(room, MESSAGE_ROOM)?];
+                let mut out = vec![FILL; read_size(room, MESSAGE_ROOM)?];
                 let result = self.member.order(&record, &mut out);
                 Some(self.member_after(result) + " " + &hex::write(&out))
             }
             ("m-beat", [room]) => {
-                let mut out = vec![FILL; read_room(room, BUFFER)?];
+                let mut out = vec![FILL; read_size(room, BUFFER)?];
                 let result = self.member.beat(&mut out);
                 Some(self.member_after(result) + " " + &hex::write(&out))
             }
             ("m-break", [room]) => {
-                let room = read_room(room, BUFFER)?;
+                let room = read_size(room, BUFFER)?;
                 self.member.broken(&mut self.book[..room]);
                 Some(self.member_text())
             }
@@ -126,19 +126,19 @@ impl Bench {
                 Some(self.venue_text())
             }
             ("v-log", [bytes, room]) => {
-                let (bytes, room) = (hex::read(bytes)?, read_room(room, BUFFER)?);
+                let (bytes, room) = (hex::read(bytes)?, read_size(room, BUFFER)?);
                 let result = self.venue.log(&bytes, &mut self.log[..room]);
                 Some(self.venue_after(result))
             }
             ("v-login", [bytes, room]) => {
                 let bytes = hex::read(bytes)?;
-                let mut out = vec![FILL; read_room(room, LOGIN_ROOM)?];
+                let mut out = vec![FILL; read_size(room, LOGIN_ROOM)?];
                 let result = self.venue.login(&bytes, &mut out);
                 Some(self.venue_after(result) + " " + &hex::write(&out))
             }
             ("v-step", [log_room, room]) => {
-                let log_room = read_room(log_room, BUFFER)?;
-                let mut out = vec![FILL; read_room(room, MESSAGE_ROOM)?];
+                let log_room = read_size(log_room, BUFFER)?;
+                let mut out = vec![FILL; read_size(room, MESSAGE_ROOM)?];
                 let result = self.venue.step(&self.log[..log_room], &mut out);
                 let result = result.map(|_sent| ());
                 Some(self.venue_after(result) + " " + &hex::write(&out))
@@ -203,10 +203,6 @@ impl Bench {
     }
 }
 
-fn refusal(result: Result<(), Refusal>) -> u8 {
-    result.map_or_else(Refusal::number, |()| 0)
-}
-
 /// The sum of a table's numbers.
 fn sum(table: &[u8; SIZE]) -> u64 {
     (1..=UNITS).map(|unit| u64::from(entry(table, unit))).sum()
@@ -219,22 +215,9 @@ fn bytes_and_table(buffer: &[u8], length: usize, table: &[u8; SIZE]) -> String {
 
 // Arguments.
 
-fn read_room(word: &str, most: usize) -> Option<usize> {
-    read_number(word, most as u64).map(|room| room as usize)
-}
-
-fn read_truth(word: &str) -> Option<bool> {
-    read_number(word, 1).map(|value| value == 1)
-}
-
 fn read_phase(word: &str) -> Option<Phase> {
     let phases = [Phase::Closed, Phase::Asked, Phase::Replaying, Phase::Live];
     read_number(word, 3).map(|phase| phases[phase as usize])
-}
-
-/// Exactly as many bytes as are wanted.
-fn read_bytes<const COUNT: usize>(word: &str) -> Option<[u8; COUNT]> {
-    hex::read(word)?.try_into().ok()
 }
 
 /// All arguments of `m-login` but the last.

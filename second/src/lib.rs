@@ -3,6 +3,7 @@
 
 pub mod ask;
 mod bench;
+mod calls;
 mod examples;
 mod hex;
 pub mod questions;

@@ -1,4 +1,7 @@
-//! NUMBER of the format: one to twenty decimal digits.
+//! Words of the format: NUMBER, which is one to twenty decimal digits, and BYTES of a size that is
+//! given.
+
+use crate::hex;
 
 const MOST_DIGITS: usize = 20;
 
@@ -28,6 +31,20 @@ pub fn read_u32(word: &str) -> Option<u32> {
     read_number(word, u64::from(u32::MAX)).map(|value| value as u32)
 }
 
+pub fn read_size(word: &str, most: usize) -> Option<usize> {
+    read_number(word, most as u64).map(|size| size as usize)
+}
+
+/// 0 or 1.
+pub fn read_truth(word: &str) -> Option<bool> {
+    read_number(word, 1).map(|value| value == 1)
+}
+
+/// Exactly as many bytes as are wanted.
+pub fn read_bytes<const COUNT: usize>(word: &str) -> Option<[u8; COUNT]> {
+    hex::read(word)?.try_into().ok()
+}
+
 #[cfg(test)]
 mod tests {
     use super::*;
@@ -48,5 +65,17 @@ mod tests {
         assert_eq!(read_number("18446744073709551616", u64::MAX), None);
         assert_eq!(read_u8("256"), None);
         assert_eq!(read_u32("4294967296"), None);
+        assert_eq!(read_size("16385", 16_384), None);
+        assert_eq!(read_truth("1"), Some(true));
+        assert_eq!(read_truth("2"), None);
+    }
+
+    #[test]
+    fn bytes_of_a_size() {
+        assert_eq!(read_bytes("0AFF"), Some([10, 255]));
+        assert_eq!(read_bytes("-"), Some([]));
+        for word in ["-", "0A", "0AFF00", "0AF", "0aFF"] {
+            assert_eq!(read_bytes::<2>(word), None, "{}", word);
+        }
     }
 }
