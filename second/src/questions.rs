@@ -1,9 +1,9 @@
 //! Makes the stored questions. Each section has its own seed, so that a new section leaves the
 //! others as they were.
 
+pub mod bitfields;
 pub mod book;
 mod clock;
-pub mod damage;
 mod frame;
 #[cfg(test)]
 mod judged;
@@ -11,13 +11,16 @@ mod listing;
 pub mod made;
 pub mod more;
 mod number;
+mod order;
 mod outside;
-mod read;
-pub mod sample;
+pub mod parts;
+mod reading;
 pub mod session;
+mod strokes;
 mod table;
 mod text;
-mod write;
+mod values;
+mod writing;
 
 /// All questions, each ended by LF.
 pub fn all() -> String {
@@ -28,8 +31,7 @@ pub fn all() -> String {
     table::ask(&mut lines);
     clock::ask(&mut lines);
     outside::ask(&mut lines);
-    read::ask(&mut lines);
-    write::ask(&mut lines);
+    bitfields::ask(&mut lines);
     session::ask(&mut lines);
     book::ask(&mut lines);
     listing::ask(&mut lines);

@@ -1,11 +1,12 @@
 //! Questions about the day book.
 
+use super::bitfields::sample::{self, Sample, ACKNOWLEDGMENT, EXECUTION};
 use super::listing;
 use super::made::{
     both, empty, example, greatest, least, mark, marks, numbered, random_book, some_type, units,
     Made, DATE, MARK,
 };
-use super::sample::{self, Sample, ACKNOWLEDGMENT, EXECUTION};
+use super::parts::{measure, Parts};
 use crate::examples;
 use crate::hex;
 use crate::random::Random;
@@ -304,11 +305,11 @@ pub fn bad_messages(random: &mut Random) -> Vec<Vec<u8>> {
         // 6: a byte more, a byte less, no more than the header.
         let mut longer = good.clone();
         longer.push(0);
-        sample::measure(&mut longer);
+        measure(&mut longer);
         bad.push(longer);
         for end in [good.len() - 1, 10] {
             let mut shorter = good[..end].to_vec();
-            sample::measure(&mut shorter);
+            measure(&mut shorter);
             bad.push(shorter);
         }
         // 7, 8 and 10.

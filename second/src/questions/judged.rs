@@ -1,12 +1,51 @@
-//! What the stored `write` questions are answered, judged once for every type.
+//! What the stored questions about reading and writing are answered, judged once for every type.
 
-use crate::{ask, hex, rules};
-use std::collections::BTreeMap;
+use super::order;
+use super::parts::Parts;
+use super::reading::Asked;
+use crate::random::Random;
+use crate::rules::record::LENT;
+use crate::rules::{read, refusal, write, Refusal};
+use crate::{ask, hex};
+use std::collections::{BTreeMap, BTreeSet};
 
-/// How often each record's type got each number. What is written must read as the record again and leave the rest of its buffer;
-/// what is refused must leave all of it.
-pub fn writes(lines: &[String]) -> BTreeMap<(u8, String), usize> {
-    let mut seen = BTreeMap::new();
+/// How often each type got each number.
+type Seen = BTreeMap<(u8, u8), usize>;
+
+/// The number of the first fault in the order, 0 where there is none.
+fn first_of(faults: u8, order: &[u8]) -> u8 {
+    order::numbers(faults, order).first().copied().unwrap_or(0)
+}
+
+/// The bytes that a message has by its length field.
+fn total_of(message: &[u8]) -> usize {
+    usize::from(u16::from_le_bytes([message[2], message[3]])) + 2
+}
+
+// Reading.
+
+pub fn reads(asked: &Asked) -> Seen {
+    let mut seen = Seen::new();
+    for (direction, bytes) in asked.iter().filter(|(_, bytes)| bytes.len() > 4) {
+        let answer = refusal(read::message(*direction, bytes));
+        *seen.entry((bytes[4], answer)).or_default() += 1;
+    }
+    seen
+}
+
+/// Reads a message with some faults: the first of them in the order is told.
+pub fn first_fault_read(direction: u8, message: &[u8], faults: u8, order: &[u8]) {
+    let answer = refusal(read::message(direction, message));
+    let expected = first_of(faults, order);
+    assert_eq!(answer, expected, "type {} {:08b}", message[4], faults);
+}
+
+// Writing.
+
+/// What is written must read as the record again and leave the rest of its buffer; what is refused
+/// must leave all of it.
+pub fn writes(lines: &[String]) -> Seen {
+    let mut seen = Seen::new();
     for line in lines {
         let answer = ask::answer(line.as_bytes());
         if answer == "?" {
@@ -19,42 +58,109 @@ pub fn writes(lines: &[String]) -> BTreeMap<(u8, String), usize> {
         let (number, after) = answer.split_once(' ').unwrap();
         let after = hex::read(after).unwrap();
         if number == "0" {
-            let again = rules::read::message(direction, &after).unwrap();
+            let again = read::message(direction, &after).unwrap();
             assert_eq!(again, record[..again.len()]);
-            let total = usize::from(u16::from_le_bytes([after[2], after[3]])) + 2;
+            let total = total_of(&after);
             assert_eq!(after[total..], buffer[total..]);
             assert_eq!(after.len(), buffer.len());
         } else {
             assert_eq!(after, buffer);
         }
         if !record.is_empty() {
-            *seen.entry((record[0], number.to_string())).or_default() += 1;
+            let number = number.parse().unwrap();
+            *seen.entry((record[0], number)).or_default() += 1;
         }
     }
     seen
 }
 
-/// Writes a record with some of its faults: the first of them in the order is told, 0 where there is none, and the buffer then changes;
-/// a record one byte short is refused whatever its faults.
-pub fn first_fault(
-    direction: u8,
-    record: &[u8],
-    before: &[u8],
-    faults: u8,
-    order: &[u8],
-    lent: usize,
-) {
+/// Writes a record with some faults: the first of them in the order is told, and the buffer changes
+/// where there is none; a record one byte short is refused whatever its faults.
+pub fn first_fault_written(direction: u8, record: &[u8], before: &[u8], faults: u8, order: &[u8]) {
     let mut buffer = before.to_vec();
-    let expected = match faults {
-        0 => 0,
-        _ => order[faults.trailing_zeros() as usize],
-    };
-    let answer = match rules::write::record(direction, record, &mut buffer) {
-        Ok(()) => 0,
-        Err(refusal) => refusal.number(),
-    };
+    let answer = refusal(write::record(direction, record, &mut buffer));
+    let expected = first_of(faults, order);
     assert_eq!(answer, expected, "type {} {:08b}", record[0], faults);
     assert_eq!(buffer == before, faults != 0);
-    let answer = rules::write::record(direction, &record[..lent - 1], &mut buffer);
-    assert_eq!(answer, Err(rules::Refusal::Room));
+    let answer = write::record(direction, &record[..LENT - 1], &mut buffer);
+    assert_eq!(answer, Err(Refusal::Room));
+}
+
+/// Each valid message that is read is also written.
+pub fn every_valid_message(lines: &[String], asked: Asked) {
+    let written: BTreeSet<String> = lines
+        .iter()
+        .filter_map(|line| line.split(' ').nth(2).map(str::to_string))
+        .collect();
+    for (direction, bytes) in asked {
+        if let Ok(record) = read::message(direction, &bytes) {
+            let digits = hex::write(&record);
+            let found = written
+                .range(digits.clone()..)
+                .next()
+                .map_or(false, |next| next.starts_with(&digits));
+            assert!(found, "{}", digits);
+        }
+    }
+}
+
+// Both.
+
+/// The parts, put together by the places of README.md, are what the reader and the writer answer.
+pub fn agree(sample: &impl Parts) {
+    let direction = sample.direction();
+    let message = sample.bytes();
+    let mut record = sample.record();
+    assert_eq!(read::message(direction, &message), Ok(record.clone()));
+    record.resize(LENT, 0xFF);
+    let mut buffer = vec![0x5A; message.len() + 3];
+    assert_eq!(write::record(direction, &record, &mut buffer), Ok(()));
+    assert_eq!(buffer[..message.len()], message);
+    assert_eq!(buffer[message.len()..], [0x5A; 3]);
+}
+
+/// The numbers that damaged messages of a type are read with, and damaged records written.
+pub fn damaged_answers<P: Parts>(
+    random: &mut Random,
+    which: usize,
+    rounds: usize,
+) -> (BTreeSet<u8>, BTreeSet<u8>) {
+    let mut reads = BTreeSet::new();
+    let mut writes = BTreeSet::new();
+    for _ in 0..rounds {
+        let sample = P::any(random, which);
+        let (direction, bytes) = sample.damaged(random);
+        reads.insert(refusal(read::message(direction, &bytes)));
+        let (direction, bytes, mut buffer) = sample.damaged_record(random);
+        writes.insert(refusal(write::record(direction, &bytes, &mut buffer)));
+    }
+    (reads, writes)
+}
+
+/// What damage leaves valid comes back as it was, and a refusal leaves the buffer.
+pub fn round_trips_of_the_damaged<P: Parts>(seed: u64, types: usize, rounds: usize) {
+    let mut random = Random::new(seed);
+    let (mut messages, mut records) = (0, 0);
+    for round in 0..rounds {
+        let sample = P::any(&mut random, round % types);
+        let (direction, bytes) = sample.damaged(&mut random);
+        if let Ok(mut record) = read::message(direction, &bytes) {
+            record.resize(LENT, 0);
+            let mut buffer = vec![0; bytes.len()];
+            assert_eq!(write::record(direction, &record, &mut buffer), Ok(()));
+            let total = total_of(&buffer);
+            assert_eq!(buffer[..total], bytes[..total]);
+            messages += 1;
+        }
+        let (direction, bytes, mut buffer) = sample.damaged_record(&mut random);
+        let before = buffer.clone();
+        if write::record(direction, &bytes, &mut buffer).is_ok() {
+            let again = read::message(direction, &buffer).unwrap();
+            assert_eq!(again, bytes[..again.len()]);
+            records += 1;
+        } else {
+            assert_eq!(buffer, before);
+        }
+    }
+    assert!(messages > 500 && records > 500);
 }

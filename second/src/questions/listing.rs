@@ -1,11 +1,12 @@
 //! Questions about the listing of a book.
 
+use super::bitfields::sample::{Sample, ACKNOWLEDGMENT, EXECUTION};
 use super::book::{bad_messages, damaged, group, some_marks, some_tails, FIRST_MARKS};
 use super::made::{
     both, empty, example, greatest, least, mark, marks, numbered, random_book, some_type, units,
     Made, DATE, MARK,
 };
-use super::sample::{self, Sample, ACKNOWLEDGMENT, EXECUTION};
+use super::parts::{measure, Parts};
 use crate::examples;
 use crate::hex;
 use crate::random::Random;
@@ -337,7 +338,7 @@ fn long(lines: &mut Vec<String>, random: &mut Random) {
     // What is not taken may be as long as a message can be.
     let mut stranger = least(random, ACKNOWLEDGMENT).bytes();
     stranger.resize(2_048, b'A');
-    sample::measure(&mut stranger);
+    measure(&mut stranger);
     let bytes = [empty().bytes, stranger].concat();
     lines.push(line(&bytes));
     lines.push(line(&bytes[..bytes.len() - 1]));

@@ -1,6 +1,7 @@
 //! Day books put together by document 01 and not by the rules' own code.
 
-use super::sample::{Sample, ACKNOWLEDGMENT, EXECUTION};
+use super::bitfields::sample::{Sample, ACKNOWLEDGMENT, EXECUTION};
+use super::parts::Parts;
 use crate::examples;
 use crate::random::Random;
 

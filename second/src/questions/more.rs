@@ -1,11 +1,12 @@
 //! Questions past the stored ones, as many as are wanted (README.md, "More questions").
 
-use super::damage::{self, lent, pattern};
-use super::sample::{Sample, ACKNOWLEDGMENT, CANCEL, EXECUTION, NEW_ORDER};
+use super::bitfields::sample::{Sample, ACKNOWLEDGMENT, CANCEL, EXECUTION, NEW_ORDER};
+use super::parts::Parts;
 use super::session::sample::{
     Sample as Session, CLIENT_HEARTBEAT, LOGIN, LOGOUT, REPLAY_COMPLETE, RESPONSE, SERVER_HEARTBEAT,
 };
-use super::{book, read, session, write};
+use super::writing::{self, pattern};
+use super::{book, reading};
 use crate::random::Random;
 use crate::rules::layout;
 use std::collections::VecDeque;
@@ -65,56 +66,38 @@ impl More {
                 sample.select(second.name);
                 sample.require();
                 self.waiting
-                    .push_back(read::line(sample.layout.direction, &sample.bytes()));
+                    .push_back(reading::line(sample.direction(), &sample.bytes()));
             }
         }
     }
 
-    /// A message, its record, and both of them damaged, one time in three of the session; one time
-    /// in nine six of a day book.
+    /// One time in nine six questions of a day book, three times four of the session, else four of a
+    /// message with bitfields.
     fn group(&mut self) {
         match self.random.below(9) {
             0 => self.waiting.extend(book::group(&mut self.random)),
-            1..=3 => self.four_of_the_session(),
-            _ => self.four_with_bitfields(),
+            1..=3 => self.four::<Session>(&SESSION_TYPES),
+            _ => self.four::<Sample>(&TYPES),
         }
     }
 
-    fn four_with_bitfields(&mut self) {
+    /// A message, its record, and both of them damaged.
+    fn four<P: Parts>(&mut self, types: &[usize]) {
         let random = &mut self.random;
-        let which = TYPES[random.between(0, TYPES.len() - 1)];
-        let sample = Sample::any(random, which);
-        let direction = sample.layout.direction;
+        let which = types[random.between(0, types.len() - 1)];
+        let sample = P::any(random, which);
         let message = sample.bytes();
         let more = random.between(0, 5);
         let buffer = pattern(random, message.len() + more);
-        let record = lent(random, &sample.record());
-        self.waiting.push_back(read::line(direction, &message));
-        self.waiting
-            .push_back(write::line(direction, &record, &buffer));
-        let (direction, bytes) = damage::message(random, &sample);
-        self.waiting.push_back(read::line(direction, &bytes));
-        let (direction, record, buffer) = damage::record(random, &sample);
-        self.waiting
-            .push_back(write::line(direction, &record, &buffer));
-    }
-
-    fn four_of_the_session(&mut self) {
-        let random = &mut self.random;
-        let which = SESSION_TYPES[random.between(0, SESSION_TYPES.len() - 1)];
-        let sample = Session::any(random, which);
-        let direction = sample.session.direction;
-        let message = sample.bytes();
-        let more = random.between(0, 5);
-        let buffer = pattern(random, message.len() + more);
-        self.waiting.push_back(read::line(direction, &message));
-        self.waiting
-            .push_back(write::line(direction, &sample.record(), &buffer));
-        let (direction, bytes) = session::damage::message(random, &sample);
-        self.waiting.push_back(read::line(direction, &bytes));
-        let (direction, record, buffer) = session::damage::record(random, &sample);
-        self.waiting
-            .push_back(write::line(direction, &record, &buffer));
+        let record = P::lent(random, &sample.record());
+        let (direction, damaged) = sample.damaged(random);
+        let (record_direction, damaged_record, damaged_buffer) = sample.damaged_record(random);
+        self.waiting.extend([
+            reading::line(sample.direction(), &message),
+            writing::line(sample.direction(), &record, &buffer),
+            reading::line(direction, &damaged),
+            writing::line(record_direction, &damaged_record, &damaged_buffer),
+        ]);
     }
 }
 

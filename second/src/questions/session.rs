@@ -1,10 +1,10 @@
 //! Questions about the session messages.
 
-pub mod damage;
+mod damage;
 pub mod faults;
-pub mod read;
+mod read;
 pub mod sample;
-pub mod write;
+mod write;
 
 pub fn ask(lines: &mut Vec<String>) {
     read::ask(lines);

@@ -72,7 +72,7 @@ fn with_bitfields(layout: &Layout, message: &[u8]) -> Result<Record, Refusal> {
 mod tests {
     use super::*;
     use crate::examples;
-    use crate::questions::sample;
+    use crate::questions::parts::measure;
     use crate::rules;
 
     /// The record of a message with bitfields.
@@ -163,7 +163,7 @@ mod tests {
         message.extend([0; 19]);
         message.extend([b'1', 1, 0, 0, 0]);
         message.extend(tail);
-        sample::measure(&mut message);
+        measure(&mut message);
         message
     }
 

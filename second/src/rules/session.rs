@@ -200,7 +200,7 @@ fn check_header(unit: u8, number: u32) -> Result<(), Refusal> {
 mod tests {
     use super::*;
     use crate::examples;
-    use crate::questions::sample::measure;
+    use crate::questions::parts::measure;
     use crate::rules::{self, read, write};
 
     fn reads(direction: u8, message: &[u8]) -> u8 {

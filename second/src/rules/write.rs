@@ -88,9 +88,6 @@ fn unused_is_zero(layout: &Layout, record: &Record, places: &[Place]) -> bool {
 mod tests {
     use super::*;
     use crate::examples;
-    use crate::questions::damage;
-    use crate::questions::sample::Sample;
-    use crate::random::Random;
     use crate::rules::record::SIZE;
     use crate::rules::{self, read};
 
@@ -133,50 +130,6 @@ mod tests {
             assert_eq!(buffer[total..], [0xEE; 2]);
             assert_eq!(refusal(direction, &bytes, &mut buffer[..total]), 0);
         }
-    }
-
-    #[test]
-    fn round_trips() {
-        let mut random = Random::new(130);
-        for round in 0..4_000 {
-            let sample = Sample::any(&mut random, round % 4);
-            let direction = sample.layout.direction;
-            let message = sample.bytes();
-            let first = lent(direction, &message);
-            let mut buffer = vec![0xEE; message.len()];
-            assert_eq!(record(direction, &first, &mut buffer), Ok(()));
-            assert_eq!(buffer, message);
-            assert_eq!(lent(direction, &buffer), first);
-        }
-    }
-
-    /// The same wherever damage leaves something valid.
-    #[test]
-    fn round_trips_of_the_damaged() {
-        let mut random = Random::new(131);
-        let (mut messages, mut records) = (0, 0);
-        for round in 0..8_000 {
-            let sample = Sample::any(&mut random, round % 4);
-            let (direction, bytes) = damage::message(&mut random, &sample);
-            if read::message(direction, &bytes).is_ok() {
-                let mut buffer = vec![0; bytes.len()];
-                let read = lent(direction, &bytes);
-                assert_eq!(record(direction, &read, &mut buffer), Ok(()));
-                let total = usize::from(buffer[2]) + 2;
-                assert_eq!(buffer[..total], bytes[..total]);
-                messages += 1;
-            }
-            let (direction, bytes, mut buffer) = damage::record(&mut random, &sample);
-            let before = buffer.clone();
-            if record(direction, &bytes, &mut buffer).is_ok() {
-                let again = read::message(direction, &buffer).unwrap();
-                assert_eq!(again, bytes[..again.len()]);
-                records += 1;
-            } else {
-                assert_eq!(buffer, before);
-            }
-        }
-        assert!(messages > 500 && records > 500);
     }
 
     /// One fault after another is taken away, and the next in the order is told.

@@ -4,6 +4,7 @@
 use super::driver::{Driver, Step};
 use super::wrong;
 use crate::examples;
+use crate::questions::parts::Parts;
 use crate::questions::session::sample::{Sample, LOGOUT, RESPONSE};
 use crate::rules::member::Phase;
 

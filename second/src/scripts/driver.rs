@@ -4,8 +4,9 @@
 use crate::ask;
 use crate::bench::Bench;
 use crate::hex;
+use crate::questions::bitfields::sample::{Sample, CANCEL, NEW_ORDER};
 use crate::questions::made::some_type;
-use crate::questions::sample::{Sample, CANCEL, NEW_ORDER};
+use crate::questions::parts::Parts;
 use crate::questions::session::sample::{self as session, LOGIN};
 use crate::random::Random;
 use crate::rules::frame;

@@ -3,9 +3,10 @@
 use super::day;
 use super::driver::Driver;
 use crate::hex;
-use crate::questions::sample::{
-    identifier, measure, unlisted_bit, Sample, ACKNOWLEDGMENT, CANCEL, EXECUTION, NEW_ORDER,
+use crate::questions::bitfields::sample::{
+    identifier, unlisted_bit, Sample, ACKNOWLEDGMENT, CANCEL, EXECUTION, NEW_ORDER,
 };
+use crate::questions::parts::{measure, Parts};
 use crate::questions::session::faults;
 use crate::questions::session::sample::{
     Sample as Session, CLIENT_HEARTBEAT, LOGIN, LOGOUT, REPLAY_COMPLETE, RESPONSE, SERVER_HEARTBEAT,

@@ -4,7 +4,8 @@ use super::driver::{Driver, LoginLine};
 use crate::bench::BUFFER;
 use crate::examples;
 use crate::hex;
-use crate::questions::sample::{Sample, CANCEL};
+use crate::questions::bitfields::sample::{Sample, CANCEL};
+use crate::questions::parts::Parts;
 
 /// All of them, in pieces that steps can come between.
 pub fn lines(driver: &mut Driver) -> Vec<String> {

@@ -3,10 +3,9 @@
 use super::driver::{Driver, LoginLine, Step, SHOWN};
 use crate::examples;
 use crate::hex;
+use crate::questions::bitfields::sample::{Sample, ACKNOWLEDGMENT, EXECUTION};
 use crate::questions::book::damaged;
-use crate::questions::damage;
-use crate::questions::sample::{Sample, ACKNOWLEDGMENT, EXECUTION};
-use crate::questions::session::damage as session_damage;
+use crate::questions::parts::Parts;
 use crate::questions::session::sample::{
     Sample as Session, CLIENT_HEARTBEAT, LOGIN, LOGOUT, REPLAY_COMPLETE, RESPONSE, SERVER_HEARTBEAT,
 };
@@ -57,7 +56,7 @@ fn damaged_booked(driver: &mut Driver) -> Vec<u8> {
     let unit = driver.random.between(0, driver.units.len() - 1);
     sample.unit = driver.units[unit];
     sample.number = entry(&driver.bench.member.book.table, sample.unit).wrapping_add(1);
-    damage::message(&mut driver.random, &sample).1
+    sample.damaged(&mut driver.random).1
 }
 
 fn any_of_the_session(driver: &mut Driver, types: &[usize]) -> Session {
@@ -77,7 +76,7 @@ fn get_damaged(driver: &mut Driver) {
         }
         (1, _) => {
             let sample = any_of_the_session(driver, &OF_THE_VENUE);
-            session_damage::message(&mut driver.random, &sample).1
+            sample.damaged(&mut driver.random).1
         }
         _ => damaged_booked(driver),
     };
@@ -199,7 +198,7 @@ fn order(driver: &mut Driver) {
         }
         2 => (sample.record(), short(driver, size)),
         _ => {
-            let (_, record, _) = damage::record(&mut driver.random, &sample);
+            let (_, record, _) = sample.damaged_record(&mut driver.random);
             let end = record.len().min(240);
             (record[..end].to_vec(), size + 8)
         }
@@ -259,7 +258,7 @@ fn log(driver: &mut Driver) {
             sample.unit = driver.units[0];
             let last = entry(&driver.bench.venue.table, sample.unit);
             sample.number = last.wrapping_add(1);
-            let bytes = damage::message(&mut driver.random, &sample).1;
+            let bytes = sample.damaged(&mut driver.random).1;
             (bytes, driver.log_room)
         }
     };
@@ -283,7 +282,7 @@ fn take_login(driver: &mut Driver) {
             }
             None => examples::login()[..20].to_vec(),
         },
-        _ => session_damage::message(&mut driver.random, &sample).1,
+        _ => sample.damaged(&mut driver.random).1,
     };
     let line = format!("v-login {} {}", hex::write(&bytes), room);
     // A login that is taken is none of the member's: its answer goes nowhere.
@@ -333,7 +332,7 @@ fn take_order(driver: &mut Driver) {
         }
         _ => {
             sample.number = received.saturating_add(1);
-            damage::message(&mut driver.random, &sample).1
+            sample.damaged(&mut driver.random).1
         }
     };
     driver.ask(format!("v-order {}", hex::write(&bytes)));

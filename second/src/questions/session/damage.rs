@@ -1,25 +1,22 @@
 //! Damaged session messages and records: one to three strokes, each of a kind that some rule looks
 //! at. Some change the parts, and some the bytes that are made of them.
 
-use super::sample::{shuffle, Group, Sample};
-use crate::questions::damage::{
-    change, pattern, some_byte, some_count, some_direction, some_unit, strokes,
+use super::sample::{shuffle, Group, Sample, BODY_PLACE, RECORD};
+use crate::questions::parts::{measure, Parts};
+use crate::questions::strokes::{
+    change, lengthen, shorten, some_byte, some_count, some_direction, some_unit, strike,
+    strike_from, strokes,
 };
-use crate::questions::sample::measure;
+use crate::questions::writing::pattern;
 use crate::random::Random;
 use crate::rules::frame::HEADER;
 
 /// A direction and the bytes of a damaged message, which may still be valid.
 pub fn message(random: &mut Random, sample: &Sample) -> (u8, Vec<u8>) {
-    let mut sample = sample.clone();
-    let all = strokes(random);
-    let of_parts = random.below(all + 1);
-    for _ in 0..of_parts {
-        strike_parts(random, &mut sample);
-    }
+    let (sample, left) = struck(random, sample);
     let mut direction = sample.session.direction;
     let mut bytes = sample.bytes();
-    for _ in of_parts..all {
+    for _ in 0..left {
         strike_bytes(random, &mut direction, &mut bytes);
     }
     (direction, bytes)
@@ -27,19 +24,25 @@ pub fn message(random: &mut Random, sample: &Sample) -> (u8, Vec<u8>) {
 
 /// A direction, a damaged record and a buffer for its message.
 pub fn record(random: &mut Random, sample: &Sample) -> (u8, Vec<u8>, Vec<u8>) {
+    let (sample, left) = struck(random, sample);
+    let mut direction = sample.session.direction;
+    let mut bytes = sample.record();
+    let mut room = sample.bytes().len();
+    for _ in 0..left {
+        strike_record(random, &mut direction, &mut bytes, &mut room);
+    }
+    (direction, bytes, pattern(random, room))
+}
+
+/// The parts after some of the strokes, and how many are left for the bytes.
+fn struck(random: &mut Random, sample: &Sample) -> (Sample, u64) {
     let mut sample = sample.clone();
     let all = strokes(random);
     let of_parts = random.below(all + 1);
     for _ in 0..of_parts {
         strike_parts(random, &mut sample);
     }
-    let mut direction = sample.session.direction;
-    let mut bytes = sample.record();
-    let mut room = sample.bytes().len();
-    for _ in of_parts..all {
-        strike_record(random, &mut direction, &mut bytes, &mut room);
-    }
-    (direction, bytes, pattern(random, room))
+    (sample, all - of_parts)
 }
 
 /// A place of a list that is not empty.
@@ -138,40 +141,22 @@ fn strike_group(random: &mut Random, group: &mut Group) {
 fn strike_bytes(random: &mut Random, direction: &mut u8, bytes: &mut Vec<u8>) {
     match random.below(9) {
         0 => *direction = some_direction(random, *direction),
-        1 => {
-            let place = random.between(0, 9);
-            let byte = some_byte(random);
-            change(bytes, place, |_| byte);
-        }
-        2 | 3 => {
-            if bytes.len() > HEADER {
-                let place = random.between(HEADER, bytes.len() - 1);
-                let byte = some_byte(random);
-                change(bytes, place, |_| byte);
-            }
-        }
+        1 => strike(random, bytes, 0, 9),
+        2 | 3 => strike_from(random, bytes, HEADER),
         4 => {
-            let size = random.between(0, bytes.len());
-            bytes.truncate(size);
+            shorten(random, bytes);
             measure(bytes);
         }
-        5 => {
-            let size = random.between(0, bytes.len());
-            bytes.truncate(size);
-        }
+        5 => shorten(random, bytes),
         6 => {
             let by = random.pick(&[1, 2, 5, 252, 254, 255]);
             change(bytes, 2, |length| length.wrapping_add(by));
         }
         7 => {
-            let more = random.between(1, 5);
-            bytes.extend(random.bytes(more));
+            lengthen(random, bytes, 5);
             measure(bytes);
         }
-        _ => {
-            let more = random.between(1, 12);
-            bytes.extend(random.bytes(more));
-        }
+        _ => lengthen(random, bytes, 12),
     }
 }
 
@@ -182,21 +167,11 @@ fn strike_record(random: &mut Random, direction: &mut u8, bytes: &mut Vec<u8>, r
             let other = random.pick(&[0x37, 0x24, 0x08, 0x03, 0x09, 0x13, 0x02, 0x38, 0x25]);
             change(bytes, 0, |_| other);
         }
-        2 => {
-            let place = random.between(1, 5);
-            let byte = some_byte(random);
-            change(bytes, place, |_| byte);
-        }
-        3 | 4 => {
-            if bytes.len() > 6 {
-                let place = random.between(6, bytes.len() - 1);
-                let byte = some_byte(random);
-                change(bytes, place, |_| byte);
-            }
-        }
+        2 => strike(random, bytes, 1, 5),
+        3 | 4 => strike_from(random, bytes, BODY_PLACE),
         5 => {
             let size = match random.below(3) {
-                0 => random.between(0, 439),
+                0 => random.between(0, RECORD),
                 _ => random.between(429, 449),
             };
             bytes.resize(size, random.byte());
@@ -215,66 +190,27 @@ fn strike_record(random: &mut Random, direction: &mut u8, bytes: &mut Vec<u8>, r
 #[cfg(test)]
 mod tests {
     use super::*;
+    use crate::questions::judged;
     use crate::questions::session::sample::LISTED;
-    use crate::rules::{read, write};
-    use std::collections::BTreeSet;
 
     /// Random damage reaches every number, in each type.
     #[test]
     fn every_refusal() {
         let mut random = Random::new(170);
         for which in 0..6 {
-            let mut reads = BTreeSet::new();
-            let mut writes = BTreeSet::new();
-            for _ in 0..4_000 {
-                let sample = Sample::any(&mut random, which);
-                let (direction, bytes) = message(&mut random, &sample);
-                reads.insert(match read::message(direction, &bytes) {
-                    Ok(_) => 0,
-                    Err(refusal) => refusal.number(),
-                });
-                let (direction, bytes, mut buffer) = record(&mut random, &sample);
-                writes.insert(match write::record(direction, &bytes, &mut buffer) {
-                    Ok(()) => 0,
-                    Err(refusal) => refusal.number(),
-                });
-            }
+            let (reads, writes) = judged::damaged_answers::<Sample>(&mut random, which, 4_000);
             // More may come where the damage makes another message of it.
             let (least_reads, least_writes): (&[u8], &[u8]) = match LISTED.contains(&which) {
                 true => (&[0, 1, 2, 3, 4, 5, 6, 10, 11], &[0, 4, 5, 10, 11, 13]),
                 false => (&[0, 1, 2, 3, 4, 5, 6], &[0, 4, 5, 12, 13]),
             };
-            assert!(reads.is_superset(&least_reads.iter().copied().collect()));
-            assert!(writes.is_superset(&least_writes.iter().copied().collect()));
+            assert!(least_reads.iter().all(|number| reads.contains(number)));
+            assert!(least_writes.iter().all(|number| writes.contains(number)));
         }
     }
 
-    /// What damage leaves valid comes back as it was, and a refusal leaves the buffer.
     #[test]
     fn round_trips_of_the_damaged() {
-        let mut random = Random::new(171);
-        let (mut messages, mut records) = (0, 0);
-        for round in 0..6_000 {
-            let sample = Sample::any(&mut random, round % 6);
-            let (direction, bytes) = message(&mut random, &sample);
-            if let Ok(mut record) = read::message(direction, &bytes) {
-                record.resize(439, 0);
-                let mut buffer = vec![0; bytes.len()];
-                assert_eq!(write::record(direction, &record, &mut buffer), Ok(()));
-                let total = usize::from(u16::from_le_bytes([buffer[2], buffer[3]])) + 2;
-                assert_eq!(buffer[..total], bytes[..total]);
-                messages += 1;
-            }
-            let (direction, bytes, mut buffer) = record(&mut random, &sample);
-            let before = buffer.clone();
-            if write::record(direction, &bytes, &mut buffer).is_ok() {
-                let again = read::message(direction, &buffer).unwrap();
-                assert_eq!(again, bytes[..again.len()]);
-                records += 1;
-            } else {
-                assert_eq!(buffer, before);
-            }
-        }
-        assert!(messages > 500 && records > 500);
+        judged::round_trips_of_the_damaged::<Sample>(171, 6, 6_000);
     }
 }

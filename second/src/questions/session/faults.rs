@@ -1,4 +1,4 @@
-//! Session messages with one rule of their pairs or groups broken.
+//! Session messages with one rule of their pairs or groups broken, or with several faults at once.
 
 use super::sample::{shuffle, some_pairs, Group, Pair, Sample};
 use crate::random::Random;
@@ -243,9 +243,35 @@ pub fn left(random: &mut Random, which: usize) -> Vec<Sample> {
     all
 }
 
+/// A sample with all its lists; with a rule of them broken if 11 is among the numbers.
+pub fn whole_or_broken(random: &mut Random, which: usize, numbers: &[u8]) -> Sample {
+    let whole = Sample::whole(random, which);
+    if !numbers.contains(&11) {
+        return whole;
+    }
+    let mut broken = broken(random, which);
+    broken.swap_remove(random.between(0, broken.len() - 1))
+}
+
+/// Those of the faults 5 and 10 that are among the numbers.
+pub fn spoil(random: &mut Random, sample: &mut Sample, numbers: &[u8]) {
+    if numbers.contains(&5) {
+        match random.below(3) {
+            0 => sample.unit = 1,
+            1 => sample.number = 1 << random.below(32),
+            _ => (sample.unit, sample.number) = (32, 7),
+        }
+    }
+    if numbers.contains(&10) {
+        // The first field is a text in each message that has fields.
+        sample.fields[0][0] = random.pick(b" @/:[`{\x7F");
+    }
+}
+
 #[cfg(test)]
 mod tests {
     use super::*;
+    use crate::questions::parts::Parts;
     use crate::questions::session::sample::{LISTED, LOGIN, RESPONSE};
     use crate::rules::{read, write, Refusal};
 

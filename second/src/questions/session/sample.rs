@@ -1,7 +1,8 @@
-//! Session messages in parts, from which the questions are made. Here the parts are put together by
-//! the places of README.md and not by the reader or the writer.
+//! Session messages in parts, from which the questions about reading and writing are made.
 
-use crate::questions::sample::{full_value, measure, some_value};
+use super::damage;
+use crate::questions::parts::Parts;
+use crate::questions::values::{full_value, some_number, some_value};
 use crate::random::Random;
 use crate::rules::session::{self, List, Session};
 
@@ -16,7 +17,9 @@ pub const REPLAY_COMPLETE: usize = 5;
 pub const LISTED: [usize; 3] = [LOGIN, RESPONSE, LOGOUT];
 pub const BARE: [usize; 3] = [CLIENT_HEARTBEAT, SERVER_HEARTBEAT, REPLAY_COMPLETE];
 
-const RECORD: usize = 439;
+/// The place of the body in a record, and the record's bytes.
+pub const BODY_PLACE: usize = 6;
+pub const RECORD: usize = 439;
 
 /// A unit and its number.
 pub type Pair = (u8, u32);
@@ -144,8 +147,34 @@ impl Sample {
         sample
     }
 
-    /// Any values and any lists that the rules allow.
-    pub fn any(random: &mut Random, which: usize) -> Sample {
+    pub fn has(&self, list: List) -> bool {
+        self.session.lists.contains(&list)
+    }
+
+    pub fn set_pairs(&mut self, pairs: Vec<Pair>) {
+        self.unit_count = pairs.len() as u8;
+        self.pairs = pairs;
+    }
+
+    pub fn set_groups(&mut self, groups: Vec<Group>) {
+        self.group_count = groups.len() as u8;
+        self.groups = groups;
+    }
+
+    /// The value of a field.
+    pub fn value(&mut self, name: &str) -> &mut Vec<u8> {
+        let index = self
+            .session
+            .fields
+            .iter()
+            .position(|field| field.name == name)
+            .expect("a field of the message");
+        &mut self.fields[index]
+    }
+}
+
+impl Parts for Sample {
+    fn any(random: &mut Random, which: usize) -> Sample {
         let mut sample = Sample::least(random, which);
         let session = sample.session;
         for (field, value) in session.fields.iter().zip(&mut sample.fields) {
@@ -176,33 +205,15 @@ impl Sample {
         sample
     }
 
-    pub fn has(&self, list: List) -> bool {
-        self.session.lists.contains(&list)
+    fn direction(&self) -> u8 {
+        self.session.direction
     }
 
-    pub fn set_pairs(&mut self, pairs: Vec<Pair>) {
-        self.unit_count = pairs.len() as u8;
-        self.pairs = pairs;
+    fn header(&self) -> (u8, u8, u32) {
+        (self.session.type_byte, self.unit, self.number)
     }
 
-    pub fn set_groups(&mut self, groups: Vec<Group>) {
-        self.group_count = groups.len() as u8;
-        self.groups = groups;
-    }
-
-    /// The value of a field.
-    pub fn value(&mut self, name: &str) -> &mut Vec<u8> {
-        let index = self
-            .session
-            .fields
-            .iter()
-            .position(|field| field.name == name)
-            .expect("a field of the message");
-        &mut self.fields[index]
-    }
-
-    /// What follows the header.
-    pub fn body(&self) -> Vec<u8> {
+    fn body(&self) -> Vec<u8> {
         let mut body = self.fields.concat();
         if self.has(List::Pairs) {
             body.push(self.unit_count);
@@ -218,22 +229,26 @@ impl Sample {
         body
     }
 
-    /// The message, its length that of its parts.
-    pub fn bytes(&self) -> Vec<u8> {
-        let mut message = vec![0xBA, 0xBA, 0, 0, self.session.type_byte, self.unit];
-        message.extend(self.number.to_le_bytes());
-        message.extend(self.body());
-        measure(&mut message);
-        message
-    }
-
-    /// The record; what is past its last place is left out.
-    pub fn record(&self) -> Vec<u8> {
-        let mut record = vec![self.session.type_byte, self.unit];
-        record.extend(self.number.to_le_bytes());
+    fn record(&self) -> Vec<u8> {
+        let mut record = self.record_head();
         record.extend(self.body());
         record.resize(RECORD, 0);
         record
+    }
+
+    /// No record is longer, so that nothing follows it.
+    fn lent(_: &mut Random, record: &[u8]) -> Vec<u8> {
+        let mut bytes = record.to_vec();
+        bytes.resize(RECORD, 0);
+        bytes
+    }
+
+    fn damaged(&self, random: &mut Random) -> (u8, Vec<u8>) {
+        damage::message(random, self)
+    }
+
+    fn damaged_record(&self, random: &mut Random) -> (u8, Vec<u8>, Vec<u8>) {
+        damage::record(random, self)
     }
 }
 
@@ -254,15 +269,7 @@ pub fn some_pairs(random: &mut Random, count: usize) -> Vec<Pair> {
     units.truncate(count);
     units
         .into_iter()
-        .map(|unit| {
-            let number = match random.below(8) {
-                0 => 0,
-                1 => u32::MAX,
-                2 => random.below(256) as u32,
-                _ => random.number(),
-            };
-            (unit, number)
-        })
+        .map(|unit| (unit, some_number(random)))
         .collect()
 }
 
@@ -275,10 +282,9 @@ pub fn shuffle<T>(random: &mut Random, list: &mut [T]) {
 #[cfg(test)]
 mod tests {
     use super::*;
-    use crate::rules::{read, write};
+    use crate::questions::judged;
     use std::collections::BTreeSet;
 
-    /// The parts, put together here, are what the reader and the writer answer.
     #[test]
     fn reader_and_writer_agree_with_the_parts() {
         let mut random = Random::new(140);
@@ -289,14 +295,7 @@ mod tests {
                 2 => Sample::least(&mut random, round % 6),
                 _ => Sample::any(&mut random, round % 6),
             };
-            let direction = sample.session.direction;
-            let message = sample.bytes();
-            let record = sample.record();
-            assert_eq!(read::message(direction, &message), Ok(record.clone()));
-            let mut buffer = vec![0x5A; message.len() + 3];
-            assert_eq!(write::record(direction, &record, &mut buffer), Ok(()));
-            assert_eq!(buffer[..message.len()], message);
-            assert_eq!(buffer[message.len()..], [0x5A; 3]);
+            judged::agree(&sample);
         }
     }
 

@@ -1,30 +1,26 @@
 //! Questions about writing the records of session messages.
 
-use super::damage;
+mod order;
+
 use super::faults;
 use super::read;
-use super::sample::{Group, Sample, BARE, LISTED, LOGIN, LOGOUT, RESPONSE};
-use crate::questions::damage::pattern;
-use crate::questions::sample::{bad_bytes, textual};
-use crate::questions::write::line;
+use super::sample::{Group, Sample, BARE, BODY_PLACE, LISTED, LOGIN, LOGOUT, RECORD, RESPONSE};
+use crate::questions::parts::Parts;
+use crate::questions::values::{bad_bytes, textual};
+use crate::questions::writing::{self, add, add_record, line, pattern};
 use crate::random::Random;
-use crate::rules;
-use crate::rules::frame::HEADER;
 use crate::rules::session;
 use std::collections::BTreeSet;
 
-const RECORD: usize = 439;
-const BODY_PLACE: usize = 6;
-
 pub fn ask(lines: &mut Vec<String>) {
     let mut random = Random::new(9);
-    records_of_messages(lines, &mut random);
+    writing::records_of::<Sample>(lines, &mut random, read::messages());
     for which in 0..session::ALL.len() {
         rooms(lines, &mut random, which);
         sizes(lines, &mut random, which);
         headers(lines, &mut random, which);
         unused(lines, &mut random, which);
-        orders(lines, &mut random, which);
+        order::ask(lines, &mut random, which);
     }
     for which in LISTED {
         faulty_lists(lines, &mut random, which);
@@ -33,49 +29,15 @@ pub fn ask(lines: &mut Vec<String>) {
     for which in [LOGIN, RESPONSE] {
         full_records(lines, &mut random, which);
     }
-    random_records(lines, &mut random);
-}
-
-fn add(lines: &mut Vec<String>, random: &mut Random, sample: &Sample) {
-    add_record(lines, random, sample, &sample.record());
-}
-
-/// A record made from a sample's, with the buffer that the sample's message takes; in one of three
-/// questions it is empty, so that 13 does not come too early.
-fn add_record(lines: &mut Vec<String>, random: &mut Random, sample: &Sample, record: &[u8]) {
-    let room = match random.below(3) {
-        0 => 0,
-        _ => sample.bytes().len(),
-    };
-    let buffer = pattern(random, room);
-    lines.push(line(sample.session.direction, record, &buffer));
-}
-
-/// The records of all messages that the questions about reading hold, each once. The buffers are
-/// just long enough, or longer.
-fn records_of_messages(lines: &mut Vec<String>, random: &mut Random) {
-    let mut seen = BTreeSet::new();
-    for (direction, bytes) in read::messages() {
-        if let Ok(mut record) = rules::read::message(direction, &bytes) {
-            record.resize(RECORD, 0);
-            if seen.insert(record.clone()) {
-                let total = usize::from(u16::from_le_bytes([bytes[2], bytes[3]])) + 2;
-                let more = match random.below(4) {
-                    0 => random.between(1, 9),
-                    _ => 0,
-                };
-                let buffer = pattern(random, total + more);
-                lines.push(line(direction, &record, &buffer));
-            }
-        }
-    }
+    let mut counts = vec![(LOGIN, 90), (RESPONSE, 90), (LOGOUT, 60)];
+    counts.extend(BARE.map(|which| (which, 12)));
+    writing::damaged::<Sample>(lines, &mut random, &counts);
 }
 
 /// Buffers about the size of the message, their bytes all different from what is written there.
 fn rooms(lines: &mut Vec<String>, random: &mut Random, which: usize) {
     let sample = Sample::whole(random, which);
-    let message = sample.bytes();
-    let total = message.len();
+    let total = sample.bytes().len();
     let rooms = BTreeSet::from([
         0,
         1,
@@ -88,15 +50,7 @@ fn rooms(lines: &mut Vec<String>, random: &mut Random, which: usize) {
         total + 1,
         total + 20,
     ]);
-    for room in rooms {
-        let mut buffer = random.bytes(room);
-        for (place, byte) in buffer.iter_mut().enumerate() {
-            if message.get(place) == Some(byte) {
-                *byte ^= 0xFF;
-            }
-        }
-        lines.push(line(sample.session.direction, &sample.record(), &buffer));
-    }
+    writing::rooms(lines, random, &sample, rooms);
 }
 
 /// Records cut, and records with bytes after them; a record too short comes before all else.
@@ -257,87 +211,9 @@ fn full_records(lines: &mut Vec<String>, random: &mut Random, which: usize) {
     add(lines, random, &sample);
 }
 
-/// The numbers that a record can be refused with, in the order of writing.
-const ORDER: [u8; 6] = [4, 5, 10, 11, 12, 13];
-
-/// A record and a buffer with a fault for each bit of `faults`, the lowest being the first in the
-/// order.
-fn faulty(random: &mut Random, which: usize, faults: u8) -> (u8, Vec<u8>, Vec<u8>) {
-    let has = |number: u8| (0..6).any(|bit| faults >> bit & 1 != 0 && ORDER[bit] == number);
-    let mut sample = Sample::whole(random, which);
-    let mut room = sample.bytes().len();
-    if has(11) {
-        let mut broken = faults::broken(random, which);
-        sample = broken.swap_remove(random.between(0, broken.len() - 1));
-        room = sample.bytes().len();
-    }
-    let mut direction = sample.session.direction;
-    if has(4) {
-        direction = random.pick(&[1 - direction, 2]);
-    }
-    if has(5) {
-        match random.below(3) {
-            0 => sample.unit = 1,
-            1 => sample.number = 1 << random.below(32),
-            _ => (sample.unit, sample.number) = (32, 7),
-        }
-    }
-    if has(10) {
-        // The first field is a text in each of them.
-        sample.fields[0][0] = random.pick(b" @/:[`{\x7F");
-    }
-    let mut record = sample.record();
-    if has(12) {
-        record[random.between(BODY_PLACE, RECORD - 1)] = 1 << random.below(8);
-    }
-    if has(13) {
-        room = match random.below(2) {
-            0 => random.between(0, HEADER - 1),
-            _ => room - 1,
-        };
-    }
-    (direction, record, pattern(random, room))
-}
-
-/// Whether a record can have these faults: one whose message has lists has no 12, the others have
-/// neither 10 nor 11.
-fn possible(which: usize, faults: u8) -> bool {
-    match LISTED.contains(&which) {
-        true => faults & 1 << 4 == 0,
-        false => faults & (1 << 2 | 1 << 3) == 0,
-    }
-}
-
-/// Every set of faults, so that the order shows; then a record too short with all of them.
-fn orders(lines: &mut Vec<String>, random: &mut Random, which: usize) {
-    for faults in (0..64).filter(|faults| possible(which, *faults)) {
-        let (direction, record, buffer) = faulty(random, which, faults);
-        lines.push(line(direction, &record, &buffer));
-    }
-    let all = if BARE.contains(&which) { 51 } else { 47 };
-    for faults in [all, all - 1] {
-        let (direction, record, buffer) = faulty(random, which, faults);
-        lines.push(line(direction, &record[..RECORD - 1], &buffer));
-    }
-}
-
-fn random_records(lines: &mut Vec<String>, random: &mut Random) {
-    for (which, count) in [(LOGIN, 90), (RESPONSE, 90), (LOGOUT, 60)]
-        .into_iter()
-        .chain(BARE.map(|which| (which, 12)))
-    {
-        for _ in 0..count {
-            let sample = Sample::any(random, which);
-            let (direction, record, buffer) = damage::record(random, &sample);
-            lines.push(line(direction, &record, &buffer));
-        }
-    }
-}
-
 #[cfg(test)]
 mod tests {
     use super::*;
-    use crate::hex;
     use crate::questions::judged;
 
     fn lines() -> Vec<String> {
@@ -356,7 +232,7 @@ mod tests {
                 false => &[0, 4, 5, 10, 11, 13],
             };
             for number in 0..=13 {
-                let key = (session.type_byte, number.to_string());
+                let key = (session.type_byte, number);
                 let count = seen.get(&key).copied().unwrap_or(0);
                 match expected.contains(&number) {
                     true => assert!(count >= 5, "{:?}", key),
@@ -366,31 +242,8 @@ mod tests {
         }
     }
 
-    /// The first fault in the order is the one that is told, and the buffer stays.
-    #[test]
-    fn order_of_writing() {
-        let mut random = Random::new(180);
-        for which in 0..6 {
-            for faults in (0..64).filter(|faults| possible(which, *faults)) {
-                let (direction, record, before) = faulty(&mut random, which, faults);
-                judged::first_fault(direction, &record, &before, faults, &ORDER, RECORD);
-            }
-        }
-    }
-
-    /// Each valid message that is read is also written.
     #[test]
     fn every_valid_message() {
-        let lines = lines();
-        let written: BTreeSet<&str> = lines
-            .iter()
-            .filter_map(|line| line.split(' ').nth(2))
-            .collect();
-        for (direction, bytes) in read::messages() {
-            if let Ok(mut record) = rules::read::message(direction, &bytes) {
-                record.resize(RECORD, 0);
-                assert!(written.contains(hex::write(&record).as_str()));
-            }
-        }
+        judged::every_valid_message(&lines(), read::messages());
     }
 }

@@ -1,14 +1,27 @@
 //! Messages with bitfields in parts, from which the questions about reading and writing are made.
-//! Here the parts are put together by the places of README.md and not by the reader or the writer.
 
+use super::damage;
+use crate::questions::parts::Parts;
+use crate::questions::values::{full_value, some_number, some_value, textual};
 use crate::random::Random;
 use crate::rules::kinds::Kind;
 use crate::rules::layout::{self, Layout, Listed, Rule};
+use crate::rules::record::LENT;
 
 pub const NEW_ORDER: usize = 0;
 pub const CANCEL: usize = 1;
 pub const ACKNOWLEDGMENT: usize = 2;
 pub const EXECUTION: usize = 3;
+
+/// The places of a record, and its bytes.
+pub const FIXED_PLACE: usize = 6;
+pub const COUNT_PLACE: usize = 65;
+pub const BITFIELDS_PLACE: usize = 66;
+pub const SLOTS_PLACE: usize = 81;
+pub const SIZE: usize = 235;
+
+/// The fields that a New Order's requirement names.
+pub const REQUIRED: [&str; 4] = ["Symbol", "Capacity", "Price", "OrdType"];
 
 /// Valid as it is made; a question may then make its parts disagree.
 #[derive(Clone)]
@@ -52,49 +65,6 @@ impl Sample {
         sample
     }
 
-    /// Any bits, any values, any header that the rules allow.
-    pub fn any(random: &mut Random, which: usize) -> Sample {
-        let mut sample = Sample::least(random, which);
-        let layout = sample.layout;
-        let units = [layout.least_unit, layout.greatest_unit];
-        sample.unit = match random.below(4) {
-            0 => random.pick(&units),
-            _ => random.between(usize::from(units[0]), usize::from(units[1])) as u8,
-        };
-        sample.number = match random.below(8) {
-            0 => 0,
-            1 => u32::MAX,
-            2 => random.below(256) as u32,
-            _ => random.number(),
-        };
-        for (field, value) in layout.fixed.iter().zip(&mut sample.fixed) {
-            *value = match field.rule {
-                Rule::Any(kind) => some_value(random, kind, field.width, 0),
-                Rule::Filled(kind) => some_value(random, kind, field.width, 1),
-                Rule::Quantity => quantity(random),
-            };
-        }
-        sample.bitfields.clear();
-        // Few bits more often than many.
-        let chance = [1, 1, 1, 2, 4][random.between(0, 4)];
-        for (field, value) in layout.listed.iter().zip(&mut sample.optional) {
-            *value = some_value(random, field.kind, field.width, 0);
-            if random.below(6) < chance {
-                set(&mut sample.bitfields, field.byte, field.bit);
-            }
-        }
-        sample.count = sample.bitfields.len() as u8;
-        if random.below(2) == 0 && layout.required.len() == 3 {
-            sample.select("OrdType");
-        }
-        sample.require();
-        if random.below(3) == 0 {
-            let count = random.between(sample.bitfields.len(), layout.most);
-            sample.lengthen(count);
-        }
-        sample
-    }
-
     /// Sets the first bit of each required group that has none.
     pub fn require(&mut self) {
         for group in self.layout.required {
@@ -124,6 +94,15 @@ impl Sample {
     pub fn set_bit(&mut self, byte: usize, bit: u8) {
         set(&mut self.bitfields, byte, bit);
         self.count = self.bitfields.len() as u8;
+    }
+
+    /// Selects those of the fields of the requirement that have their bit in `choice`.
+    pub fn select_required(&mut self, choice: u8) {
+        for (shift, name) in REQUIRED.into_iter().enumerate() {
+            if choice >> shift & 1 != 0 {
+                self.select(name);
+            }
+        }
     }
 
     pub fn select_all(&mut self) {
@@ -158,32 +137,73 @@ impl Sample {
             .nth(index)
             .expect("a value for each field")
     }
+}
 
-    /// The message, its length that of its parts.
-    pub fn bytes(&self) -> Vec<u8> {
-        let mut message = vec![0xBA, 0xBA, 0, 0, self.layout.type_byte, self.unit];
-        message.extend(self.number.to_le_bytes());
-        message.extend(self.fixed.concat());
-        message.push(self.count);
-        message.extend(&self.bitfields);
-        for (field, value) in self.layout.listed.iter().zip(&self.optional) {
-            if field.selected(&self.bitfields) {
-                message.extend(value);
+impl Parts for Sample {
+    fn any(random: &mut Random, which: usize) -> Sample {
+        let mut sample = Sample::least(random, which);
+        let layout = sample.layout;
+        let units = [layout.least_unit, layout.greatest_unit];
+        sample.unit = match random.below(4) {
+            0 => random.pick(&units),
+            _ => random.between(usize::from(units[0]), usize::from(units[1])) as u8,
+        };
+        sample.number = some_number(random);
+        for (field, value) in layout.fixed.iter().zip(&mut sample.fixed) {
+            *value = match field.rule {
+                Rule::Any(kind) => some_value(random, kind, field.width, 0),
+                Rule::Filled(kind) => some_value(random, kind, field.width, 1),
+                Rule::Quantity => quantity(random),
+            };
+        }
+        sample.bitfields.clear();
+        // Few bits more often than many.
+        let chance = [1, 1, 1, 2, 4][random.between(0, 4)];
+        for (field, value) in layout.listed.iter().zip(&mut sample.optional) {
+            *value = some_value(random, field.kind, field.width, 0);
+            if random.below(6) < chance {
+                set(&mut sample.bitfields, field.byte, field.bit);
             }
         }
-        measure(&mut message);
-        message
+        sample.count = sample.bitfields.len() as u8;
+        if random.below(2) == 0 && layout.required.len() == 3 {
+            sample.select("OrdType");
+        }
+        sample.require();
+        if random.below(3) == 0 {
+            let count = random.between(sample.bitfields.len(), layout.most);
+            sample.lengthen(count);
+        }
+        sample
     }
 
-    /// The record, its 235 bytes alone; bitfields past its last place are left out.
-    pub fn record(&self) -> Vec<u8> {
-        let mut record = vec![self.layout.type_byte, self.unit];
-        record.extend(self.number.to_le_bytes());
+    fn direction(&self) -> u8 {
+        self.layout.direction
+    }
+
+    fn header(&self) -> (u8, u8, u32) {
+        (self.layout.type_byte, self.unit, self.number)
+    }
+
+    fn body(&self) -> Vec<u8> {
+        let mut body = self.fixed.concat();
+        body.push(self.count);
+        body.extend(&self.bitfields);
+        for (field, value) in self.layout.listed.iter().zip(&self.optional) {
+            if field.selected(&self.bitfields) {
+                body.extend(value);
+            }
+        }
+        body
+    }
+
+    fn record(&self) -> Vec<u8> {
+        let mut record = self.record_head();
         record.extend(self.fixed.concat());
-        record.resize(65, 0);
+        record.resize(COUNT_PLACE, 0);
         record.push(self.count);
         record.extend(&self.bitfields);
-        record.resize(81, 0);
+        record.resize(SLOTS_PLACE, 0);
         for (field, value) in self.layout.listed.iter().zip(&self.optional) {
             if field.selected(&self.bitfields) {
                 record.extend(value);
@@ -191,16 +211,33 @@ impl Sample {
                 record.resize(record.len() + field.width, 0);
             }
         }
-        record.resize(235, 0);
+        record.resize(SIZE, 0);
         record
     }
-}
 
-/// Writes the length field by the bytes there are.
-pub fn measure(message: &mut [u8]) {
-    if message.len() >= 4 {
-        let length = (message.len() - 2) as u16;
-        message[2..4].copy_from_slice(&length.to_le_bytes());
+    /// What follows the record plays no part: it is zero in most, but not in all.
+    fn lent(random: &mut Random, record: &[u8]) -> Vec<u8> {
+        let mut bytes = record.to_vec();
+        bytes.resize(LENT, 0);
+        let after = &mut bytes[record.len()..];
+        match random.below(12) {
+            0 => {
+                let place = random.between(0, after.len() - 1);
+                after[place] = 1 + random.below(255) as u8;
+            }
+            1 => after[0] = 1 + random.below(255) as u8,
+            2 => after.fill(1 + random.below(255) as u8),
+            _ => {}
+        }
+        bytes
+    }
+
+    fn damaged(&self, random: &mut Random) -> (u8, Vec<u8>) {
+        damage::message(random, self)
+    }
+
+    fn damaged_record(&self, random: &mut Random) -> (u8, Vec<u8>, Vec<u8>) {
+        damage::record(random, self)
     }
 }
 
@@ -253,28 +290,6 @@ pub fn texts(random: &mut Random, which: usize) -> Vec<Text> {
     texts
 }
 
-/// Bytes that a kind does not take, most of them next to one that it takes.
-pub fn bad_bytes(kind: Kind) -> &'static [u8] {
-    match kind {
-        Kind::Letters => b"@[`{09 \x01\xC1\xFF",
-        Kind::LettersAndDigits => b"/:@[`{ \x01\xC1\xFF",
-        Kind::Text => b"\x01\x1F\x7F\x80\xA0\xFF",
-        Kind::Identifier => b" ,;|@\"\x1F\x7F\x80\xFF",
-        Kind::Binary | Kind::Price => b"",
-    }
-}
-
-/// Bytes at the ends of what a kind takes.
-pub fn end_bytes(kind: Kind) -> &'static [u8] {
-    match kind {
-        Kind::Letters => b"AZaz",
-        Kind::LettersAndDigits => b"AZaz09",
-        Kind::Text => b" ~!}@,",
-        Kind::Identifier => b"!~#+-:<?A{}",
-        Kind::Binary | Kind::Price => b"\x00\x01\x7F\x80\xFE\xFF",
-    }
-}
-
 /// The field that every message has and that is never blank.
 pub fn identifier(which: usize) -> &'static str {
     if which == CANCEL {
@@ -293,45 +308,6 @@ pub fn unlisted_bit(which: usize) -> (usize, u8) {
     }
 }
 
-// Values.
-
-/// A byte that the kind takes, NUL aside.
-fn good_byte(random: &mut Random, kind: Kind) -> u8 {
-    loop {
-        let byte = random.byte();
-        if byte != 0 && kind.takes(byte) {
-            return byte;
-        }
-    }
-}
-
-/// Whether the kind is one of texts, which have an end.
-pub fn textual(kind: Kind) -> bool {
-    kind != Kind::Binary && kind != Kind::Price
-}
-
-pub fn full_value(random: &mut Random, kind: Kind, width: usize) -> Vec<u8> {
-    (0..width).map(|_| good_byte(random, kind)).collect()
-}
-
-/// Texts of `least` characters or more, half of them full; numbers with their ends among them.
-pub fn some_value(random: &mut Random, kind: Kind, width: usize, least: usize) -> Vec<u8> {
-    if !textual(kind) {
-        return match random.below(8) {
-            0 => vec![0; width],
-            1 => vec![255; width],
-            _ => random.bytes(width),
-        };
-    }
-    let end = match random.below(2) {
-        0 => width,
-        _ => random.between(least, width),
-    };
-    let mut value = full_value(random, kind, end);
-    value.resize(width, 0);
-    value
-}
-
 fn quantity(random: &mut Random) -> Vec<u8> {
     let quantity = match random.below(8) {
         0 => 1,
@@ -344,8 +320,8 @@ fn quantity(random: &mut Random) -> Vec<u8> {
 #[cfg(test)]
 mod tests {
     use super::*;
-    use crate::rules::record::LENT;
-    use crate::rules::{kinds, read, write};
+    use crate::questions::judged;
+    use crate::rules::{kinds, read};
     use std::collections::BTreeSet;
 
     #[test]
@@ -359,18 +335,11 @@ mod tests {
     }
 
     #[test]
-    fn bad_and_end_bytes() {
-        for kind in kinds::ALL {
-            assert!(bad_bytes(kind).iter().all(|byte| !kind.takes(*byte)));
-            assert!(end_bytes(kind).iter().all(|byte| kind.takes(*byte)));
-        }
+    fn unlisted_bits() {
         for which in 0..4 {
             let (byte, bit) = unlisted_bit(which);
-            let fields = layout::ALL[which].listed;
-            assert!(fields.iter().any(|field| field.byte == byte));
-            assert!(!fields
-                .iter()
-                .any(|field| (field.byte, field.bit) == (byte, bit)));
+            let listed = layout::ALL[which].listed_bits(byte);
+            assert!(listed != 0 && listed & bit == 0);
         }
     }
 
@@ -405,22 +374,27 @@ mod tests {
         assert_eq!(order.bytes().len(), 36 + 2 + 17);
     }
 
-    /// The parts, put together here, are what the reader and the writer answer.
     #[test]
     fn reader_and_writer_agree_with_the_parts() {
         let mut random = Random::new(101);
         for round in 0..4_000 {
-            let sample = Sample::any(&mut random, round % 4);
-            let direction = sample.layout.direction;
-            let message = sample.bytes();
-            let mut record = sample.record();
-            assert_eq!(read::message(direction, &message), Ok(record.clone()));
-            record.resize(LENT, 0xFF);
-            let mut buffer = vec![0x5A; message.len() + 3];
-            assert_eq!(write::record(direction, &record, &mut buffer), Ok(()));
-            assert_eq!(buffer[..message.len()], message);
-            assert_eq!(buffer[message.len()..], [0x5A; 3]);
+            judged::agree(&Sample::any(&mut random, round % 4));
         }
+    }
+
+    /// What follows a record is not always zero, and the record itself stays.
+    #[test]
+    fn lent_records() {
+        let mut random = Random::new(111);
+        let record = Sample::any(&mut random, CANCEL).record();
+        let mut zero = 0;
+        for _ in 0..400 {
+            let bytes = Sample::lent(&mut random, &record);
+            assert_eq!(bytes.len(), 439);
+            assert_eq!(bytes[..235], record);
+            zero += usize::from(bytes[235..] == [0; 204]);
+        }
+        assert!((200..390).contains(&zero));
     }
 
     /// Each listed bit is both set and not set, each count is used, and both ends of the units.

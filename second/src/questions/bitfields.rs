@@ -1,0 +1,12 @@
+//! Questions about the messages with bitfields.
+
+mod damage;
+mod faults;
+mod read;
+pub mod sample;
+mod write;
+
+pub fn ask(lines: &mut Vec<String>) {
+    read::ask(lines);
+    write::ask(lines);
+}

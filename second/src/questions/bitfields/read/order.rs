@@ -1,0 +1,70 @@
+//! The order of reading.
+
+use crate::questions::bitfields::faults::{least_with, sets};
+use crate::questions::bitfields::sample::identifier;
+use crate::questions::order::numbers;
+use crate::questions::parts::{measure, Parts};
+use crate::questions::reading::{self, Asked};
+use crate::random::Random;
+
+/// The numbers that a whole message can be refused with, in the order of reading. Of the three
+/// places of 6 it is the last.
+const ORDER: [u8; 7] = [4, 5, 7, 8, 9, 6, 10];
+
+/// A message with these faults.
+fn faulty(random: &mut Random, which: usize, faults: u8) -> (u8, Vec<u8>) {
+    let numbers = numbers(faults, &ORDER);
+    let mut sample = least_with(random, which, &numbers);
+    let layout = sample.layout;
+    let mut direction = layout.direction;
+    if numbers.contains(&4) {
+        direction = 1 - direction;
+    }
+    if numbers.contains(&7) {
+        sample.lengthen(layout.most + 1);
+    }
+    if numbers.contains(&10) {
+        sample.value(identifier(which))[19] = b'@';
+    }
+    let mut message = sample.bytes();
+    if numbers.contains(&6) {
+        if random.below(2) == 0 {
+            message.push(random.byte());
+        } else {
+            message.pop();
+        }
+        measure(&mut message);
+    }
+    (direction, message)
+}
+
+/// Every set of faults, so that the order shows; then those of framing, before all or none of the
+/// others.
+pub fn ask(asked: &mut Asked, random: &mut Random, which: usize) {
+    let sets = sets(which, &ORDER);
+    let all = sets[sets.len() - 1];
+    for faults in sets {
+        asked.push(faulty(random, which, faults));
+    }
+    reading::badly_framed(asked, random, all, |random, faults| {
+        faulty(random, which, faults)
+    });
+}
+
+#[cfg(test)]
+mod tests {
+    use super::*;
+    use crate::questions::judged;
+
+    /// The first fault in the order is the one that is told.
+    #[test]
+    fn order_of_reading() {
+        let mut random = Random::new(120);
+        for which in 0..4 {
+            for faults in sets(which, &ORDER) {
+                let (direction, message) = faulty(&mut random, which, faults);
+                judged::first_fault_read(direction, &message, faults, &ORDER);
+            }
+        }
+    }
+}

@@ -1,0 +1,132 @@
+//! Values of fields.
+
+use crate::questions::bitfields::sample::{
+    texts, Sample, ACKNOWLEDGMENT, CANCEL, EXECUTION, NEW_ORDER,
+};
+use crate::questions::reading::{add, Asked};
+use crate::questions::values::{bad_bytes, end_bytes, textual};
+use crate::random::Random;
+use crate::rules::layout;
+
+/// In each text field: bad bytes first and last, and characters after a NUL.
+pub fn bad_texts(asked: &mut Asked, random: &mut Random, which: usize) {
+    for text in texts(random, which) {
+        let mut sample = text.sample;
+        let good = sample.value(text.name).clone();
+        let last = good.len() - 1;
+        let mut put = |place: usize, byte: u8| {
+            let value = sample.value(text.name);
+            value.copy_from_slice(&good);
+            value[place] = byte;
+            add(asked, &sample);
+        };
+        for byte in bad_bytes(text.kind) {
+            put(0, *byte);
+            if last > 0 {
+                put(last, *byte);
+            }
+        }
+        if last > 0 {
+            put(0, 0);
+            put(last - 1, 0);
+        }
+        let value = sample.value(text.name);
+        value.fill(0);
+        value[last] = good[last];
+        if last > 0 {
+            add(asked, &sample);
+        }
+        if text.never_blank {
+            sample.value(text.name).fill(0);
+            add(asked, &sample);
+        }
+    }
+}
+
+/// In each text field: blank, or what is nearly blank where that is refused; of the identifiers of
+/// a Cancel Order all sizes.
+pub fn good_texts(asked: &mut Asked, random: &mut Random, which: usize) {
+    for text in texts(random, which) {
+        let mut sample = text.sample;
+        let size = sample.value(text.name).len();
+        let ends: Vec<usize> = match (text.never_blank, which) {
+            (false, _) => vec![0],
+            (true, CANCEL) => (1..size).collect(),
+            (true, _) => vec![1, size - 1],
+        };
+        for end in ends.into_iter().filter(|end| *end < size).rev() {
+            let value = sample.value(text.name);
+            value[end..].fill(0);
+            add(asked, &sample);
+        }
+    }
+}
+
+/// All fields selected and each filled with one byte at the ends of its kind.
+pub fn ends(asked: &mut Asked, random: &mut Random, which: usize) {
+    let layout = &layout::ALL[which];
+    let rounds = if which == CANCEL { 11 } else { 6 };
+    for round in 0..rounds {
+        let mut sample = Sample::least(random, which);
+        sample.select_all();
+        for text in texts(random, which) {
+            let bytes = end_bytes(text.kind);
+            let value = sample.value(text.name);
+            value.fill(bytes[round % bytes.len()]);
+        }
+        for field in layout.listed {
+            let bytes = end_bytes(field.kind);
+            if !textual(field.kind) {
+                let value = sample.value(field.name);
+                value.fill(bytes[round % bytes.len()]);
+            }
+        }
+        add(asked, &sample);
+    }
+    // All of them blank.
+    let mut sample = Sample::least(random, which);
+    sample.select_all();
+    for field in layout.listed {
+        sample.value(field.name).fill(0);
+    }
+    add(asked, &sample);
+}
+
+/// OrderQty, which has a range in a New Order alone.
+pub fn quantities(asked: &mut Asked, random: &mut Random) {
+    for which in [NEW_ORDER, ACKNOWLEDGMENT, EXECUTION] {
+        let mut sample = Sample::least(random, which);
+        if which != NEW_ORDER {
+            sample.select("OrderQty");
+        }
+        for quantity in [
+            0_u32,
+            1,
+            65_536,
+            999_998,
+            999_999,
+            1_000_000,
+            1_000_001,
+            999_999_u32.swap_bytes(),
+            16_777_216,
+            16_777_217,
+            2_147_483_648,
+            4_294_967_294,
+            4_294_967_295,
+        ] {
+            let value = sample.value("OrderQty");
+            value.copy_from_slice(&quantity.to_le_bytes());
+            add(asked, &sample);
+        }
+    }
+}
+
+pub fn reserved_bytes(asked: &mut Asked, random: &mut Random) {
+    for which in [ACKNOWLEDGMENT, EXECUTION] {
+        let mut sample = Sample::least(random, which);
+        for byte in [0, 1, 10, 31, 32, 44, 64, 65, 127, 128, 255] {
+            sample.value("Reserved")[0] = byte;
+            add(asked, &sample);
+        }
+    }
+}

@@ -1,0 +1,84 @@
+//! The order of writing.
+
+use super::unused;
+use crate::questions::bitfields::faults::{least_with, sets};
+use crate::questions::bitfields::sample::{identifier, Sample, COUNT_PLACE};
+use crate::questions::order::numbers;
+use crate::questions::parts::Parts;
+use crate::questions::writing::{line, pattern};
+use crate::random::Random;
+use crate::rules::record::LENT;
+
+/// The numbers that a record can be refused with, in the order of writing.
+const ORDER: [u8; 8] = [4, 5, 7, 8, 9, 10, 12, 13];
+
+/// A record and a buffer with these faults.
+fn faulty(random: &mut Random, which: usize, faults: u8) -> (u8, Vec<u8>, Vec<u8>) {
+    let numbers = numbers(faults, &ORDER);
+    let mut sample = least_with(random, which, &numbers);
+    let layout = sample.layout;
+    let mut direction = layout.direction;
+    if numbers.contains(&4) {
+        direction = random.pick(&[1 - layout.direction, 2]);
+    }
+    if numbers.contains(&10) {
+        sample.value(identifier(which))[0] = b';';
+    }
+    let mut record = sample.record();
+    if numbers.contains(&12) {
+        let runs = unused::places(&sample);
+        let run = &runs[random.between(0, runs.len() - 1)];
+        record[run[random.between(0, run.len() - 1)]] = 0x80;
+    }
+    if numbers.contains(&7) {
+        record[COUNT_PLACE] = layout.most as u8 + 1;
+    }
+    let mut room = sample.bytes().len();
+    if numbers.contains(&13) {
+        room = random.between(0, room - 1);
+    }
+    let record = Sample::lent(random, &record);
+    (direction, record, pattern(random, room))
+}
+
+/// Every set of faults but those of 4 and 5, which are asked with each of the others and with all;
+/// then a record too short with all.
+pub fn ask(lines: &mut Vec<String>, random: &mut Random, which: usize) {
+    let sets = sets(which, &ORDER);
+    let all = sets[sets.len() - 1];
+    let without = (0..64).map(|faults| faults << 2);
+    let pairs = (1..8).map(|shift| 1 | 1 << shift);
+    let other_pairs = (2..8).map(|shift| 2 | 1 << shift);
+    for faults in without
+        .chain([1, 2])
+        .chain(pairs)
+        .chain(other_pairs)
+        .chain([all, all - 1])
+        .filter(|faults| sets.contains(faults))
+    {
+        let (direction, record, buffer) = faulty(random, which, faults);
+        lines.push(line(direction, &record, &buffer));
+    }
+    for faults in [all, all - 1] {
+        let (direction, record, buffer) = faulty(random, which, faults);
+        lines.push(line(direction, &record[..LENT - 1], &buffer));
+    }
+}
+
+#[cfg(test)]
+mod tests {
+    use super::*;
+    use crate::questions::judged;
+
+    /// The first fault in the order is the one that is told, and the buffer stays.
+    #[test]
+    fn order_of_writing() {
+        let mut random = Random::new(121);
+        for which in 0..4 {
+            for faults in sets(which, &ORDER) {
+                let (direction, record, before) = faulty(&mut random, which, faults);
+                judged::first_fault_written(direction, &record, &before, faults, &ORDER);
+            }
+        }
+    }
+}
