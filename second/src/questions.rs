@@ -22,6 +22,8 @@ mod text;
 mod values;
 mod writing;
 
+use std::collections::BTreeSet;
+
 /// All questions, each ended by LF.
 pub fn all() -> String {
     let mut lines = Vec::new();
@@ -43,11 +45,17 @@ pub fn all() -> String {
     output
 }
 
+/// Each line once, where it comes first.
+fn without_repeats(mut lines: Vec<String>) -> Vec<String> {
+    let mut seen = BTreeSet::new();
+    lines.retain(|line| seen.insert(line.clone()));
+    lines
+}
+
 #[cfg(test)]
 mod tests {
     use super::*;
     use crate::ask;
-    use std::collections::BTreeSet;
 
     #[test]
     fn the_same_at_each_making() {

@@ -1,16 +1,23 @@
 //! Questions about the listing of a book.
 
+#[cfg(test)]
+mod tests;
+
 use super::bitfields::sample::{Sample, ACKNOWLEDGMENT, EXECUTION};
-use super::book::{bad_messages, damaged, group, some_marks, some_tails, FIRST_MARKS};
+use super::book::faults::{
+    bad_messages, changed_books, some_marks, starting_with_a_message, with_tails,
+    without_four_zeros, FIRST_MARKS,
+};
+use super::book::{damaged, group};
 use super::made::{
     both, empty, example, greatest, least, mark, marks, numbered, random_book, some_type, units,
     Made, DATE, MARK,
 };
 use super::parts::{measure, Parts};
+use super::without_repeats;
 use crate::examples;
 use crate::hex;
 use crate::random::Random;
-use std::collections::BTreeSet;
 
 /// Prices about zero, about whole numbers, with all their digits, and at the ends.
 const PRICES: [i64; 27] = [
@@ -43,43 +50,37 @@ const PRICES: [i64; 27] = [
     i64::MIN + 1,
 ];
 
-pub fn ask(lines: &mut Vec<String>) {
-    let mut asked = Vec::new();
-    make(&mut asked);
-    // Some are made twice.
-    let mut seen = BTreeSet::new();
-    asked.retain(|line| seen.insert(line.clone()));
-    lines.extend(asked);
-}
-
 pub fn line(book: &[u8]) -> String {
     format!("list {}", hex::write(book))
 }
 
-fn make(lines: &mut Vec<String>) {
+pub fn ask(lines: &mut Vec<String>) {
+    let mut asked = vec![
+        line(&example()[..73]),
+        line(&[&example()[..73], &[0xBA]].concat()),
+    ];
     let mut random = Random::new(21);
-    lines.push(line(&example()[..73]));
-    lines.push(line(&[&example()[..73], &[0xBA]].concat()));
-    small(lines, &mut random);
-    first_marks(lines);
-    whole_books(lines, &mut random);
-    cuts(lines, &mut random);
-    tails(lines);
-    later_marks(lines, &mut random);
-    numbers(lines, &mut random);
-    strangers(lines, &mut random);
-    prices(lines, &mut random);
-    identifiers(lines, &mut random);
-    changed_bytes(lines);
+    small(&mut asked, &mut random);
+    first_marks(&mut asked);
+    whole_books(&mut asked, &mut random);
+    cuts(&mut asked, &mut random);
+    asked.extend(with_tails().iter().map(|book| line(book)));
+    later_marks(&mut asked, &mut random);
+    numbers(&mut asked, &mut random);
+    strangers(&mut asked, &mut random);
+    prices(&mut asked, &mut random);
+    identifiers(&mut asked, &mut random);
+    asked.extend(changed_books().iter().map(|book| line(book)));
     for _ in 0..60 {
-        lines.extend(group(&mut random).into_iter().skip(4));
+        asked.extend(group(&mut random).into_iter().skip(4));
         let book = random_book(&mut random);
         let mut bytes = damaged(&mut random, &book.bytes);
         bytes = damaged(&mut random, &bytes);
-        lines.push(line(&bytes));
+        asked.push(line(&bytes));
     }
-    outside(lines);
-    long(lines, &mut random);
+    outside(&mut asked);
+    long(&mut asked, &mut random);
+    lines.extend(without_repeats(asked));
 }
 
 /// No bytes, and too few of them, in order or not.
@@ -106,17 +107,12 @@ fn first_marks(lines: &mut Vec<String>) {
     for date in [19_700_101, 20_991_231, 20_000_229, 20_240_229, u32::MAX] {
         lines.push(line(&Made::new(date).mark().bytes));
     }
-    for place in 0..4 {
-        for value in [1, 0xBA, 0x80] {
-            let mut bad = mark(DATE, 0, 0);
-            bad[place] = value;
-            lines.push(line(&bad));
-        }
+    for bad in without_four_zeros() {
+        lines.push(line(&bad));
     }
-    // A message where the first mark should be.
-    let message = examples::booked_acknowledgment();
-    lines.push(line(&message));
-    lines.push(line(&[message, mark(DATE, 1, 57)].concat()));
+    for bad in starting_with_a_message() {
+        lines.push(line(&bad));
+    }
 }
 
 fn whole_books(lines: &mut Vec<String>, random: &mut Random) {
@@ -151,15 +147,6 @@ fn cuts(lines: &mut Vec<String>, random: &mut Random) {
     ] {
         for end in MARK..bytes.len() {
             lines.push(line(&bytes[..end]));
-        }
-    }
-}
-
-fn tails(lines: &mut Vec<String>) {
-    let whole = example();
-    for book in [&whole[..16], &whole[..73], &whole[..]] {
-        for tail in some_tails() {
-            lines.push(line(&[book, &tail].concat()));
         }
     }
 }
@@ -255,24 +242,6 @@ fn identifiers(lines: &mut Vec<String>, random: &mut Random) {
     }
 }
 
-/// One byte changed at each place of a small book.
-fn changed_bytes(lines: &mut Vec<String>) {
-    for place in 0..example().len() {
-        for change in [0x01, 0xFF] {
-            let mut book = example();
-            book[place] ^= change;
-            lines.push(line(&book));
-        }
-    }
-    // Every type near the two that a book holds, and those of other messages.
-    let types = (0x20..=0x30).chain([0, 2, 3, 8, 9, 0x13, 0x37, 0x38, 0x39, 0xA5, 0xFF]);
-    for value in types {
-        let mut book = example()[..73].to_vec();
-        book[MARK + 4] = value;
-        lines.push(line(&book));
-    }
-}
-
 fn outside(lines: &mut Vec<String>) {
     for line in [
         "list",
@@ -342,143 +311,4 @@ fn long(lines: &mut Vec<String>, random: &mut Random) {
     let bytes = [empty().bytes, stranger].concat();
     lines.push(line(&bytes));
     lines.push(line(&bytes[..bytes.len() - 1]));
-}
-
-#[cfg(test)]
-mod tests {
-    use super::*;
-    use crate::ask;
-    use crate::rules::book;
-
-    fn asked() -> Vec<String> {
-        let mut lines = Vec::new();
-        ask(&mut lines);
-        lines
-    }
-
-    /// The listing of a book as it is made, by its parts and not by the rules.
-    fn expected(book: &Made, end: usize) -> String {
-        let mut lines = Vec::new();
-        let number = |place: usize| {
-            let bytes = book.bytes[place..place + 4].try_into().unwrap();
-            u32::from_le_bytes(bytes)
-        };
-        let mut good = 0;
-        let ends = book.starts[1..].iter().copied().chain([book.bytes.len()]);
-        for (start, after) in book.starts.iter().copied().zip(ends) {
-            if after > end {
-                break;
-            }
-            good = after;
-            let part = &book.bytes[start..after];
-            if part[0] == 0 {
-                let numbers = [number(start + 4), number(start + 8), number(start + 12)];
-                let text: Vec<String> = numbers.iter().map(u32::to_string).collect();
-                lines.push(format!("mark {}", text.join(" ")));
-                continue;
-            }
-            let identifier = String::from_utf8(part[18..38].to_vec()).unwrap();
-            lines.push(format!(
-                "{:X} {} {} {}",
-                part[4],
-                part[5],
-                number(start + 6),
-                identifier.trim_end_matches('\0')
-            ));
-        }
-        lines.push(format!("end {} {}", good, end - good));
-        lines.join("|")
-    }
-
-    /// The answer with the prices left out.
-    fn without_prices(answer: &str) -> String {
-        let lines: Vec<&str> = answer
-            .split('|')
-            .map(|line| match line.starts_with('2') {
-                true => line.rsplit_once(' ').unwrap().0,
-                false => line,
-            })
-            .collect();
-        lines.join("|")
-    }
-
-    #[test]
-    fn made_books_and_their_cuts() {
-        let mut random = Random::new(122);
-        for _ in 0..120 {
-            let made = random_book(&mut random);
-            for end in MARK..=made.bytes.len() {
-                let answer = ask::answer(line(&made.bytes[..end]).as_bytes());
-                assert_eq!(without_prices(&answer), expected(&made, end));
-            }
-        }
-    }
-
-    /// A listing and a restart for the book's own date agree: on the refusal, or on the length.
-    #[test]
-    fn listings_and_restarts() {
-        let mut whole = 0;
-        let mut refused = 0;
-        for question in asked() {
-            let answer = ask::answer(question.as_bytes());
-            if answer == "?" {
-                continue;
-            }
-            let bytes = hex::read(question.strip_prefix("list ").unwrap()).unwrap();
-            let date = bytes
-                .get(4..8)
-                .map_or(DATE, |date| u32::from_le_bytes(date.try_into().unwrap()));
-            let last = answer.rsplit('|').next().unwrap();
-            match book::restart(date, &bytes) {
-                Ok(book) => {
-                    let torn = bytes.len() - book.length;
-                    assert_eq!(last, format!("end {} {}", book.length, torn));
-                    let messages = answer.split('|').filter(|line| line.starts_with('2'));
-                    assert_eq!(messages.count(), book.count as usize);
-                    whole += 1;
-                }
-                Err(refusal) => {
-                    // 19 is asked for a date that is no day: the first mark is then bad.
-                    let number = match (refusal.number(), bytes.len() < MARK) {
-                        (19, true) => 22,
-                        (19, false) => 18,
-                        (number, _) => number,
-                    };
-                    assert_eq!(last, number.to_string());
-                    refused += 1;
-                }
-            }
-        }
-        assert!(whole > 600 && refused > 500);
-    }
-
-    /// Each price comes in both types, and so does `-`.
-    #[test]
-    fn each_price() {
-        let mut seen = BTreeSet::new();
-        for question in asked() {
-            for line in ask::answer(question.as_bytes()).split('|') {
-                if let [type_byte, _, _, _, price] = line.split(' ').collect::<Vec<_>>()[..] {
-                    seen.insert(format!("{} {}", type_byte, price));
-                }
-            }
-        }
-        for type_byte in ["25", "2C"] {
-            for price in [
-                "-",
-                "0.0000",
-                "-0.0001",
-                "0.9999",
-                "-1.0000",
-                "123.4500",
-                "-12.3400",
-                "429496.7295",
-                "922337203685477.5807",
-                "-922337203685477.5808",
-            ] {
-                let pair = format!("{} {}", type_byte, price);
-                assert!(seen.contains(&pair), "{}", pair);
-            }
-        }
-    }
 }

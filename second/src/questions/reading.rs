@@ -65,13 +65,18 @@ pub fn cut(asked: &mut Asked, direction: u8, message: &[u8], ends: Range<usize>)
     }
 }
 
-/// Faults of framing, each before none and before all of the faults that a message can have.
-pub fn badly_framed(
+/// Every set of faults that a message can have, so that the order shows; then those of framing,
+/// before all or none of the others.
+pub fn orders(
     asked: &mut Asked,
     random: &mut Random,
-    all: u8,
+    sets: &[u8],
     faulty: impl Fn(&mut Random, u8) -> (u8, Vec<u8>),
 ) {
+    for faults in sets {
+        asked.push(faulty(random, *faults));
+    }
+    let all = sets[sets.len() - 1];
     for framing in 1..8 {
         for faults in [0, all] {
             let (direction, mut message) = faulty(random, faults);

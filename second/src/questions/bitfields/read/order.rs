@@ -38,15 +38,8 @@ fn faulty(random: &mut Random, which: usize, faults: u8) -> (u8, Vec<u8>) {
     (direction, message)
 }
 
-/// Every set of faults, so that the order shows; then those of framing, before all or none of the
-/// others.
 pub fn ask(asked: &mut Asked, random: &mut Random, which: usize) {
-    let sets = sets(which, &ORDER);
-    let all = sets[sets.len() - 1];
-    for faults in sets {
-        asked.push(faulty(random, which, faults));
-    }
-    reading::badly_framed(asked, random, all, |random, faults| {
+    reading::orders(asked, random, &sets(which, &ORDER), |random, faults| {
         faulty(random, which, faults)
     });
 }

@@ -48,15 +48,8 @@ fn sets(which: usize) -> Vec<u8> {
     })
 }
 
-/// Every set of faults, so that the order shows; then those of framing, before all or none of the
-/// others.
 pub fn ask(asked: &mut Asked, random: &mut Random, which: usize) {
-    let sets = sets(which);
-    let all = sets[sets.len() - 1];
-    for faults in sets {
-        asked.push(faulty(random, which, faults));
-    }
-    reading::badly_framed(asked, random, all, |random, faults| {
+    reading::orders(asked, random, &sets(which), |random, faults| {
         faulty(random, which, faults)
     });
 }
