@@ -11,7 +11,7 @@ use crate::random::Random;
 use day::Days;
 use driver::Driver;
 
-/// Each script has at least so many lines.
+/// Days and rounds are added until a script has so many lines.
 const LEAST: usize = 700;
 
 #[derive(Clone, Copy, Debug)]
@@ -120,23 +120,17 @@ fn text(lines: &[String]) -> String {
 /// The lines of one script. It ends with both books.
 fn script(seed: u64, kind: Kind) -> Vec<String> {
     let mut driver = Driver::new(Random::new(seed));
-    match kind {
-        Kind::Days(days) => {
-            while driver.lines.len() < LEAST {
-                day::day(&mut driver, &days);
-            }
+    loop {
+        match kind {
+            Kind::Days(days) => day::day(&mut driver, &days),
+            Kind::Faults => faults::round(&mut driver),
+            Kind::Garbage => garbage::round(&mut driver),
+            Kind::Outside => among_days(&mut driver),
         }
-        Kind::Faults => {
-            while driver.lines.len() < LEAST {
-                faults::round(&mut driver);
-            }
+        // Once is enough of the lines outside the format.
+        if driver.lines.len() >= LEAST || matches!(kind, Kind::Outside) {
+            break;
         }
-        Kind::Garbage => {
-            while driver.lines.len() < LEAST {
-                garbage::round(&mut driver);
-            }
-        }
-        Kind::Outside => among_days(&mut driver),
     }
     driver.end();
     driver.lines
@@ -186,7 +180,7 @@ mod tests {
         assert_eq!(scripts.len(), STORED.len());
         let mut size = 0;
         for (script, kind) in scripts.iter().zip(STORED) {
-            assert!(script.len() >= 500);
+            assert!(script.len() >= LEAST);
             for (question, answer) in script {
                 assert!(question.len() <= 8_000 && answer.len() <= 8_000);
                 size += question.len() + answer.len() + 2;

@@ -17,30 +17,12 @@ pub fn lines(driver: &mut Driver) -> Vec<String> {
         lines.push(format!("v-state 0 0 0 0 0 0 {} {}", bad, table));
         lines.push(format!("v-state 0 0 0 0 0 0 {} {}", table, bad));
     }
-    for numbers in [
-        "4 0 0 0 0 0",
-        "255 0 0 0 0 0",
-        "0 4294967296 0 0 0 0",
-        "0 0 4294967296 0 0 0",
-        "0 0 0 4294967296 0 0",
-        "0 0 0 0 4294967296 0",
-        "0 0 0 0 0 4294967296",
-        "0 0 0 0 0",
-        "0 0 0 0 0 0 0",
-        "- 0 0 0 0 0",
-    ] {
+    let of_member = ["4 0 0 0 0 0", "255 0 0 0 0 0", "0 4294967296 0 0 0 0"];
+    let of_member = of_member.iter().chain(&OF_BOTH).chain(&["- 0 0 0 0 0"]);
+    for numbers in of_member {
         lines.push(format!("m-state {} {}", numbers, table));
     }
-    for numbers in [
-        "2 0 0 0 0 0",
-        "0 2 0 0 0 0",
-        "0 0 4294967296 0 0 0",
-        "0 0 0 4294967296 0 0",
-        "0 0 0 0 4294967296 0",
-        "0 0 0 0 0 4294967296",
-        "0 0 0 0 0",
-        "0 0 0 0 0 0 0",
-    ] {
+    for numbers in ["2 0 0 0 0 0", "0 2 0 0 0 0"].iter().chain(&OF_BOTH) {
         lines.push(format!("v-state {} {} {}", numbers, table, table));
     }
     lines.extend(logins(driver));
@@ -63,6 +45,16 @@ pub fn lines(driver: &mut Driver) -> Vec<String> {
     }
     lines
 }
+
+/// Numbers that are outside the format in the state of either side.
+const OF_BOTH: [&str; 6] = [
+    "0 0 4294967296 0 0 0",
+    "0 0 0 4294967296 0 0",
+    "0 0 0 0 4294967296 0",
+    "0 0 0 0 0 4294967296",
+    "0 0 0 0 0",
+    "0 0 0 0 0 0 0",
+];
 
 /// `m-login` with one word that is not in the format.
 fn logins(driver: &mut Driver) -> Vec<String> {
