@@ -1,4 +1,5 @@
-//! What the stored questions about reading and writing are answered, judged once for every type.
+//! What the stored questions are answered, those about reading and writing judged once for every
+//! type.
 
 use super::order;
 use super::parts::Parts;
@@ -9,8 +10,32 @@ use crate::rules::{read, refusal, write, Refusal};
 use crate::{ask, hex};
 use std::collections::{BTreeMap, BTreeSet};
 
+/// The questions of a section.
+pub fn asked_by(ask: fn(&mut Vec<String>)) -> Vec<String> {
+    let mut lines = Vec::new();
+    ask(&mut lines);
+    lines
+}
+
 /// How often each type got each number.
 type Seen = BTreeMap<(u8, u8), usize>;
+
+/// A type got each of these numbers, and no other. The questions would show little if some of its
+/// answers never came.
+pub fn gets_each(seen: &Seen, type_byte: u8, numbers: &[u8]) {
+    for number in 0..=22 {
+        let count = seen.get(&(type_byte, number)).copied().unwrap_or(0);
+        let good = match numbers.contains(&number) {
+            true => count >= 5,
+            false => count == 0,
+        };
+        assert!(
+            good,
+            "type {:02X} got {} {} times",
+            type_byte, number, count
+        );
+    }
+}
 
 /// The number of the first fault in the order, 0 where there is none.
 fn first_of(faults: u8, order: &[u8]) -> u8 {

@@ -208,30 +208,21 @@ mod tests {
     use super::*;
     use crate::questions::judged;
 
-    fn lines() -> Vec<String> {
-        let mut lines = Vec::new();
-        ask(&mut lines);
-        lines
-    }
-
     /// What each record's type gets, and that what is written reads as the record again.
     #[test]
     fn each_type_gets_each_answer() {
-        let seen = judged::writes(&lines());
+        let seen = judged::writes(&judged::asked_by(ask));
         for layout in &layout::ALL {
-            for number in [0, 4, 5, 7, 8, 9, 10, 12, 13] {
-                let count = seen.get(&(layout.type_byte, number)).copied();
-                if number == 9 && layout.required.is_empty() {
-                    assert_eq!(count, None);
-                } else {
-                    assert!(count.unwrap_or(0) >= 5, "{} {}", layout.type_byte, number);
-                }
-            }
+            let numbers: &[u8] = match layout.required.is_empty() {
+                true => &[0, 4, 5, 7, 8, 10, 12, 13],
+                false => &[0, 4, 5, 7, 8, 9, 10, 12, 13],
+            };
+            judged::gets_each(&seen, layout.type_byte, numbers);
         }
     }
 
     #[test]
     fn every_valid_message() {
-        judged::every_valid_message(&lines(), read::messages());
+        judged::every_valid_message(&judged::asked_by(ask), read::messages());
     }
 }

@@ -1,5 +1,6 @@
-use super::ask;
+use crate::ask;
 use crate::hex;
+use crate::questions::judged;
 use crate::questions::made::{random_book, MARK};
 use crate::random::Random;
 use crate::rules::book;
@@ -49,11 +50,10 @@ fn grown_books() {
 /// Only what is appended or marked changes, and the book after the call restarts with that.
 #[test]
 fn buffers_after_the_calls() {
-    let mut lines = Vec::new();
-    ask(&mut lines);
+    let lines = judged::asked_by(super::ask);
     let mut grown = 0;
     for line in &lines {
-        let answer = crate::ask::answer(line.as_bytes());
+        let answer = ask::answer(line.as_bytes());
         let (words, answer): (Vec<&str>, Vec<&str>) =
             (line.split(' ').collect(), answer.split(' ').collect());
         let (length, after) = match (words[0], answer.as_slice()) {

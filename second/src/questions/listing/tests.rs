@@ -1,16 +1,11 @@
 use super::line;
 use crate::ask;
 use crate::hex;
+use crate::questions::judged;
 use crate::questions::made::{random_book, Made, DATE, MARK};
 use crate::random::Random;
 use crate::rules::book;
 use std::collections::BTreeSet;
-
-fn asked() -> Vec<String> {
-    let mut lines = Vec::new();
-    super::ask(&mut lines);
-    lines
-}
 
 /// The listing of a book as it is made, by its parts and not by the rules.
 fn expected(book: &Made, end: usize) -> String {
@@ -75,7 +70,7 @@ fn made_books_and_their_cuts() {
 fn listings_and_restarts() {
     let mut whole = 0;
     let mut refused = 0;
-    for question in asked() {
+    for question in judged::asked_by(super::ask) {
         let answer = ask::answer(question.as_bytes());
         if answer == "?" {
             continue;
@@ -112,7 +107,7 @@ fn listings_and_restarts() {
 #[test]
 fn each_price() {
     let mut seen = BTreeSet::new();
-    for question in asked() {
+    for question in judged::asked_by(super::ask) {
         for line in ask::answer(question.as_bytes()).split('|') {
             if let [type_byte, _, _, _, price] = line.split(' ').collect::<Vec<_>>()[..] {
                 seen.insert(format!("{} {}", type_byte, price));

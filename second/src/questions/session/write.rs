@@ -216,34 +216,21 @@ mod tests {
     use super::*;
     use crate::questions::judged;
 
-    fn lines() -> Vec<String> {
-        let mut lines = Vec::new();
-        ask(&mut lines);
-        lines
-    }
-
     /// What each record's type gets, and that what is written reads as the record again.
     #[test]
     fn each_type_gets_each_answer() {
-        let seen = judged::writes(&lines());
+        let seen = judged::writes(&judged::asked_by(ask));
         for session in &session::ALL {
-            let expected: &[u8] = match session.lists.is_empty() {
+            let numbers: &[u8] = match session.lists.is_empty() {
                 true => &[0, 4, 5, 12, 13],
                 false => &[0, 4, 5, 10, 11, 13],
             };
-            for number in 0..=13 {
-                let key = (session.type_byte, number);
-                let count = seen.get(&key).copied().unwrap_or(0);
-                match expected.contains(&number) {
-                    true => assert!(count >= 5, "{:?}", key),
-                    false => assert_eq!(count, 0, "{:?}", key),
-                }
-            }
+            judged::gets_each(&seen, session.type_byte, numbers);
         }
     }
 
     #[test]
     fn every_valid_message() {
-        judged::every_valid_message(&lines(), read::messages());
+        judged::every_valid_message(&judged::asked_by(ask), read::messages());
     }
 }
