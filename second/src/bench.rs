@@ -12,10 +12,10 @@ use crate::words::{read_bytes, read_number, read_size, read_truth, read_u32, rea
 /// The bytes of the book's buffer and of the log's, and what they and every output buffer hold at
 /// first.
 pub const BUFFER: usize = 16_384;
-pub const FILL: u8 = 0xFF;
+const FILL: u8 = 0xFF;
 /// The most bytes of an output buffer: of a login or its response, and of an order or a step.
-pub const LOGIN_ROOM: usize = 600;
-pub const MESSAGE_ROOM: usize = 2_100;
+const LOGIN_ROOM: usize = 600;
+const MESSAGE_ROOM: usize = 2_100;
 
 pub struct Bench {
     pub member: Member,

@@ -10,8 +10,8 @@ use super::book::faults::{
 };
 use super::book::{damaged, group};
 use super::made::{
-    both, empty, example, greatest, least, mark, marks, numbered, random_book, some_type, units,
-    Made, DATE, MARK,
+    both, empty, example, greatest, mark, marks, numbered, random_book, some_type, units, Made,
+    DATE, MARK,
 };
 use super::parts::{measure, Parts};
 use super::without_repeats;
@@ -126,7 +126,7 @@ fn whole_books(lines: &mut Vec<String>, random: &mut Random) {
     let mut every_unit = Made::new(19_700_101);
     for unit in 1..=32 {
         let which = some_type(random);
-        every_unit = every_unit.with(least(random, which), unit);
+        every_unit = every_unit.with(Sample::least(random, which), unit);
     }
     books.push(every_unit.mark());
     for book in books {
@@ -135,7 +135,7 @@ fn whole_books(lines: &mut Vec<String>, random: &mut Random) {
 }
 
 fn cuts(lines: &mut Vec<String>, random: &mut Random) {
-    let mut priced = least(random, EXECUTION);
+    let mut priced = Sample::least(random, EXECUTION);
     priced.select("Price");
     let execution = Made::new(DATE).mark().with(priced, 9).mark();
     for bytes in [
@@ -170,12 +170,12 @@ fn numbers(lines: &mut Vec<String>, random: &mut Random) {
         for unit in [1, 2, 32] {
             let next = book.next(unit);
             for number in [next, next - 1, next + 1, 0, u32::MAX, 0x0100_0001] {
-                let message = numbered(least(random, ACKNOWLEDGMENT), unit, number);
+                let message = numbered(Sample::least(random, ACKNOWLEDGMENT), unit, number);
                 lines.push(line(&[book.bytes.clone(), message].concat()));
             }
         }
         for unit in [0, 33, 255] {
-            let message = numbered(least(random, EXECUTION), unit, 1);
+            let message = numbered(Sample::least(random, EXECUTION), unit, 1);
             lines.push(line(&[book.bytes.clone(), message].concat()));
         }
     }
@@ -197,7 +197,7 @@ fn strangers(lines: &mut Vec<String>, random: &mut Random) {
 fn prices(lines: &mut Vec<String>, random: &mut Random) {
     for which in [ACKNOWLEDGMENT, EXECUTION] {
         for price in PRICES {
-            let mut alone = least(random, which);
+            let mut alone = Sample::least(random, which);
             alone.select("Price");
             let mut after_side = alone.clone();
             after_side.select("Side");
@@ -211,9 +211,9 @@ fn prices(lines: &mut Vec<String>, random: &mut Random) {
             lines.push(line(&book.bytes));
         }
         // Each other field alone, so that no Price is there.
-        let layout = least(random, which).layout;
+        let layout = Sample::least(random, which).layout;
         for field in layout.listed.iter().filter(|field| field.name != "Price") {
-            let mut sample = least(random, which);
+            let mut sample = Sample::least(random, which);
             sample.select(field.name);
             lines.push(line(&empty().with(sample, 1).bytes));
         }
@@ -224,7 +224,7 @@ fn prices(lines: &mut Vec<String>, random: &mut Random) {
 fn identifiers(lines: &mut Vec<String>, random: &mut Random) {
     for which in [ACKNOWLEDGMENT, EXECUTION] {
         for size in 1..=20 {
-            let mut sample = least(random, which);
+            let mut sample = Sample::least(random, which);
             sample.value("ClOrdID")[size..].fill(0);
             lines.push(line(&empty().with(sample, 5).bytes));
         }
@@ -236,7 +236,7 @@ fn identifiers(lines: &mut Vec<String>, random: &mut Random) {
         b"abcdefghijklmnopqrst",
         b"uvwxyz{}~-\0\0\0\0\0\0\0\0\0\0",
     ] {
-        let mut sample = least(random, ACKNOWLEDGMENT);
+        let mut sample = Sample::least(random, ACKNOWLEDGMENT);
         *sample.value("ClOrdID") = text.to_vec();
         lines.push(line(&empty().with(sample, 5).bytes));
     }
@@ -285,7 +285,7 @@ fn long(lines: &mut Vec<String>, random: &mut Random) {
         loop {
             unit = unit % units + 1;
             let which = some_type(random);
-            let mut sample = least(random, which);
+            let mut sample = Sample::least(random, which);
             if random.below(2) == 0 {
                 sample.select("Price");
             }
@@ -305,7 +305,7 @@ fn long(lines: &mut Vec<String>, random: &mut Random) {
         lines.push(line(&bad));
     }
     // What is not taken may be as long as a message can be.
-    let mut stranger = least(random, ACKNOWLEDGMENT).bytes();
+    let mut stranger = Sample::least(random, ACKNOWLEDGMENT).bytes();
     stranger.resize(2_048, b'A');
     measure(&mut stranger);
     let bytes = [empty().bytes, stranger].concat();

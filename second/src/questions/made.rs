@@ -65,10 +65,6 @@ impl Made {
     }
 }
 
-pub fn least(random: &mut Random, which: usize) -> Sample {
-    Sample::least(random, which)
-}
-
 /// All bits and all bitfields.
 pub fn greatest(random: &mut Random, which: usize) -> Sample {
     let mut sample = Sample::least(random, which);
@@ -110,19 +106,19 @@ pub fn marks() -> Made {
 /// The least message of both types.
 pub fn both(random: &mut Random) -> Made {
     Made::new(DATE)
-        .with(least(random, ACKNOWLEDGMENT), 1)
-        .with(least(random, EXECUTION), 1)
+        .with(Sample::least(random, ACKNOWLEDGMENT), 1)
+        .with(Sample::least(random, EXECUTION), 1)
         .mark()
 }
 
 /// Several units in turn, marks between them.
 pub fn units(random: &mut Random) -> Made {
     Made::new(DATE)
-        .with(least(random, ACKNOWLEDGMENT), 32)
+        .with(Sample::least(random, ACKNOWLEDGMENT), 32)
         .mark()
         .mark()
-        .with(least(random, ACKNOWLEDGMENT), 1)
-        .with(least(random, ACKNOWLEDGMENT), 32)
+        .with(Sample::least(random, ACKNOWLEDGMENT), 1)
+        .with(Sample::least(random, ACKNOWLEDGMENT), 32)
         .mark()
 }
 

@@ -2,15 +2,15 @@
 
 use super::Refusal;
 
-pub const FIRST_YEAR: u32 = 1970;
-pub const LAST_YEAR: u32 = 2099;
+const FIRST_YEAR: u32 = 1970;
+const LAST_YEAR: u32 = 2099;
 
-pub fn leap(year: u32) -> bool {
+fn leap(year: u32) -> bool {
     (year % 4 == 0 && year % 100 != 0) || year % 400 == 0
 }
 
 /// Days in a month; none for what is no month.
-pub fn days(year: u32, month: u32) -> u32 {
+fn days(year: u32, month: u32) -> u32 {
     match month {
         1 | 3 | 5 | 7 | 8 | 10 | 12 => 31,
         4 | 6 | 9 | 11 => 30,
@@ -25,6 +25,7 @@ pub fn days(year: u32, month: u32) -> u32 {
     }
 }
 
+/// 19 for what is no day.
 pub fn check(date: u32) -> Result<(), Refusal> {
     let year = date / 10_000;
     let month = date / 100 % 100;

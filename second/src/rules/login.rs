@@ -7,7 +7,7 @@ use super::types::{self, MEMBER};
 use super::write;
 use super::Refusal;
 
-pub const NAMES: usize = 18;
+const NAMES: usize = 18;
 /// The bytes of a group before its list.
 const GROUP_HEAD: u16 = 5;
 

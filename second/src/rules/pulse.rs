@@ -1,11 +1,11 @@
 //! Heartbeats and silence by the 32-bit millisecond clock (document 01, end of "Session and
 //! replay").
 
-pub const DUE: u32 = 1_000;
-pub const SILENT: u32 = 5_000;
+const DUE: u32 = 1_000;
+const SILENT: u32 = 5_000;
 
 /// The clock runs round, so the difference is taken modulo 2^32.
-pub fn elapsed(now: u32, then: u32) -> u32 {
+fn elapsed(now: u32, then: u32) -> u32 {
     now.wrapping_sub(then)
 }
 

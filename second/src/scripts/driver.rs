@@ -124,9 +124,7 @@ impl Driver {
 
     /// A message for the log: of a unit of the day, with its next number.
     pub fn next_message(&mut self) -> Vec<u8> {
-        let mut sample = self.booked();
-        let unit = self.random.between(0, self.units.len() - 1);
-        sample.unit = self.units[unit];
+        let mut sample = self.booked_today();
         let last = entry(&self.bench.venue.table, sample.unit);
         sample.number = last.wrapping_add(1);
         sample.bytes()
@@ -144,6 +142,14 @@ impl Driver {
             let listed = sample.layout.listed;
             sample.select(listed[random.between(0, listed.len() - 1)].name);
         }
+        sample
+    }
+
+    /// The same of a unit of the day.
+    pub fn booked_today(&mut self) -> Sample {
+        let mut sample = self.booked();
+        let unit = self.random.between(0, self.units.len() - 1);
+        sample.unit = self.units[unit];
         sample
     }
 

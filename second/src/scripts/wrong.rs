@@ -52,9 +52,7 @@ fn short(driver: &mut Driver, size: usize) -> usize {
 
 /// A message that the venue logs, damaged where the rules look.
 fn damaged_booked(driver: &mut Driver) -> Vec<u8> {
-    let mut sample = driver.booked();
-    let unit = driver.random.between(0, driver.units.len() - 1);
-    sample.unit = driver.units[unit];
+    let mut sample = driver.booked_today();
     sample.number = entry(&driver.bench.member.book.table, sample.unit).wrapping_add(1);
     sample.damaged(&mut driver.random).1
 }
@@ -96,9 +94,7 @@ fn get_any(driver: &mut Driver) {
 
 /// A good message whose number is not the next, or is.
 fn get_numbered(driver: &mut Driver) {
-    let mut sample = driver.booked();
-    let unit = driver.random.between(0, driver.units.len() - 1);
-    sample.unit = driver.units[unit];
+    let mut sample = driver.booked_today();
     let last = entry(&driver.bench.member.book.table, sample.unit);
     let by = driver.random.pick(&[0, 0, 1, 2, 2, 3]);
     sample.number = match driver.random.below(8) {

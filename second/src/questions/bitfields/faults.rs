@@ -12,12 +12,9 @@ pub fn sets(which: usize, order: &[u8]) -> Vec<u8> {
     })
 }
 
-/// The least sample with one bit more, and with those of the faults 5, 8 and 9 that are among the
-/// numbers.
-pub fn least_with(random: &mut Random, which: usize, numbers: &[u8]) -> Sample {
-    let mut sample = Sample::least(random, which);
-    let field = &sample.layout.listed[0];
-    sample.set_bit(field.byte, field.bit);
+/// A small sample with those of the faults 5, 8 and 9 that are among the numbers.
+pub fn small_with(random: &mut Random, which: usize, numbers: &[u8]) -> Sample {
+    let mut sample = Sample::with_first_field(random, which);
     if numbers.contains(&5) {
         sample.unit = sample.layout.greatest_unit + 1;
     }

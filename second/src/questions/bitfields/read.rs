@@ -70,9 +70,7 @@ fn from_the_documents(asked: &mut Asked) {
 
 /// Length fields that are off, with the same bytes and with as many bytes as they say.
 fn lengths(asked: &mut Asked, random: &mut Random, which: usize) {
-    let mut sample = Sample::least(random, which);
-    let field = &sample.layout.listed[0];
-    sample.set_bit(field.byte, field.bit);
+    let sample = Sample::with_first_field(random, which);
     let direction = sample.layout.direction;
     let message = sample.bytes();
     let length = message.len() as u16 - 2;
@@ -121,9 +119,7 @@ fn cuts(asked: &mut Asked, random: &mut Random, which: usize) {
     };
     cut_from(4, &whole);
     let near = layout.count_place() - 1;
-    let mut sample = Sample::least(random, which);
-    let field = &layout.listed[0];
-    sample.set_bit(field.byte, field.bit);
+    let mut sample = Sample::with_first_field(random, which);
     sample.value(sample::identifier(which))[0] = b',';
     cut_from(near, &sample.bytes());
     if which == NEW_ORDER {

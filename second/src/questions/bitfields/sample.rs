@@ -65,6 +65,14 @@ impl Sample {
         sample
     }
 
+    /// The same with the first listed field besides.
+    pub fn with_first_field(random: &mut Random, which: usize) -> Sample {
+        let mut sample = Sample::least(random, which);
+        let field = &sample.layout.listed[0];
+        sample.set_bit(field.byte, field.bit);
+        sample
+    }
+
     /// Sets the first bit of each required group that has none.
     pub fn require(&mut self) {
         for group in self.layout.required {
@@ -90,7 +98,8 @@ impl Sample {
         self.set_bit(field.byte, field.bit);
     }
 
-    /// Sets a bit, listed or not; the bitfields become as many as that takes.
+    /// Sets a bit or several of a bitfield, listed or not; the bitfields become as many as that
+    /// takes.
     pub fn set_bit(&mut self, byte: usize, bit: u8) {
         set(&mut self.bitfields, byte, bit);
         self.count = self.bitfields.len() as u8;

@@ -4,10 +4,9 @@ use super::faults::bad_messages;
 use super::{append, close};
 use crate::examples;
 use crate::hex;
-use crate::questions::bitfields::sample::{ACKNOWLEDGMENT, EXECUTION};
+use crate::questions::bitfields::sample::{Sample, ACKNOWLEDGMENT, EXECUTION};
 use crate::questions::made::{
-    both, empty, example, greatest, least, mark, marks, numbered, some_type, units, Made, DATE,
-    MARK,
+    both, empty, example, greatest, mark, marks, numbered, some_type, units, Made, DATE, MARK,
 };
 use crate::random::Random;
 
@@ -24,7 +23,7 @@ fn appends(lines: &mut Vec<String>, random: &mut Random) {
     for book in [empty(), marks(), both(random), units(random)] {
         for unit in [1, 2, 32] {
             let which = some_type(random);
-            let message = numbered(least(random, which), unit, book.next(unit));
+            let message = numbered(Sample::least(random, which), unit, book.next(unit));
             let size = message.len();
             for room in [size, size - 1, size + 1, 0, 16] {
                 lines.push(append(DATE, &book.bytes, room, &message));
@@ -89,7 +88,7 @@ fn refused_appends(lines: &mut Vec<String>, random: &mut Random) {
             0x0100_0000 + next,
         ] {
             for which in [ACKNOWLEDGMENT, EXECUTION] {
-                let mut sample = least(random, which);
+                let mut sample = Sample::least(random, which);
                 let message = numbered(sample.clone(), unit, number);
                 for room in [message.len(), message.len() - 1, 0] {
                     lines.push(append(DATE, &book.bytes, room, &message));
@@ -124,12 +123,12 @@ fn appends_after_cuts(lines: &mut Vec<String>, random: &mut Random) {
                     continue;
                 }
                 let number = if start == 16 { 1 } else { 2 };
-                let message = numbered(least(random, ACKNOWLEDGMENT), 1, number);
+                let message = numbered(Sample::least(random, ACKNOWLEDGMENT), 1, number);
                 let missing = (start + message.len()).saturating_sub(cut);
                 for room in [missing, missing.saturating_sub(1), missing + 1, 0] {
                     lines.push(append(DATE, &bytes[..cut], room, &message));
                 }
-                let behind = numbered(least(random, ACKNOWLEDGMENT), 1, number - 1);
+                let behind = numbered(Sample::least(random, ACKNOWLEDGMENT), 1, number - 1);
                 lines.push(append(DATE, &bytes[..cut], missing, &behind));
                 for room in [0, 15] {
                     lines.push(close(DATE, &bytes[..cut], room));

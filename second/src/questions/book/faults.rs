@@ -2,8 +2,8 @@
 
 use crate::examples;
 use crate::hex;
-use crate::questions::bitfields::sample::{self, ACKNOWLEDGMENT, EXECUTION};
-use crate::questions::made::{example, least, mark, numbered, Made, DATE, MARK};
+use crate::questions::bitfields::sample::{unlisted_bit, Sample, ACKNOWLEDGMENT, EXECUTION};
+use crate::questions::made::{example, mark, numbered, Made, DATE, MARK};
 use crate::questions::parts::{measure, Parts};
 use crate::random::Random;
 
@@ -85,7 +85,7 @@ pub fn bad_messages(random: &mut Random) -> Vec<Vec<u8>> {
         examples::logout_request(),
     ];
     for which in [ACKNOWLEDGMENT, EXECUTION] {
-        let mut sample = least(random, which);
+        let mut sample = Sample::least(random, which);
         sample.unit = 1;
         sample.number = 1;
         let good = sample.bytes();
@@ -108,7 +108,7 @@ pub fn bad_messages(random: &mut Random) -> Vec<Vec<u8>> {
         many.bitfields.push(0);
         many.count = 16;
         bad.push(many.bytes());
-        let (byte, bit) = sample::unlisted_bit(which);
+        let (byte, bit) = unlisted_bit(which);
         let mut unlisted = sample.clone();
         unlisted.set_bit(byte, bit);
         bad.push(unlisted.bytes());

@@ -7,7 +7,7 @@ use super::faults::{
 use super::{open, restart};
 use crate::questions::bitfields::sample::{Sample, ACKNOWLEDGMENT, EXECUTION};
 use crate::questions::made::{
-    both, empty, example, greatest, least, mark, marks, numbered, units, Made, DATE,
+    both, empty, example, greatest, mark, marks, numbered, units, Made, DATE,
 };
 use crate::questions::parts::Parts;
 use crate::random::Random;
@@ -67,12 +67,12 @@ fn whole_books(lines: &mut Vec<String>, random: &mut Random) {
     }
     let mut every_unit = Made::new(19_700_101);
     for unit in 1..=32 {
-        every_unit = every_unit.with(least(random, ACKNOWLEDGMENT), unit);
+        every_unit = every_unit.with(Sample::least(random, ACKNOWLEDGMENT), unit);
     }
     books.push(every_unit);
     let mut one_unit = Made::new(20_000_229);
     for _ in 0..20 {
-        one_unit = one_unit.with(least(random, EXECUTION), 3);
+        one_unit = one_unit.with(Sample::least(random, EXECUTION), 3);
     }
     books.push(one_unit.mark());
     for book in books {
@@ -93,7 +93,7 @@ fn whole_books(lines: &mut Vec<String>, random: &mut Random) {
 fn cuts(lines: &mut Vec<String>, random: &mut Random) {
     let execution = Made::new(DATE)
         .mark()
-        .with(least(random, EXECUTION), 9)
+        .with(Sample::least(random, EXECUTION), 9)
         .mark();
     for bytes in [
         marks().bytes,
@@ -161,7 +161,7 @@ fn numbers(lines: &mut Vec<String>, random: &mut Random) {
         for unit in [1, 2, 32] {
             let next = book.next(unit);
             for number in [next, next - 1, next + 1, next + 2, 0, u32::MAX, 0x0100_0001] {
-                let message = numbered(least(random, ACKNOWLEDGMENT), unit, number);
+                let message = numbered(Sample::least(random, ACKNOWLEDGMENT), unit, number);
                 let mut bytes = [book.bytes.clone(), message].concat();
                 lines.push(restart(DATE, &bytes));
                 bytes.pop();
@@ -170,7 +170,7 @@ fn numbers(lines: &mut Vec<String>, random: &mut Random) {
         }
         // A unit out of its range.
         for unit in [0, 33, 255] {
-            let message = numbered(least(random, EXECUTION), unit, 1);
+            let message = numbered(Sample::least(random, EXECUTION), unit, 1);
             lines.push(restart(DATE, &[book.bytes.clone(), message].concat()));
         }
     }

@@ -4,7 +4,6 @@ use crate::questions::bitfields::sample::{Sample, CANCEL, NEW_ORDER, REQUIRED};
 use crate::questions::reading::{add, Asked};
 use crate::random::Random;
 use crate::rules::layout;
-use std::collections::BTreeSet;
 
 /// Each bit of each bitfield, listed or not: with what is required and without.
 pub fn single(asked: &mut Asked, random: &mut Random, which: usize) {
@@ -36,13 +35,13 @@ pub fn many(asked: &mut Asked, random: &mut Random, which: usize) {
     add(asked, &sample);
     sample.lengthen(layout.most);
     add(asked, &sample);
-    let bytes: BTreeSet<usize> = layout.listed.iter().map(|field| field.byte).collect();
-    for byte in bytes {
-        let mut sample = Sample::least(random, which);
-        for field in layout.listed.iter().filter(|field| field.byte == byte) {
-            sample.set_bit(field.byte, field.bit);
+    for byte in 1..=layout.most {
+        let listed = layout.listed_bits(byte);
+        if listed != 0 {
+            let mut sample = Sample::least(random, which);
+            sample.set_bit(byte, listed);
+            add(asked, &sample);
         }
-        add(asked, &sample);
     }
     let mut sample = Sample::least(random, which);
     sample.lengthen(layout.most);
@@ -53,9 +52,7 @@ pub fn many(asked: &mut Asked, random: &mut Random, which: usize) {
 /// Counts with as many bitfields, counts with fewer or more, and counts that end a message.
 pub fn counts(asked: &mut Asked, random: &mut Random, which: usize) {
     let layout = &layout::ALL[which];
-    let mut sample = Sample::least(random, which);
-    let field = &layout.listed[0];
-    sample.set_bit(field.byte, field.bit);
+    let mut sample = Sample::with_first_field(random, which);
     for count in sample.bitfields.len()..=layout.most + 3 {
         let mut longer = sample.clone();
         longer.lengthen(count);

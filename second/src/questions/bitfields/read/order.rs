@@ -1,6 +1,6 @@
 //! The order of reading.
 
-use crate::questions::bitfields::faults::{least_with, sets};
+use crate::questions::bitfields::faults::{sets, small_with};
 use crate::questions::bitfields::sample::identifier;
 use crate::questions::order::numbers;
 use crate::questions::parts::{measure, Parts};
@@ -14,7 +14,7 @@ const ORDER: [u8; 7] = [4, 5, 7, 8, 9, 6, 10];
 /// A message with these faults.
 fn faulty(random: &mut Random, which: usize, faults: u8) -> (u8, Vec<u8>) {
     let numbers = numbers(faults, &ORDER);
-    let mut sample = least_with(random, which, &numbers);
+    let mut sample = small_with(random, which, &numbers);
     let layout = sample.layout;
     let mut direction = layout.direction;
     if numbers.contains(&4) {

@@ -1,7 +1,7 @@
 //! The order of writing.
 
 use super::unused;
-use crate::questions::bitfields::faults::{least_with, sets};
+use crate::questions::bitfields::faults::{sets, small_with};
 use crate::questions::bitfields::sample::{identifier, Sample, COUNT_PLACE};
 use crate::questions::order::numbers;
 use crate::questions::parts::Parts;
@@ -15,7 +15,7 @@ const ORDER: [u8; 8] = [4, 5, 7, 8, 9, 10, 12, 13];
 /// A record and a buffer with these faults.
 fn faulty(random: &mut Random, which: usize, faults: u8) -> (u8, Vec<u8>, Vec<u8>) {
     let numbers = numbers(faults, &ORDER);
-    let mut sample = least_with(random, which, &numbers);
+    let mut sample = small_with(random, which, &numbers);
     let layout = sample.layout;
     let mut direction = layout.direction;
     if numbers.contains(&4) {
