@@ -1,16 +1,12 @@
 /* Checks the C entry points: hand-made cases, and every stored question on framing, table steps, reading, writing and the day book.
  * usage: test_gateway QUESTIONS ANSWERS */
-#include "boe.h"
+#include "test_gateway.h"
 
-#include <stdio.h>
-#include <stdlib.h>
 #include <string.h>
-
-enum { LONGEST = 13000, MOST_BYTES = 6200 };
 
 static unsigned long checks, failures;
 
-static void check(int ok, const char *what) {
+void check(int ok, const char *what) {
     checks++;
     if (!ok) {
         failures++;
@@ -18,106 +14,23 @@ static void check(int ok, const char *what) {
     }
 }
 
-static uint32_t number_at(const uint8_t *p) {
+void check_answer(unsigned long line, const char *expected, const char *got) {
+    checks++;
+    if (strcmp(got, expected) != 0) {
+        failures++;
+        printf("test_gateway: FAILED: line %lu: expected %.80s, got %.80s\n", line, expected, got);
+    }
+}
+
+uint32_t number_at(const uint8_t *p) {
     return p[0] | (uint32_t)p[1] << 8 | (uint32_t)p[2] << 16 | (uint32_t)p[3] << 24;
 }
 
-static uint32_t entry(const uint8_t *table, unsigned unit) {
+uint32_t entry(const uint8_t *table, unsigned unit) {
     return number_at(table + 4 * (unit - 1));
 }
 
-/* ---- hand-made cases */
-
-static void framing(void) {
-    static const uint8_t whole[] = {0xBA, 0xBA, 8, 0, 0x03, 0, 0, 0, 0, 0, 0xFF};
-    check(boe_frame_refusal(whole, 0) == BOE_INCOMPLETE, "no bytes");
-    check(boe_frame_refusal(whole, 3) == BOE_INCOMPLETE, "three bytes");
-    check(boe_frame_refusal(whole, 9) == BOE_INCOMPLETE, "one byte short");
-    check(boe_frame_length(whole, 9) == 0, "a refused message has no length");
-    check(boe_frame_refusal(whole, 10) == 0, "a whole message");
-    check(boe_frame_length(whole, 10) == 10, "its length");
-    check(boe_frame_length(whole, sizeof whole) == 10, "bytes after it play no part");
-    static const uint8_t bad_start[] = {0xBA, 0x00};
-    check(boe_frame_refusal(bad_start, 2) == BOE_BAD_START, "BA 00");
-    static const uint8_t bad_length[] = {0xBA, 0xBA, 7, 0};
-    check(boe_frame_refusal(bad_length, 4) == BOE_BAD_LENGTH, "length 7");
-    static const uint8_t too_long[] = {0xBA, 0xBA, 0xFF, 0x07};
-    check(boe_frame_refusal(too_long, 4) == BOE_BAD_LENGTH, "length 2047");
-    static const uint8_t longest[] = {0xBA, 0xBA, 0xFE, 0x07};
-    check(boe_frame_refusal(longest, 4) == BOE_INCOMPLETE, "length 2046, cut");
-}
-
-static void steps(void) {
-    uint8_t table[BOE_TABLE_BYTES + 4];
-    uint8_t before[sizeof table];
-    memset(table, 0, BOE_TABLE_BYTES);
-    memset(table + BOE_TABLE_BYTES, 0x5A, 4);
-    memcpy(before, table, sizeof table);
-    check(boe_table_step(table, sizeof table, 0, 1) == BOE_BAD_UNIT, "unit 0");
-    check(boe_table_step(table, sizeof table, 33, 1) == BOE_BAD_UNIT, "unit 33");
-    check(boe_table_step(table, 127, 33, 1) == BOE_BAD_UNIT, "5 comes before 13");
-    check(boe_table_step(table, 127, 1, 0) == BOE_NO_ROOM, "13 comes before 14");
-    check(boe_table_step(table, sizeof table, 32, 0) == BOE_ALREADY_TAKEN, "number 0");
-    check(boe_table_step(table, sizeof table, 32, 2) == BOE_GAP, "number 2 first");
-    check(memcmp(table, before, sizeof table) == 0, "refusals changed no byte");
-    check(boe_table_step(table, sizeof table, 32, 1) == 0, "number 1");
-    check(entry(table, 32) == 1 && entry(table, 31) == 0, "unit 32 alone has risen");
-    check(boe_table_step(table, BOE_TABLE_BYTES, 32, 2) == 0, "number 2");
-    check(entry(table, 32) == 2, "and again");
-    check(memcmp(table + BOE_TABLE_BYTES, before + BOE_TABLE_BYTES, 4) == 0, "bytes past the table stay");
-    memset(table, 0xFF, 4);
-    check(boe_table_step(table, sizeof table, 1, 0) == BOE_ALREADY_TAKEN, "a full entry takes nothing");
-    check(boe_table_step(table, sizeof table, 1, UINT32_MAX) == BOE_ALREADY_TAKEN, "not even its own number");
-}
-
-/* 000's examples, texts filled with NULs to their width. */
-static const uint8_t new_order[76] = {
-    0xBA, 0xBA, 0x4A, 0, 0x38, 0, 0x64, 0, 0, 0, 'A', 'B', 'C', '1', '2', '3', 0, 0, 0, 0, 0, 0, 0, 0, 0, 0, 0, 0, 0, 0,
-    '1', 0xE8, 0x03, 0, 0, 3, 0x04, 0xC1, 0x01, 0x44, 0xD6, 0x12, 0, 0, 0, 0, 0, 'M', 'S', 'F', 'T', 0, 0, 0, 0, 'P',
-    'R', 0, 0, 0, 'D', 'E', 'F', 'G'};
-static const uint8_t cancel_order[36] = {
-    0xBA, 0xBA, 0x22, 0, 0x39, 0, 0x64, 0, 0, 0, 'A', 'B', 'C', '1', '2', '3', 0, 0, 0, 0, 0, 0, 0, 0, 0, 0, 0, 0, 0, 0,
-    1, 0x01, 'T', 'E', 'S', 'T'};
-static const uint8_t acknowledgment[80] = {
-    0xBA, 0xBA, 0x4E, 0, 0x25, 0x03, 0x64, 0, 0, 0, 0xE0, 0xFA, 0x20, 0xF7, 0x36, 0x71,
-    0xF8, 0x11, 0x41, 0x42, 0x43, 0x31, 0x32, 0x33, 0, 0, 0, 0, 0, 0, 0, 0,
-    0, 0, 0, 0, 0, 0, 0x05, 0x10, 0x1E, 0xB7, 0x5E, 0x39, 0x2F, 0x02, 0, 0x03,
-    0, 0x41, 0x05, 0x4D, 0x53, 0x46, 0x54, 0, 0, 0, 0, 0x50, 0x41, 0x42, 0x43, 0,
-    0, 0, 0, 0, 0, 0, 0, 0, 0, 0, 0, 0, 0, 0, 0, 0};
-static const uint8_t execution[85] = {
-    0xBA, 0xBA, 0x53, 0, 0x2C, 0x03, 0x64, 0, 0, 0, 0xE0, 0xFA, 0x20, 0xF7, 0x36, 0x71,
-    0xF8, 0x11, 0x41, 0x42, 0x43, 0x31, 0x32, 0x33, 0, 0, 0, 0, 0, 0, 0, 0,
-    0, 0, 0, 0, 0, 0, 0x01, 0xF0, 0xB7, 0xD9, 0x71, 0x21, 0, 0, 0x64, 0,
-    0, 0, 0x08, 0xE2, 0x01, 0, 0, 0, 0, 0, 0x14, 0, 0, 0, 0x41, 0,
-    0x42, 0x41, 0x54, 0x53, 0, 0x03, 0, 0, 0x46, 0x54, 0x45, 0x53, 0x54, 0x31, 0x32, 0x33,
-    0x43, 0x78, 0, 0, 0};
-
-/* 000's session examples: its login, its response with the units of its notes, and its Logout with the length of its bytes. */
-static const uint8_t login[69] = {
-    0xBA, 0xBA, 0x43, 0, 0x37, 0, 0, 0, 0, 0, '0', '0', '0', '1', 'T', 'E', 'S', 'T', 'T', 'E', 'S', 'T', 'I', 'N', 'G', 0, 0, 0,
-    3, 0x14, 0, 0x80, 1, 3, 1, 0x4A, 0xBB, 0x01, 0, 2, 0, 0, 0, 0, 4, 0x79, 0xA1, 0, 0, 0x08, 0, 0x81, 0x25, 3, 0, 0x41, 0x05,
-    0x0C, 0, 0x81, 0x2C, 7, 0, 0x41, 0x07, 0, 0x40, 0, 0x01};
-static const uint8_t login_response[138] = {
-    0xBA, 0xBA, 0x88, 0, 0x24, 0, 0, 0, 0, 0, 'A', 'A', 'c', 'c', 'e', 'p', 't', 'e', 'd', 0, 0, 0, 0, 0, 0, 0, 0, 0, 0, 0,
-    0, 0, 0, 0, 0, 0, 0, 0, 0, 0, 0, 0, 0, 0, 0, 0, 0, 0, 0, 0, 0, 0, 0, 0, 0, 0, 0, 0, 0, 0, 0, 0, 0, 0, 0, 0, 0, 0, 0, 0, 0,
-    1, 0x54, 0x4A, 0x02, 0, 4, 1, 0x4A, 0xBB, 0x01, 0, 2, 0, 0, 0, 0, 3, 0, 0, 0, 0, 4, 0x79, 0xA1, 0, 0,
-    3, 0x14, 0, 0x80, 1, 3, 1, 0x4A, 0xBB, 0x01, 0, 2, 0, 0, 0, 0, 4, 0x79, 0xA1, 0, 0, 0x08, 0, 0x81, 0x25, 3, 0, 0x41, 0x05,
-    0x0C, 0, 0x81, 0x2C, 7, 0, 0x41, 0x07, 0, 0x40, 0, 0x01};
-static const uint8_t logout[91] = {
-    0xBA, 0xBA, 0x59, 0, 0x08, 0, 0, 0, 0, 0, 'U', 'U', 's', 'e', 'r', 0, 0, 0, 0, 0, 0, 0, 0, 0, 0, 0, 0, 0, 0, 0,
-    0, 0, 0, 0, 0, 0, 0, 0, 0, 0, 0, 0, 0, 0, 0, 0, 0, 0, 0, 0, 0, 0, 0, 0, 0, 0, 0, 0, 0, 0, 0, 0, 0, 0, 0, 0, 0, 0, 0, 0, 0,
-    0x54, 0x5A, 0x02, 0, 3, 1, 0x4A, 0xBB, 0x01, 0, 2, 0, 0, 0, 0, 4, 0x79, 0xA1, 0, 0};
-static const uint8_t client_heartbeat[10] = {0xBA, 0xBA, 8, 0, 0x03};
-static const uint8_t server_heartbeat[10] = {0xBA, 0xBA, 8, 0, 0x09};
-static const uint8_t replay_complete[10] = {0xBA, 0xBA, 8, 0, 0x13};
-/* 002's login */
-static const uint8_t options_login[63] = {
-    0xBA, 0xBA, 0x3D, 0, 0x37, 0, 0, 0, 0, 0, '0', '0', '0', '1', 'T', 'E', 'S', 'T', 'T', 'E', 'S', 'T', 'I', 'N', 'G', 0, 0, 0,
-    3, 0x0F, 0, 0x80, 1, 2, 1, 0x4A, 0xBB, 0x01, 0, 2, 0, 0, 0, 0, 0x08, 0, 0x81, 0x25, 3, 0, 0x41, 0x05,
-    0x0B, 0, 0x81, 0x2C, 6, 0, 0x41, 0x07, 0, 0x40, 0};
-
-/* The bytes of the record of a type. */
-static size_t record_len(uint8_t type) {
+size_t record_len(uint8_t type) {
     switch (type) {
     case BOE_NEW_ORDER:
     case BOE_CANCEL_ORDER:
@@ -129,378 +42,10 @@ static size_t record_len(uint8_t type) {
     }
 }
 
-static int all_are(const uint8_t *bytes, size_t len, uint8_t byte) {
+int all_are(const uint8_t *bytes, size_t len, uint8_t byte) {
     for (size_t i = 0; i < len; i++)
         if (bytes[i] != byte) return 0;
     return 1;
-}
-
-/* A message read and written again: the same bytes, and bytes after them untouched. */
-static void again(uint8_t direction, const uint8_t *message, size_t len) {
-    uint8_t bytes[600], record[BOE_RECORD_LEN + 3], out[600];
-    size_t own = record_len(message[4]);
-    memcpy(bytes, message, len);
-    memset(bytes + len, 0xEE, sizeof bytes - len);
-    memset(record, 0x5A, sizeof record);
-    memset(out, 0x5A, sizeof out);
-    check(boe_read(direction, bytes, sizeof bytes, record, sizeof record) == 0, "an example is read, whatever follows it");
-    check(all_are(record + own, sizeof record - own, 0x5A), "bytes past the record stay");
-    check(boe_write(direction, record, sizeof record, out, len) == 0, "its record is written into a buffer of its length");
-    check(memcmp(out, message, len) == 0 && out[len] == 0x5A, "as the same bytes, and no byte more");
-    memset(out, 0x5A, sizeof out);
-    check(boe_write(direction, record, BOE_RECORD_LEN, out, len - 1) == BOE_NO_ROOM, "one byte short");
-    check(boe_write(direction, record, BOE_RECORD_LEN - 1, out, len) == BOE_NO_ROOM, "a short record");
-    check(boe_write(direction, record, BOE_ORDER_RECORD_LEN, out, len) == BOE_NO_ROOM, "an order's record alone is short too");
-    check(boe_write((uint8_t)(1 - direction), record, sizeof record, out, len) == BOE_UNKNOWN_TYPE, "the other direction");
-    check(boe_write(2, record, sizeof record, out, len) == BOE_UNKNOWN_TYPE, "no direction");
-    check(all_are(out, sizeof out, 0x5A), "refusals stored nothing");
-    memset(record, 0x5A, sizeof record);
-    check(boe_read(direction, bytes, len - 1, record, sizeof record) == BOE_INCOMPLETE, "a cut message");
-    check(boe_read((uint8_t)(1 - direction), bytes, len, record, sizeof record) == BOE_UNKNOWN_TYPE, "read in the other direction");
-    check(boe_read(255, bytes, len, record, sizeof record) == BOE_UNKNOWN_TYPE, "read in no direction");
-    check(boe_read(direction, bytes, len, record, BOE_RECORD_LEN - 1) == BOE_NO_ROOM, "a short buffer for the record");
-    check(boe_read(direction, bytes, len, record, BOE_ORDER_RECORD_LEN) == BOE_NO_ROOM, "room for an order's record alone");
-    check(boe_read(direction, bytes, 9, record, 0) == BOE_INCOMPLETE, "13 comes after the message's refusals");
-    check(all_are(record, sizeof record, 0x5A), "refusals stored nothing");
-}
-
-static void messages(void) {
-    uint8_t record[BOE_RECORD_LEN], out[600];
-    again(BOE_FROM_MEMBER, new_order, sizeof new_order);
-    again(BOE_FROM_MEMBER, cancel_order, sizeof cancel_order);
-    again(BOE_FROM_VENUE, acknowledgment, sizeof acknowledgment);
-    again(BOE_FROM_VENUE, execution, sizeof execution);
-    check(boe_read(BOE_FROM_MEMBER, new_order, sizeof new_order, record, sizeof record) == 0, "New Order");
-    check(record[BOE_RECORD_TYPE_AT] == BOE_NEW_ORDER && record[BOE_RECORD_COUNT_AT] == 3, "its type and count");
-    check(memcmp(record + BOE_NEW_ORDER_CL_ORD_ID_AT, new_order + 10, BOE_NEW_ORDER_CL_ORD_ID_LEN) == 0, "ClOrdID");
-    check(memcmp(record + BOE_NEW_ORDER_PRICE_AT, new_order + 39, BOE_NEW_ORDER_PRICE_LEN) == 0, "Price is at 39");
-    check(memcmp(record + BOE_NEW_ORDER_SYMBOL_AT, new_order + 47, BOE_NEW_ORDER_SYMBOL_LEN) == 0, "Symbol is at 47");
-    check(memcmp(record + BOE_NEW_ORDER_CAPACITY_AT, new_order + 55, BOE_NEW_ORDER_CAPACITY_LEN) == 0, "Capacity is at 55");
-    check(memcmp(record + BOE_NEW_ORDER_ROUTING_INST_AT, new_order + 56, BOE_NEW_ORDER_ROUTING_INST_LEN) == 0, "RoutingInst is at 56");
-    check(memcmp(record + BOE_NEW_ORDER_ACCOUNT_AT, new_order + 60, BOE_NEW_ORDER_ACCOUNT_LEN) == 0, "Account is at 60");
-    record[BOE_NEW_ORDER_STOP_PX_AT] = 1;
-    check(boe_write(BOE_FROM_MEMBER, record, sizeof record, out, sizeof out) == BOE_NOT_ZERO, "a field that is not selected");
-    record[BOE_NEW_ORDER_STOP_PX_AT] = 0;
-    record[BOE_RECORD_BITFIELDS_AT + BOE_NEW_ORDER_SYMBOL_BYTE - 1] &= (uint8_t)~BOE_NEW_ORDER_SYMBOL_BIT;
-    check(boe_write(BOE_FROM_MEMBER, record, sizeof record, out, sizeof out) == BOE_NOT_SELECTED, "Symbol is required");
-}
-
-/* The body of a session message stands in its record as on the wire, with zeros after it. */
-static void same_body(const uint8_t *record, const uint8_t *message, size_t len) {
-    size_t body = len - 10;
-    check(record[BOE_RECORD_TYPE_AT] == message[4] && all_are(record + BOE_RECORD_UNIT_AT, 5, 0), "type, and no unit or number");
-    check(memcmp(record + BOE_SESSION_BODY_AT, message + 10, body) == 0, "the body as on the wire");
-    check(all_are(record + BOE_SESSION_BODY_AT + body, BOE_SESSION_BODY_LEN - body, 0), "zeros after it");
-}
-
-static void logins(void) {
-    uint8_t record[BOE_RECORD_LEN], out[600], bytes[600];
-    const uint8_t *group = record + BOE_LOGIN_REQUEST_GROUPS_AT;
-    again(BOE_FROM_MEMBER, login, sizeof login);
-    again(BOE_FROM_MEMBER, options_login, sizeof options_login);
-    check(boe_read(BOE_FROM_MEMBER, options_login, sizeof options_login, record, sizeof record) == 0, "002's login");
-    same_body(record, options_login, sizeof options_login);
-    check(memcmp(record + BOE_LOGIN_REQUEST_SESSION_SUB_ID_AT, "0001", BOE_LOGIN_REQUEST_SESSION_SUB_ID_LEN) == 0, "SessionSubID");
-    check(memcmp(record + BOE_LOGIN_REQUEST_USERNAME_AT, "TEST", BOE_LOGIN_REQUEST_USERNAME_LEN) == 0, "Username");
-    check(memcmp(record + BOE_LOGIN_REQUEST_PASSWORD_AT, "TESTING\0\0", BOE_LOGIN_REQUEST_PASSWORD_LEN) == 0, "Password");
-    check(record[BOE_LOGIN_REQUEST_NUMBER_OF_GROUPS_AT] == 3, "three groups");
-    check(group[BOE_UNITS_GROUP_LENGTH_AT] == 15 && group[BOE_UNITS_GROUP_TYPE_AT] == BOE_UNITS_GROUP, "the first has units");
-    check(group[BOE_UNITS_GROUP_FLAG_AT] == 1 && group[BOE_UNITS_GROUP_NUMBER_OF_UNITS_AT] == 2, "flag 1, two of them");
-    check(group[BOE_UNITS_GROUP_PAIRS_AT] == 1 && number_at(group + BOE_UNITS_GROUP_PAIRS_AT + 1) == 113482, "unit 1 at 113,482");
-    group += 15;
-    check(group[BOE_BITFIELDS_GROUP_TYPE_AT] == BOE_BITFIELDS_GROUP, "the second has bitfields");
-    check(group[BOE_BITFIELDS_GROUP_MESSAGE_TYPE_AT] == BOE_ACKNOWLEDGMENT && group[BOE_BITFIELDS_GROUP_COUNT_AT] == 3, "three for 25");
-    check(group[BOE_BITFIELDS_GROUP_BITFIELDS_AT + 1] == 0x41, "its second bitfield");
-    memset(out, 0x5A, sizeof out);
-    record[BOE_LOGIN_REQUEST_GROUPS_AT + BOE_UNITS_GROUP_FLAG_AT] = 2;
-    check(boe_write(BOE_FROM_MEMBER, record, sizeof record, out, sizeof out) == BOE_BAD_GROUP, "flag 2");
-    record[BOE_LOGIN_REQUEST_PASSWORD_AT] = ' ';
-    check(boe_write(BOE_FROM_MEMBER, record, sizeof record, out, sizeof out) == BOE_BAD_VALUE, "10 comes before 11");
-    record[BOE_RECORD_NUMBER_AT] = 1;
-    check(boe_write(BOE_FROM_MEMBER, record, sizeof record, out, sizeof out) == BOE_BAD_UNIT, "5 comes before 10");
-    check(boe_read(BOE_FROM_MEMBER, login, sizeof login, record, sizeof record) == 0, "000's login");
-    record[BOE_RECORD_LEN - 1] = 1;
-    check(boe_write(BOE_FROM_MEMBER, record, sizeof record, out, sizeof out) == BOE_BAD_GROUP, "a byte after the last group");
-    check(all_are(out, sizeof out, 0x5A), "refusals stored nothing");
-
-    again(BOE_FROM_VENUE, login_response, sizeof login_response);
-    check(boe_read(BOE_FROM_VENUE, login_response, sizeof login_response, record, sizeof record) == 0, "Login Response");
-    same_body(record, login_response, sizeof login_response);
-    check(record[BOE_LOGIN_RESPONSE_STATUS_AT] == 'A' && record[BOE_LOGIN_RESPONSE_FLAG_AT] == 1, "its status and flag");
-    check(memcmp(record + BOE_LOGIN_RESPONSE_TEXT_AT, "Accepted", 9) == 0, "its text");
-    check(number_at(record + BOE_LOGIN_RESPONSE_LAST_RECEIVED_NUMBER_AT) == 150100, "its last received number");
-    check(record[BOE_LOGIN_RESPONSE_NUMBER_OF_UNITS_AT] == 4, "four units");
-    check(record[BOE_LOGIN_RESPONSE_PAIRS_AT + 3 * BOE_PAIR_LEN] == 4, "the last is unit 4");
-    check(number_at(record + BOE_LOGIN_RESPONSE_PAIRS_AT + 3 * BOE_PAIR_LEN + 1) == 41337, "at 41,337");
-    check(record[BOE_LOGIN_RESPONSE_PAIRS_AT + 4 * BOE_PAIR_LEN] == 3, "three groups");
-    memcpy(bytes, login_response, sizeof login_response);
-    bytes[87] = bytes[92] = 2;
-    memset(record, 0x5A, sizeof record);
-    check(boe_read(BOE_FROM_VENUE, bytes, sizeof login_response, record, sizeof record) == BOE_BAD_GROUP, "000's bytes: unit 2 three times");
-    check(boe_read(BOE_FROM_VENUE, bytes, sizeof login_response, record, 0) == BOE_BAD_GROUP, "11 comes before 13");
-
-    again(BOE_FROM_VENUE, logout, sizeof logout);
-    memcpy(bytes, logout, sizeof logout);
-    bytes[2] = 0x55;
-    check(boe_read(BOE_FROM_VENUE, bytes, sizeof logout, record, sizeof record) == BOE_BAD_GROUP, "000's length: the pairs do not fit");
-    check(all_are(record, sizeof record, 0x5A), "refusals stored nothing");
-    bytes[2] = 0x59;
-    bytes[10] = '!';
-    check(boe_read(BOE_FROM_VENUE, bytes, sizeof logout, record, sizeof record) == 0, "the reason of a protocol violation");
-    same_body(record, bytes, sizeof logout);
-    check(record[BOE_LOGOUT_REASON_AT] == '!' && memcmp(record + BOE_LOGOUT_TEXT_AT, "User", 5) == 0, "reason and text");
-    check(number_at(record + BOE_LOGOUT_LAST_RECEIVED_NUMBER_AT) == 154196, "its last received number");
-    check(record[BOE_LOGOUT_NUMBER_OF_UNITS_AT] == 3 && record[BOE_LOGOUT_PAIRS_AT + 2 * BOE_PAIR_LEN] == 4, "three units, the last 4");
-}
-
-static void header_alone(uint8_t direction, const uint8_t *message) {
-    uint8_t record[BOE_RECORD_LEN], out[10], bytes[11];
-    again(direction, message, 10);
-    check(boe_read(direction, message, 10, record, sizeof record) == 0, "a message that is its header alone");
-    same_body(record, message, 10);
-    record[BOE_RECORD_LEN - 1] = 1;
-    check(boe_write(direction, record, sizeof record, out, sizeof out) == BOE_NOT_ZERO, "it has no body");
-    check(boe_write(direction, record, sizeof record, out, 0) == BOE_NOT_ZERO, "12 comes before 13");
-    memcpy(bytes, message, 10);
-    bytes[2] = 9;
-    bytes[10] = 0;
-    check(boe_read(direction, bytes, sizeof bytes, record, sizeof record) == BOE_WRONG_TOTAL, "a byte more");
-    bytes[5] = 1;
-    check(boe_read(direction, bytes, sizeof bytes, record, sizeof record) == BOE_BAD_UNIT, "5 comes before 6");
-}
-
-static int same_bytes(const uint8_t *a, const uint8_t *b, size_t n) { return memcmp(a, b, n) == 0; }
-
-/* The day book: the first acknowledgment taken, marks, restart, and each refusal's place and that it changes nothing. */
-static void books(void) {
-    enum { DATE = 20250819, ROOM = 16 + sizeof acknowledgment + 16 };
-    uint8_t buffer[ROOM], state[BOE_BOOK_BYTES + 4], again[sizeof state], held[ROOM], kept[sizeof state];
-    uint8_t message[sizeof acknowledgment + 3];
-    memset(buffer, 0x5A, sizeof buffer);
-    memset(state, 0x5A, sizeof state);
-    check(boe_book_open(20250229, buffer, 0, state, 0) == BOE_NOT_A_DAY, "19 comes before 13");
-    check(boe_book_open(DATE, buffer, BOE_MARK_BYTES - 1, state, sizeof state) == BOE_NO_ROOM, "no room for the first mark");
-    check(boe_book_open(DATE, buffer, sizeof buffer, state, BOE_BOOK_BYTES - 1) == BOE_NO_ROOM, "a short state");
-    check(all_are(buffer, sizeof buffer, 0x5A) && all_are(state, sizeof state, 0x5A), "refusals stored nothing");
-    check(boe_book_open(DATE, buffer, BOE_MARK_BYTES, state, BOE_BOOK_BYTES) == 0, "a book is opened");
-    check(all_are(buffer, 4, 0) && number_at(buffer + 4) == DATE && all_are(buffer + 8, 8, 0), "its first mark");
-    check(all_are(buffer + 16, sizeof buffer - 16, 0x5A), "and no byte more");
-    check(all_are(state + BOE_BOOK_TABLE_AT, BOE_TABLE_BYTES, 0) && number_at(state + BOE_BOOK_DATE_AT) == DATE, "its table and date");
-    check(number_at(state + BOE_BOOK_LENGTH_AT) == 16 && all_are(state + BOE_BOOK_LAST_MARK_AT, 8, 0), "its length, mark and messages");
-    check(all_are(state + BOE_BOOK_BYTES, 4, 0x5A), "bytes past the state stay");
-
-    memcpy(message, acknowledgment, sizeof acknowledgment);
-    memset(message + sizeof acknowledgment, 0x5A, 3);
-    memset(message + 6, 0, 4);
-    memcpy(held, buffer, sizeof buffer);
-    memcpy(kept, state, sizeof state);
-    check(boe_book_append(state, BOE_BOOK_BYTES - 1, message, 0, buffer, sizeof buffer) == BOE_NO_ROOM, "13 for a short state comes first");
-    check(boe_book_append(state, sizeof state, message, 9, buffer, 0) == BOE_INCOMPLETE, "a cut message");
-    check(boe_book_append(state, sizeof state, server_heartbeat, 10, buffer, 0) == BOE_UNKNOWN_TYPE, "a session message");
-    check(boe_book_append(state, sizeof state, message, sizeof message, buffer, 0) == BOE_ALREADY_TAKEN, "number 0");
-    message[6] = 2;
-    check(boe_book_append(state, sizeof state, message, sizeof message, buffer, 0) == BOE_GAP, "number 2, and 15 comes before 13");
-    message[6] = 1;
-    check(boe_book_append(state, sizeof state, message, sizeof message, buffer, 15 + sizeof acknowledgment) == BOE_NO_ROOM, "one byte short");
-    check(boe_book_close(state, BOE_BOOK_BYTES - 1, buffer, sizeof buffer) == BOE_NO_ROOM, "closing with a short state");
-    check(boe_book_close(state, sizeof state, buffer, 31) == 0, "a mark without room");
-    check(same_bytes(buffer, held, sizeof buffer) && same_bytes(state, kept, sizeof state), "changed nothing");
-
-    check(boe_book_append(state, sizeof state, message, sizeof message, buffer, sizeof buffer) == 0, "the first message of its unit");
-    check(same_bytes(buffer + 16, message, sizeof acknowledgment) && all_are(buffer + ROOM - 16, 16, 0x5A), "its bytes, and no byte more");
-    check(entry(state, message[5]) == 1 && number_at(state + BOE_BOOK_MESSAGES_AT) == 1, "the table and the messages");
-    check(number_at(state + BOE_BOOK_LENGTH_AT) == ROOM - 16, "the length");
-    check(boe_book_append(state, sizeof state, message, sizeof message, buffer, sizeof buffer) == BOE_ALREADY_TAKEN, "a message is taken once");
-    check(boe_book_close(state, sizeof state, buffer, sizeof buffer) == 0, "the mark at a session's end");
-    check(number_at(buffer + ROOM - 8) == 1 && number_at(buffer + ROOM - 4) == ROOM - 16, "its messages and its way back");
-    check(number_at(state + BOE_BOOK_LAST_MARK_AT) == ROOM - 16 && number_at(state + BOE_BOOK_LENGTH_AT) == ROOM, "the last mark");
-
-    memset(again, 0x5A, sizeof again);
-    check(boe_restart(DATE, buffer, sizeof buffer, again, BOE_BOOK_BYTES - 1) == BOE_NO_ROOM, "restart with a short state");
-    check(boe_restart(20250229, buffer, 0, again, 0) == BOE_NOT_A_DAY, "no day");
-    check(boe_restart(DATE, buffer, 15, again, 0) == BOE_NO_FIRST_MARK, "22 comes before 13");
-    check(boe_restart(DATE + 1, buffer, sizeof buffer, again, 0) == BOE_OTHER_DATE, "17 comes before 13");
-    buffer[ROOM - 8] = 2;
-    check(boe_restart(DATE, buffer, sizeof buffer, again, 0) == BOE_BAD_BOOK, "18 comes before 13");
-    buffer[ROOM - 8] = 1;
-    check(all_are(again, sizeof again, 0x5A), "refusals stored nothing");
-    check(boe_restart(DATE, buffer, sizeof buffer, again, sizeof again) == 0, "restart");
-    check(same_bytes(again, state, sizeof state), "answers the state that the book was left in");
-    check(boe_restart(DATE, buffer, sizeof buffer - 1, again, BOE_BOOK_BYTES) == 0, "restart on a torn mark");
-    check(number_at(again + BOE_BOOK_LENGTH_AT) == ROOM - 16 && all_are(again + BOE_BOOK_LAST_MARK_AT, 4, 0), "answers the book without it");
-
-    memset(state, 0xFF, sizeof state);
-    memcpy(held, buffer, sizeof buffer);
-    check(boe_book_append(state, sizeof state, message, sizeof message, buffer, sizeof buffer) == BOE_ALREADY_TAKEN, "a state of FF has every number");
-    memset(state, 0, BOE_TABLE_BYTES);
-    check(boe_book_append(state, sizeof state, message, sizeof message, buffer, sizeof buffer) == BOE_NO_ROOM, "and no room");
-    memcpy(kept, state, sizeof state);
-    check(boe_book_close(state, sizeof state, buffer, sizeof buffer) == 0, "nor room for a mark");
-    check(same_bytes(buffer, held, sizeof buffer) && same_bytes(state, kept, sizeof state), "changed nothing");
-}
-
-/* ---- the stored questions */
-
-static int nibble(int c) {
-    if (c >= '0' && c <= '9') return c - '0';
-    if (c >= 'A' && c <= 'F') return c - 'A' + 10;
-    return -1;
-}
-
-/* The bytes of a word, or -1 where it is none. */
-static long unhex(const char *word, uint8_t *out) {
-    size_t n = strlen(word);
-    if (strcmp(word, "-") == 0) return 0;
-    if (n == 0 || n % 2 || n / 2 > MOST_BYTES) return -1;
-    for (size_t i = 0; i < n; i += 2) {
-        int high = nibble(word[i]), low = nibble(word[i + 1]);
-        if (high < 0 || low < 0) return -1;
-        out[i / 2] = (uint8_t)(high * 16 + low);
-    }
-    return (long)(n / 2);
-}
-
-static void tohex(const uint8_t *bytes, long n, char *out) {
-    static const char digits[] = "0123456789ABCDEF";
-    if (n == 0) *out++ = '-';
-    for (long i = 0; i < n; i++) {
-        *out++ = digits[bytes[i] / 16];
-        *out++ = digits[bytes[i] % 16];
-    }
-    *out = 0;
-}
-
-/* A book restarted for a date, in a buffer with `room` bytes FF after it. */
-static unsigned restarted(const char *date, const uint8_t *book, size_t n, uint8_t *state, uint8_t *buffer, size_t room) {
-    memcpy(buffer, book, n);
-    memset(buffer + n, 0xFF, room);
-    memset(state, 0x5A, BOE_BOOK_BYTES);
-    return boe_restart((uint32_t)strtoul(date, NULL, 10), buffer, n, state, BOE_BOOK_BYTES);
-}
-
-/* What the C entry points answer to a question on the day book, or 0 where it is none. */
-static int book_answer(const char *call, const char *date, const char *book, const char *third, const char *fourth, char *out) {
-    static uint8_t bytes[MOST_BYTES], given[MOST_BYTES], buffer[2 * MOST_BYTES];
-    static char hex[2 * MOST_BYTES + 2];
-    uint8_t state[BOE_BOOK_BYTES];
-    long n = book ? unhex(book, bytes) : -1;
-    size_t room = third ? strtoul(third, NULL, 10) : 0;
-    if (n < 0 || (size_t)n + room > MOST_BYTES) return 0;
-    size_t end = (size_t)n + room;
-    if (strcmp(call, "open") == 0 && !third) {
-        unsigned refusal = boe_book_open((uint32_t)strtoul(date, NULL, 10), bytes, (size_t)n, state, sizeof state);
-        tohex(bytes, n, hex);
-        sprintf(out, "%u %s", refusal, hex);
-        return 1;
-    }
-    if (strcmp(call, "restart") == 0 && !third) {
-        unsigned refusal = restarted(date, bytes, (size_t)n, state, buffer, 0);
-        tohex(state, BOE_TABLE_BYTES, hex);
-        if (refusal)
-            sprintf(out, all_are(state, sizeof state, 0x5A) ? "%u" : "a refused restart has stored: %u", refusal);
-        else
-            sprintf(out, "0 %lu %lu %lu %s", (unsigned long)number_at(state + BOE_BOOK_LENGTH_AT), (unsigned long)number_at(state + BOE_BOOK_LAST_MARK_AT),
-                    (unsigned long)number_at(state + BOE_BOOK_MESSAGES_AT), hex);
-        return 1;
-    }
-    if (strcmp(call, "append") == 0 && fourth) {
-        long k = unhex(fourth, given);
-        if (k < 0) return 0;
-        unsigned refusal = restarted(date, bytes, (size_t)n, state, buffer, room);
-        if (refusal) return sprintf(out, "%u", refusal);
-        refusal = boe_book_append(state, sizeof state, given, (size_t)k, buffer, end);
-        tohex(buffer, (long)end, hex);
-        sprintf(out, "0 %u %lu %s", refusal, (unsigned long)number_at(state + BOE_BOOK_LENGTH_AT), hex);
-        return 1;
-    }
-    if (strcmp(call, "close") == 0 && third && !fourth) {
-        unsigned refusal = restarted(date, bytes, (size_t)n, state, buffer, room);
-        if (refusal) return sprintf(out, "%u", refusal);
-        refusal = boe_book_close(state, sizeof state, buffer, end);
-        tohex(buffer, (long)end, hex);
-        sprintf(out, "%u %lu %s", refusal, (unsigned long)number_at(state + BOE_BOOK_LENGTH_AT), hex);
-        return 1;
-    }
-    return 0;
-}
-
-/* What the C entry points answer to a question, or 0 where they answer no such question. */
-static int answer(char *question, char *out) {
-    static uint8_t bytes[MOST_BYTES];
-    static char hex[2 * MOST_BYTES + 2];
-    char *call = strtok(question, " "), *first = strtok(NULL, " "), *second = strtok(NULL, " "), *third = strtok(NULL, " ");
-    char *fourth = strtok(NULL, " ");
-    if (!call || !first || (fourth && strtok(NULL, " "))) return 0;
-    if (book_answer(call, first, second, third, fourth, out)) return 1;
-    if (strcmp(call, "frame") == 0) {
-        long n = unhex(first, bytes);
-        if (n < 0 || second) return 0;
-        size_t total = boe_frame_length(bytes, (size_t)n);
-        unsigned refusal = boe_frame_refusal(bytes, (size_t)n);
-        if (refusal == 0)
-            sprintf(out, "0 %zu %u %u %lu", total, bytes[4], bytes[5], (unsigned long)number_at(bytes + 6));
-        else
-            sprintf(out, total == 0 ? "%u" : "a refused message has a length: %u", refusal);
-        return 1;
-    }
-    if (strcmp(call, "step") == 0 && second && third && !fourth) {
-        long n = unhex(first, bytes);
-        if (n < 0) return 0;
-        unsigned refusal = boe_table_step(bytes, (size_t)n, (uint8_t)atoi(second), (uint32_t)strtoul(third, NULL, 10));
-        tohex(bytes, n, hex);
-        sprintf(out, "%u %s", refusal, hex);
-        return 1;
-    }
-    if (strcmp(call, "read") == 0 && second && !third) {
-        uint8_t record[BOE_RECORD_LEN + 1];
-        long n = unhex(second, bytes);
-        if (n < 0) return 0;
-        memset(record, 0x5A, sizeof record);
-        unsigned refusal = boe_read((uint8_t)atoi(first), bytes, (size_t)n, record, sizeof record);
-        size_t own = refusal ? 0 : record_len(record[BOE_RECORD_TYPE_AT]);
-        if (!all_are(record + own, sizeof record - own, 0x5A)) {
-            sprintf(out, "bytes past the record have changed: %u", refusal);
-        } else if (refusal) {
-            sprintf(out, "%u", refusal);
-        } else {
-            tohex(record, (long)own, hex);
-            sprintf(out, "0 %s", hex);
-        }
-        return 1;
-    }
-    if (strcmp(call, "write") == 0 && second && third && !fourth) {
-        static uint8_t given[MOST_BYTES];
-        long k = unhex(second, given), n = unhex(third, bytes);
-        if (k < 0 || n < 0) return 0;
-        unsigned refusal = boe_write((uint8_t)atoi(first), given, (size_t)k, bytes, (size_t)n);
-        tohex(bytes, n, hex);
-        sprintf(out, "%u %s", refusal, hex);
-        return 1;
-    }
-    return 0;
-}
-
-static void stored(FILE *questions, FILE *answers) {
-    static char question[LONGEST], expected[LONGEST + 8], got[LONGEST + 8];
-    unsigned long line = 0, asked = 0;
-    while (fgets(question, sizeof question, questions)) {
-        line++;
-        if (!fgets(expected, sizeof expected, answers)) {
-            check(0, "fewer answers than questions");
-            return;
-        }
-        question[strcspn(question, "\n")] = 0;
-        expected[strcspn(expected, "\n")] = 0;
-        if (strcmp(expected, "?") == 0 || !answer(question, got)) continue;
-        asked++;
-        checks++;
-        if (strcmp(got, expected) != 0) {
-            failures++;
-            printf("test_gateway: FAILED: line %lu: expected %.80s, got %.80s\n", line, expected, got);
-        }
-    }
-    check(fgets(expected, sizeof expected, answers) == NULL, "more answers than questions");
-    check(asked > 45000, "the stored questions were asked, those on the day book too");
 }
 
 int main(int argc, char **argv) {
@@ -513,15 +58,8 @@ int main(int argc, char **argv) {
         perror("test_gateway");
         return 2;
     }
-    framing();
-    steps();
-    messages();
-    logins();
-    header_alone(BOE_FROM_MEMBER, client_heartbeat);
-    header_alone(BOE_FROM_VENUE, server_heartbeat);
-    header_alone(BOE_FROM_VENUE, replay_complete);
-    books();
-    stored(questions, answers);
+    hand_made_cases();
+    stored_questions(questions, answers);
     printf("test_gateway: %lu checks, %lu failed\n", checks, failures);
     return failures == 0 ? 0 : 1;
 }

@@ -1,0 +1,165 @@
+/* The stored questions that a C entry point answers. */
+#include "test_gateway.h"
+
+#include <stdlib.h>
+#include <string.h>
+
+enum { LONGEST = 13000, MOST_BYTES = 6200 };
+
+static int nibble(int c) {
+    if (c >= '0' && c <= '9') return c - '0';
+    if (c >= 'A' && c <= 'F') return c - 'A' + 10;
+    return -1;
+}
+
+/* The bytes of a word, or -1 where it is none. */
+static long unhex(const char *word, uint8_t *out) {
+    size_t n = strlen(word);
+    if (strcmp(word, "-") == 0) return 0;
+    if (n == 0 || n % 2 || n / 2 > MOST_BYTES) return -1;
+    for (size_t i = 0; i < n; i += 2) {
+        int high = nibble(word[i]), low = nibble(word[i + 1]);
+        if (high < 0 || low < 0) return -1;
+        out[i / 2] = (uint8_t)(high * 16 + low);
+    }
+    return (long)(n / 2);
+}
+
+static void tohex(const uint8_t *bytes, long n, char *out) {
+    static const char digits[] = "0123456789ABCDEF";
+    if (n == 0) *out++ = '-';
+    for (long i = 0; i < n; i++) {
+        *out++ = digits[bytes[i] / 16];
+        *out++ = digits[bytes[i] % 16];
+    }
+    *out = 0;
+}
+
+/* A book restarted for a date, in a buffer with `room` bytes FF after it. */
+static unsigned restarted(const char *date, const uint8_t *book, size_t n, uint8_t *state, uint8_t *buffer, size_t room) {
+    memcpy(buffer, book, n);
+    memset(buffer + n, 0xFF, room);
+    memset(state, 0x5A, BOE_BOOK_BYTES);
+    return boe_restart((uint32_t)strtoul(date, NULL, 10), buffer, n, state, BOE_BOOK_BYTES);
+}
+
+/* What the C entry points answer to a question on the day book, or 0 where it is none. */
+static int book_answer(const char *call, const char *date, const char *book, const char *third, const char *fourth, char *out) {
+    static uint8_t bytes[MOST_BYTES], given[MOST_BYTES], buffer[2 * MOST_BYTES];
+    static char hex[2 * MOST_BYTES + 2];
+    uint8_t state[BOE_BOOK_BYTES];
+    long n = book ? unhex(book, bytes) : -1;
+    size_t room = third ? strtoul(third, NULL, 10) : 0;
+    if (n < 0 || (size_t)n + room > MOST_BYTES) return 0;
+    size_t end = (size_t)n + room;
+    if (strcmp(call, "open") == 0 && !third) {
+        unsigned refusal = boe_book_open((uint32_t)strtoul(date, NULL, 10), bytes, (size_t)n, state, sizeof state);
+        tohex(bytes, n, hex);
+        sprintf(out, "%u %s", refusal, hex);
+        return 1;
+    }
+    if (strcmp(call, "restart") == 0 && !third) {
+        unsigned refusal = restarted(date, bytes, (size_t)n, state, buffer, 0);
+        tohex(state, BOE_TABLE_BYTES, hex);
+        if (refusal)
+            sprintf(out, all_are(state, sizeof state, 0x5A) ? "%u" : "a refused restart has stored: %u", refusal);
+        else
+            sprintf(out, "0 %lu %lu %lu %s", (unsigned long)number_at(state + BOE_BOOK_LENGTH_AT), (unsigned long)number_at(state + BOE_BOOK_LAST_MARK_AT),
+                    (unsigned long)number_at(state + BOE_BOOK_MESSAGES_AT), hex);
+        return 1;
+    }
+    if (strcmp(call, "append") == 0 && fourth) {
+        long k = unhex(fourth, given);
+        if (k < 0) return 0;
+        unsigned refusal = restarted(date, bytes, (size_t)n, state, buffer, room);
+        if (refusal) return sprintf(out, "%u", refusal);
+        refusal = boe_book_append(state, sizeof state, given, (size_t)k, buffer, end);
+        tohex(buffer, (long)end, hex);
+        sprintf(out, "0 %u %lu %s", refusal, (unsigned long)number_at(state + BOE_BOOK_LENGTH_AT), hex);
+        return 1;
+    }
+    if (strcmp(call, "close") == 0 && third && !fourth) {
+        unsigned refusal = restarted(date, bytes, (size_t)n, state, buffer, room);
+        if (refusal) return sprintf(out, "%u", refusal);
+        refusal = boe_book_close(state, sizeof state, buffer, end);
+        tohex(buffer, (long)end, hex);
+        sprintf(out, "%u %lu %s", refusal, (unsigned long)number_at(state + BOE_BOOK_LENGTH_AT), hex);
+        return 1;
+    }
+    return 0;
+}
+
+/* What the C entry points answer to a question, or 0 where they answer no such question. */
+static int answer(char *question, char *out) {
+    static uint8_t bytes[MOST_BYTES];
+    static char hex[2 * MOST_BYTES + 2];
+    char *call = strtok(question, " "), *first = strtok(NULL, " "), *second = strtok(NULL, " "), *third = strtok(NULL, " ");
+    char *fourth = strtok(NULL, " ");
+    if (!call || !first || (fourth && strtok(NULL, " "))) return 0;
+    if (book_answer(call, first, second, third, fourth, out)) return 1;
+    if (strcmp(call, "frame") == 0) {
+        long n = unhex(first, bytes);
+        if (n < 0 || second) return 0;
+        size_t total = boe_frame_length(bytes, (size_t)n);
+        unsigned refusal = boe_frame_refusal(bytes, (size_t)n);
+        if (refusal == 0)
+            sprintf(out, "0 %zu %u %u %lu", total, bytes[4], bytes[5], (unsigned long)number_at(bytes + 6));
+        else
+            sprintf(out, total == 0 ? "%u" : "a refused message has a length: %u", refusal);
+        return 1;
+    }
+    if (strcmp(call, "step") == 0 && second && third && !fourth) {
+        long n = unhex(first, bytes);
+        if (n < 0) return 0;
+        unsigned refusal = boe_table_step(bytes, (size_t)n, (uint8_t)atoi(second), (uint32_t)strtoul(third, NULL, 10));
+        tohex(bytes, n, hex);
+        sprintf(out, "%u %s", refusal, hex);
+        return 1;
+    }
+    if (strcmp(call, "read") == 0 && second && !third) {
+        uint8_t record[BOE_RECORD_LEN + 1];
+        long n = unhex(second, bytes);
+        if (n < 0) return 0;
+        memset(record, 0x5A, sizeof record);
+        unsigned refusal = boe_read((uint8_t)atoi(first), bytes, (size_t)n, record, sizeof record);
+        size_t own = refusal ? 0 : record_len(record[BOE_RECORD_TYPE_AT]);
+        if (!all_are(record + own, sizeof record - own, 0x5A)) {
+            sprintf(out, "bytes past the record have changed: %u", refusal);
+        } else if (refusal) {
+            sprintf(out, "%u", refusal);
+        } else {
+            tohex(record, (long)own, hex);
+            sprintf(out, "0 %s", hex);
+        }
+        return 1;
+    }
+    if (strcmp(call, "write") == 0 && second && third && !fourth) {
+        static uint8_t given[MOST_BYTES];
+        long k = unhex(second, given), n = unhex(third, bytes);
+        if (k < 0 || n < 0) return 0;
+        unsigned refusal = boe_write((uint8_t)atoi(first), given, (size_t)k, bytes, (size_t)n);
+        tohex(bytes, n, hex);
+        sprintf(out, "%u %s", refusal, hex);
+        return 1;
+    }
+    return 0;
+}
+
+void stored_questions(FILE *questions, FILE *answers) {
+    static char question[LONGEST], expected[LONGEST + 8], got[LONGEST + 8];
+    unsigned long line = 0, asked = 0;
+    while (fgets(question, sizeof question, questions)) {
+        line++;
+        if (!fgets(expected, sizeof expected, answers)) {
+            check(0, "fewer answers than questions");
+            return;
+        }
+        question[strcspn(question, "\n")] = 0;
+        expected[strcspn(expected, "\n")] = 0;
+        if (strcmp(expected, "?") == 0 || !answer(question, got)) continue;
+        asked++;
+        check_answer(line, expected, got);
+    }
+    check(fgets(expected, sizeof expected, answers) == NULL, "more answers than questions");
+    check(asked > 45000, "the stored questions were asked, those on the day book too");
+}
