@@ -4,6 +4,7 @@ mod damage;
 mod faults;
 mod read;
 pub mod sample;
+mod texts;
 mod write;
 
 pub fn ask(lines: &mut Vec<String>) {

@@ -2,9 +2,8 @@
 
 use super::damage;
 use crate::questions::parts::Parts;
-use crate::questions::values::{full_value, some_number, some_value, textual};
+use crate::questions::values::{full_value, some_number, some_value};
 use crate::random::Random;
-use crate::rules::kinds::Kind;
 use crate::rules::layout::{self, Layout, Listed, Rule};
 use crate::rules::record::LENT;
 
@@ -257,48 +256,6 @@ fn set(bitfields: &mut Vec<u8>, byte: usize, bit: u8) {
     bitfields[byte - 1] |= bit;
 }
 
-/// A sample that has a text field, selected if it is optional.
-pub struct Text {
-    pub sample: Sample,
-    pub name: &'static str,
-    pub kind: Kind,
-    pub never_blank: bool,
-}
-
-/// One for each text field of a message.
-pub fn texts(random: &mut Random, which: usize) -> Vec<Text> {
-    let layout = &layout::ALL[which];
-    let mut texts = Vec::new();
-    for field in layout.fixed {
-        let (kind, never_blank) = match field.rule {
-            Rule::Any(kind) => (kind, false),
-            Rule::Filled(kind) => (kind, true),
-            Rule::Quantity => (Kind::Binary, true),
-        };
-        if textual(kind) {
-            texts.push(Text {
-                sample: Sample::least(random, which),
-                name: field.name,
-                kind,
-                never_blank,
-            });
-        }
-    }
-    for field in layout.listed {
-        if textual(field.kind) {
-            let mut sample = Sample::least(random, which);
-            sample.set_bit(field.byte, field.bit);
-            texts.push(Text {
-                sample,
-                name: field.name,
-                kind: field.kind,
-                never_blank: false,
-            });
-        }
-    }
-    texts
-}
-
 /// The field that every message has and that is never blank.
 pub fn identifier(which: usize) -> &'static str {
     if which == CANCEL {
@@ -330,7 +287,7 @@ fn quantity(random: &mut Random) -> Vec<u8> {
 mod tests {
     use super::*;
     use crate::questions::judged;
-    use crate::rules::{kinds, read};
+    use crate::rules::read;
     use std::collections::BTreeSet;
 
     #[test]
@@ -349,24 +306,6 @@ mod tests {
             let (byte, bit) = unlisted_bit(which);
             let listed = layout::ALL[which].listed_bits(byte);
             assert!(listed != 0 && listed & bit == 0);
-        }
-    }
-
-    #[test]
-    fn text_fields() {
-        let mut random = Random::new(99);
-        let counts: Vec<usize> = (0..4)
-            .map(|which| texts(&mut random, which).len())
-            .collect();
-        assert_eq!(counts, [16, 2, 11, 14]);
-        for which in 0..4 {
-            for mut text in texts(&mut random, which) {
-                let full = text.sample.value(text.name).clone();
-                assert!(kinds::filled(text.kind, &full), "{}", text.name);
-                let message = text.sample.bytes();
-                let found = message.windows(full.len()).any(|part| part == full);
-                assert!(found, "{}", text.name);
-            }
         }
     }
 

@@ -4,9 +4,8 @@ mod order;
 mod unused;
 
 use super::read;
-use super::sample::{
-    texts, Sample, ACKNOWLEDGMENT, CANCEL, COUNT_PLACE, EXECUTION, NEW_ORDER, SIZE,
-};
+use super::sample::{Sample, ACKNOWLEDGMENT, CANCEL, COUNT_PLACE, EXECUTION, NEW_ORDER, SIZE};
+use super::texts::texts;
 use crate::questions::parts::Parts;
 use crate::questions::values::bad_bytes;
 use crate::questions::writing::{self, add, line, pattern};

@@ -148,5 +148,5 @@ const EXECUTION_FIXED: &[Fixed] = &[
 /// execution.
 const EXECUTION_LISTED: &[Listed] = match ACKNOWLEDGMENT_LISTED {
     [listed @ .., _leaves_qty, _last_shares, _last_px, _expire_time] => listed,
-    _ => &[],
+    _ => panic!("the acknowledgment has these four and others"),
 };

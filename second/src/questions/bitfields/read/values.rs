@@ -1,8 +1,7 @@
 //! Values of fields.
 
-use crate::questions::bitfields::sample::{
-    texts, Sample, ACKNOWLEDGMENT, CANCEL, EXECUTION, NEW_ORDER,
-};
+use crate::questions::bitfields::sample::{Sample, ACKNOWLEDGMENT, CANCEL, EXECUTION, NEW_ORDER};
+use crate::questions::bitfields::texts::texts;
 use crate::questions::reading::{add, Asked};
 use crate::questions::values::{bad_bytes, end_bytes, textual};
 use crate::random::Random;

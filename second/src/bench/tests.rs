@@ -1,0 +1,175 @@
+use super::*;
+use crate::ask;
+use crate::examples;
+
+/// Questions on one bench, each with its answer.
+fn check(script: &[(&str, &str)]) {
+    let mut bench = Bench::new();
+    for (question, expected) in script {
+        let answer = ask::answer_on(&mut bench, question.as_bytes());
+        assert_eq!(answer, *expected, "{}", question);
+    }
+}
+
+const MARK: &str = "00000000C30035010000000000000000";
+
+fn zeros(count: usize) -> String {
+    "00".repeat(count)
+}
+
+fn login(choice: &str, room: usize) -> String {
+    let (units, names) = (zeros(32), "303030315445535454455354494E47000000");
+    let none = format!("0 0 {}", zeros(15));
+    format!(
+        "m-login {} {} {} {} {} {}",
+        choice, units, names, none, none, room
+    )
+}
+
+/// A day of one message: opening, login, replay, an order, a break, and restart on a cut.
+#[test]
+fn small_day() {
+    let message = hex::write(&examples::booked_acknowledgment());
+    let request = format!(
+        "BABA1B003700000000003030303154455354{}",
+        "54455354494E4700000000"
+    );
+    let mut pairs = String::new();
+    for unit in 1..=32 {
+        let number = if unit == 1 { "01" } else { "00" };
+        pairs.push_str(&format!("{:02X}{}000000", unit, number));
+    }
+    let text = format!("4163636570746564{}", zeros(52));
+    let body = format!("41{}000000000020{}00", text, pairs);
+    let response = format!("BABAEC0024{}{}", zeros(5), body);
+    let record =
+        hex::write(&crate::rules::read::message(0, &examples::cancel_without_bitfields()).unwrap());
+    let order = hex::write(&examples::cancel_without_bitfields()).replace("64000000", "01000000");
+    let table = format!("01{}", zeros(127));
+    check(&[
+        ("m-book", &format!("- {}", zeros(128))),
+        ("v-book", &format!("- {}", zeros(128))),
+        ("m-open 20250819 200", "0 0 0 20250819 16 0 0 0"),
+        (&format!("v-log {} 100", message), "0 0 0 0 0 57 0 0 1"),
+        (
+            &login("2 0 0", 30),
+            &format!("0 1 0 20250819 16 0 0 0 {}FF", request),
+        ),
+        (
+            &format!("v-login {} 239", request),
+            &format!("0 1 0 0 57 57 0 0 1 {}FF", response),
+        ),
+        (
+            &format!("m-get {} 200", response),
+            "0 2 0 20250819 16 0 0 0",
+        ),
+        (
+            "v-step 56 58",
+            &format!("0 1 0 0 57 57 0 0 1 {}", "FF".repeat(58)),
+        ),
+        (
+            "v-step 57 58",
+            &format!("0 1 0 57 57 57 0 0 1 {}FF", message),
+        ),
+        (&format!("m-get {} 200", message), "0 2 0 20250819 73 0 1 1"),
+        ("v-step 57 10", "0 1 1 57 57 57 0 0 1 BABA0800130000000000"),
+        (
+            "v-step 57 10",
+            &format!("0 1 1 57 57 57 0 0 1 {}", "FF".repeat(10)),
+        ),
+        ("m-get BABA0800130000000000 0", "0 3 0 20250819 73 0 1 1"),
+        (
+            &format!("m-order {} 31", record),
+            &format!("0 3 1 20250819 73 0 1 1 {}", order),
+        ),
+        (&format!("v-order {}", order), "0 1 1 57 57 57 1 0 1"),
+        (&format!("v-order {}", order), "21 1 1 57 57 57 1 0 1"),
+        ("m-beat 10", "0 3 1 20250819 73 0 1 1 BABA0800030000000000"),
+        ("v-order BABA0800030000000000", "0 1 1 57 57 57 1 0 1"),
+        ("m-break 88", "0 1 20250819 73 0 1 1"),
+        ("v-break", "0 0 0 0 57 1 0 1"),
+        ("m-beat 0", "16 0 1 20250819 73 0 1 1 -"),
+        ("m-book", &format!("{}{} {}", MARK, message, table)),
+        ("v-book", &format!("{} {}", message, table)),
+        ("m-restart 20250819 72", "0 0 0 20250819 16 0 0 0"),
+        ("m-restart 20250819 73", "0 0 0 20250819 73 0 1 1"),
+        ("m-restart 20250819 74", "18 0 0 20250819 73 0 1 1"),
+        ("new", "0"),
+        ("m-restart 20250819 16", "18 0 0 0 0 0 0 0"),
+    ]);
+}
+
+/// States of any numbers; the sums pass 32 bits.
+#[test]
+fn states() {
+    let full = "FF".repeat(128);
+    let state =
+        |phase: &str, table: &str| format!("m-state {} 4294967295 1 2 3 4 {}", phase, table);
+    let sum = "137438953440";
+    check(&[
+        (&state("3", &full), &format!("3 4294967295 1 2 3 4 {}", sum)),
+        (&state("4", &full), "?"),
+        (&state("0", &full[2..]), "?"),
+        (&state("0", "-"), "?"),
+        ("m-break 100", &format!("0 4294967295 1 2 3 4 {}", sum)),
+        (
+            &format!("v-state 1 1 4294967295 5 6 7 {} {}", full, zeros(128)),
+            &format!("1 1 4294967295 5 6 7 {} 0", sum),
+        ),
+        (&format!("v-state 2 1 1 5 6 7 {} {}", full, full), "?"),
+        (&format!("v-state 1 2 1 5 6 7 {} {}", full, full), "?"),
+        (&format!("v-state 1 1 1 5 6 7 {} {}00", full, full), "?"),
+        ("v-break", "0 0 0 0 6 7 0 0"),
+    ]);
+}
+
+/// Counts, and what of a login plays a part.
+#[test]
+fn logins() {
+    let refused = |choice: &str, number: &str| {
+        let answer = ask::answer(login(choice, 0).as_bytes());
+        assert_eq!(answer, format!("{} 0 0 0 0 0 0 0 -", number), "{}", choice);
+    };
+    refused("0 2 255", "13");
+    refused("2 2 255", "13");
+    refused("255 0 0", "13");
+    refused("1 0 0", "13");
+    refused("1 2 0", "11");
+    refused("1 0 33", "11");
+    refused("1 0 1", "11");
+    assert_eq!(ask::answer(login("1 256 0", 0).as_bytes()), "?");
+    assert_eq!(ask::answer(login("256 0 0", 0).as_bytes()), "?");
+    assert_eq!(ask::answer(login("0 0 0", 601).as_bytes()), "?");
+}
+
+#[test]
+fn outside_the_format() {
+    for line in [
+        "new ",
+        "new 0",
+        "m-open 20250819",
+        "m-open 20250819 16385",
+        "m-restart 4294967296 0",
+        "m-restart 0 16385",
+        "m-get - 16385",
+        "m-get -",
+        "m-order - 2101",
+        "m-beat",
+        "m-beat 16385",
+        "m-break",
+        "m-break 16385",
+        "m-book 0",
+        "m-",
+        "v-log - 16385",
+        "v-login - 601",
+        "v-step 0",
+        "v-step 16385 0",
+        "v-step 0 2101",
+        "v-order",
+        "v-break 0",
+        "v-book -",
+        "v-open 20250819 16",
+    ] {
+        check(&[(line, "?")]);
+    }
+}
