@@ -71,8 +71,8 @@ impl More {
         }
     }
 
-    /// One time in nine six questions of a day book, three times four of the session, else four of a
-    /// message with bitfields.
+    /// One time in nine six questions of a day book, three times four of the session, else four of
+    /// a message with bitfields.
     fn group(&mut self) {
         match self.random.below(9) {
             0 => self.waiting.extend(book::group(&mut self.random)),

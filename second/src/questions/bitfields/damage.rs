@@ -1,5 +1,5 @@
-//! Damaged messages with bitfields and damaged records of them: one to three strokes, each of a kind
-//! that some rule looks at.
+//! Damaged messages with bitfields and damaged records of them: one to three strokes, each of a
+//! kind that some rule looks at.
 
 use super::sample::{Sample, BITFIELDS_PLACE, COUNT_PLACE, FIXED_PLACE, SIZE, SLOTS_PLACE};
 use crate::questions::parts::{measure, Parts};

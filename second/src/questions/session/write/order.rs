@@ -34,8 +34,8 @@ fn faulty(random: &mut Random, which: usize, faults: u8) -> (u8, Vec<u8>, Vec<u8
     (direction, record, pattern(random, room))
 }
 
-/// The sets of faults that a record can have: one whose message has lists has no 12, the others have
-/// neither 10 nor 11.
+/// The sets of faults that a record can have: one whose message has lists has no 12, the others
+/// have neither 10 nor 11.
 fn sets(which: usize) -> Vec<u8> {
     let never: &[u8] = match LISTED.contains(&which) {
         true => &[12],
