@@ -10,7 +10,7 @@ use lib.ListN.{length, getD}
 use borrow.Author.Tests.{not-true, eqb-true, eq-eqb, ne-eqb}
 use Rattle.kinds.specs.declared.Kind.{Kind}
 use Rattle.kinds.specs.declared.Kind.the-variants.{Letters, Alphanumeric, Text, Identifier, Binary, Price}
-use Rattle.kinds.specs.Kinds.{allowed, allNul, allAllowed, agreesText, agreesOf, agreesFilledOf, follows, steady}
+use Rattle.kinds.specs.Kinds.{allowed, allNul, allAllowed, agreesText, agreesOf, agreesFilledOf, steady}
 
 first-holds : (t u v : Bool) → t && u ≡ true → cond t u v ≡ true
 first-holds true u v h = h

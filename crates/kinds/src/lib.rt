@@ -21,6 +21,7 @@ fn both(a: bool, b: bool) -> bool
     if a { b } else { false }
 }
 
+// Whether a byte lies from one byte to another, both included.
 fn is_within(low: u8, high: u8, b: u8) -> bool
     ensures { λ r. ⌜ r ≡ within low high b ⌝ }
 {
