@@ -1,16 +1,15 @@
 -- The two halves of 64 bits, read with a sign and written again.
 -- Assumes nothing.
 use mathlib.Core.Path.{_≡_, refl, sym, ap, _∙_}
-use mathlib.Core.Bool.{true, false, true≢false, false≢true}
-use Prim.Native.Nat.{ℕ, suc, _+_, _-_, _^_, _≤_, _<_}
+use mathlib.Core.Bool.{true, false, true≢false}
+use Prim.Native.Nat.{ℕ, suc, _+_, _-_, _≤_, _<_}
 use native.Mathlib.Omega.{arith}
 use lib.Dec.{T}
 use lib.IntN.{ℤ, pos, negsuc, natAbs, _+ℤ_, _-ℤ_}
 use lib.Signed.{leZ, nonNeg}
 use borrow.Author.Tests.{lt-ltb, le-ltb, le-leb}
 use mir.Syntax.{w64}
-use mir.Val.{toZ, ofZ, Fits, SFits}
-use mir.Facts.{toZ-ofZ}
+use mir.Val.{toZ, Fits, SFits}
 use Rattle.numbers.specs.Prices.{bitsOf}
 
 -- the upper half: its place above 2 ^ 63, less 2 ^ 63

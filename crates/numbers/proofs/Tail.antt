@@ -1,7 +1,7 @@
 -- A number put into the front of a lent tail, and the tail back in its place: one law for every width.
 -- Assumes nothing.
 use mathlib.Core.Path.{_≡_, refl, sym, ap, ap₂, _∙_}
-use mathlib.Core.List.{List, [], _∷_, _++_, append-assoc, append-nil}
+use mathlib.Core.List.{List, [], _∷_, _++_, append-nil}
 use Prim.Native.Nat.{ℕ, _+_, _-_, _≤_, _<_}
 use native.Mathlib.Omega.{arith}
 use mathlib.Core.Logic.{_⊎_, inl, inr, ⊎-elim}
@@ -9,7 +9,7 @@ use mathlib.Core.Bool.{Bool, true, false}
 use lib.Dec.{leb}
 use lib.ListN.{length, take, drop, set, length-drop, take-append-drop, drop-of-length-le}
 use lib.Seq.{sets, take-all, drop-drop}
-use borrow.Author.Tests.{le-leb, lt-leb, leb-true, leb-false}
+use borrow.Author.Tests.{leb-true, leb-false}
 use Rattle.numbers.specs.Numbers.{patched, putRefusal, putBuffer}
 use Rattle.numbers.specs.NumberLaws.{put-takes, put-stores, put-refuses, put-keeps, stores-are, patched-length, patched-join}
 

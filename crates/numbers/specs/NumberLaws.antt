@@ -7,8 +7,8 @@ use native.Mathlib.Nat.{le-of-suc-le-suc, not-suc-le-zero, suc-add, zero-add, po
 use native.Mathlib.Omega.{arith}
 use lib.ListN.{length, getD, take, drop, length-append, length-drop, drop-of-length-le, List·getD-eq-default, List·getD-append}
 use lib.Dec.{leb}
-use lib.Seq.{getD-append-add, getD-take, getD-drop, sets, sets-eq, take-at, take-all, drop-drop, drop-append-add, length-take-le}
-use borrow.Author.Tests.{le-leb, lt-leb, leb-true, leb-false}
+use lib.Seq.{getD-append-add, getD-take, getD-drop, sets, sets-eq, take-at, drop-at, drop-drop, drop-append-add, length-take-le}
+use borrow.Author.Tests.{le-leb, lt-leb, leb-true}
 use Rattle.refusals.specs.Names.{noRoom}
 use Rattle.numbers.specs.Numbers.{numberAt, bytesOf, patched, putRefusal, putBuffer}
 
@@ -71,6 +71,19 @@ number-split (suc m) n i s =
     sum-of : (p a b c : ℕ) → a + 256 * (b + p * c) ≡ a + 256 * b + p * 256 * c
     sum-of p a b c = rw (mul-add 256 b (p * c), mul-comm p 256, mul-assoc 256 p c) (omega arith)
 
+-- ---- parts of bytes
+
+-- the first of bytes are bytes
+pub bytes-first : (n : ℕ) (s : List ℕ) → ((i : ℕ) → getD s i 0 < 256) → (i : ℕ) → getD (take n s) i 0 < 256
+bytes-first zero s bs i = omega arith
+bytes-first (suc n) [] bs i = omega arith
+bytes-first (suc n) (x ∷ s) bs zero = bs 0
+bytes-first (suc n) (x ∷ s) bs (suc i) = bytes-first n s (λ j. bs (suc j)) i
+
+-- and so are the later ones
+pub bytes-later : (k : ℕ) (s : List ℕ) → ((i : ℕ) → getD s i 0 < 256) → (i : ℕ) → getD (drop k s) i 0 < 256
+bytes-later k s bs i = rw (getD-drop k s i 0) (bs (k + i))
+
 -- ---- bytes put into a buffer
 
 module _ (xs : List ℕ) (i : ℕ) (a : List ℕ) (fits : i + length a ≤ length xs) where
@@ -107,6 +120,12 @@ module _ (xs : List ℕ) (i : ℕ) (a : List ℕ) (fits : i + length a ≤ lengt
   patched-take =
       ap (take (i + length a)) (sym (append-assoc (take i xs) a (drop (i + length a) xs)))
       ∙ take-at (take i xs ++ a) (drop (i + length a) xs) (i + length a) head-length
+
+-- bytes that are put are there
+pub put-is-there : (xs : List ℕ) (p : ℕ) (bs : List ℕ) (w : ℕ) → length bs ≡ w → p + length bs ≤ length xs → take w (drop p (patched xs p bs)) ≡ bs
+unfolding patched
+put-is-there xs p bs w l h =
+    ap (take w) (drop-at (take p xs) (bs ++ drop (p + length bs) xs) p (length-take-le p xs (omega arith))) ∙ take-at bs (drop (p + length bs) xs) w l
 
 -- stores one after the other are a run
 pub stores-are : (bs xs : List ℕ) → length bs ≤ length xs → sets xs 0 bs ≡ patched xs 0 bs

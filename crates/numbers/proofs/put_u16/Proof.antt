@@ -4,7 +4,6 @@ use Rattle.numbers.specs.Numbers.{bytesOf}
 use denote.Ref.{now}
 use lib.ListN.{length-set}
 use native.Mathlib.Omega.{arith}
-use mathlib.Core.Path.{_≡_}
 use borrow.Author.Needs.{needs}
 use Rattle.numbers.proofs.put_u16.Statement.{statement}
 use Rattle.numbers.proofs.put_u16.Tie as tie

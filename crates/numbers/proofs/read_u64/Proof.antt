@@ -1,8 +1,6 @@
 -- `numbers::read_u64` meets its contract. Assumes nothing.
 use Rattle.numbers.specs.NumberLaws.{number-past, number-split}
-use Rattle.numbers.specs.Numbers.{numberAt}
-use Prim.Native.Nat.{_+_, _*_}
-use mathlib.Core.Path.{_≡_, sym, _∙_}
+use mathlib.Core.Path.{sym}
 use denote.Ref.{now}
 use native.Mathlib.Omega.{arith}
 use borrow.Author.Needs.{needs}

@@ -1,13 +1,7 @@
 -- `numbers::prices::bits` meets its contract. Assumes nothing.
 use Rattle.numbers.proofs.Sign.{not-below, raised}
 use mir.Facts.{toZ-ofZ}
-use mir.Val.{Fits}
-use mir.Syntax.{w64}
-use lib.Signed.{nonNeg}
-use lib.IntN.{ℤ, natAbs}
 use native.Mathlib.Omega.{arith}
-use mathlib.Core.Path.{_≡_, sym, ap, _∙_}
-use lib.Dec.{T}
 use Rattle.numbers.proofs.prices.bits.Statement.{statement}
 use Rattle.numbers.proofs.prices.bits.Tie as tie
 

@@ -3,7 +3,7 @@ use mir.Val.{SFits}
 use mir.Syntax.{w64}
 use Rattle.numbers.specs.Prices.{signedOf}
 use mir.Facts.{toZ-ofZ}
-use mathlib.Core.Path.{_≡_, sym, ap, _∙_}
+use mathlib.Core.Path.{ap, _∙_}
 use borrow.Author.Needs.{needs}
 use Rattle.numbers.proofs.prices.read_price.Statement.{statement}
 use Rattle.numbers.proofs.prices.read_price.Tie as tie

@@ -1,14 +1,10 @@
 -- `numbers::prices::write_price` meets its contract. Assumes nothing.
-use mir.Val.{SFits}
-use mir.Syntax.{w64}
 use Rattle.numbers.specs.Prices.{bitsOf}
 use Rattle.numbers.specs.Numbers.{bytesOf, putRefusal, putBuffer}
 use denote.Ref.{now}
 use mir.Facts.{toZ-ofZ}
-use lib.IntN.{ℤ}
 use Prim.Native.Nat.{ℕ}
-use mathlib.Core.List.{List}
-use mathlib.Core.Path.{_≡_, sym, ap, _∙_}
+use mathlib.Core.Path.{ap, _∙_}
 use borrow.Author.Needs.{needs}
 use Rattle.numbers.proofs.prices.write_price.Statement.{statement}
 use Rattle.numbers.proofs.prices.write_price.Tie as tie
