@@ -110,6 +110,7 @@ listOf message =
     (cond (eqb message 0x2C) executions
     [])))
 
+-- the first where a test holds, else the second
 abbrev pub pick : Bool → Entry → Entry → Entry
 pick true a b = a
 pick false a b = b
@@ -126,5 +127,6 @@ abbrev pub lookup : List Line → ℕ → ℕ → ℕ → Entry
 lookup [] place byte bit = Refused
 lookup (line b t w k ∷ ls) place byte bit = pick (eqb byte b && eqb bit (indexOf t)) (Field w k place) (lookup ls (place + w) byte bit)
 
+-- what a bit of a bitfield byte selects in a message of a type
 unfoldable pub entryOf : ℕ → ℕ → ℕ → Entry
 entryOf message byte bit = lookup (listOf message) 0 byte bit

@@ -25,6 +25,7 @@ abbrev pub layoutLength : List Line → ℕ
 layoutLength [] = 0
 layoutLength (line b t w k ∷ ls) = w + layoutLength ls
 
+-- a line's width, and its kind
 abbrev pub lineWidth : Line → ℕ
 lineWidth (line b t w k) = w
 
