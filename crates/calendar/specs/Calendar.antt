@@ -1,6 +1,6 @@
 -- The calendar days of 1970 to 2099, as YYYYMMDD. Definitions alone. Assumes nothing.
 use Prim.Native.Nat.{ℕ, _/_, _%_}
-use mathlib.Core.Bool.{Bool, true, false, cond, not, _&&_, _||_}
+use mathlib.Core.Bool.{Bool, cond, not, _&&_, _||_}
 use lib.Dec.{leb, eqb}
 use Rattle.refusals.specs.Names.{notADay}
 
@@ -15,16 +15,19 @@ daysIn y m =
     (cond (eqb m 4 || (eqb m 6 || (eqb m 9 || eqb m 11))) 30
     31)
 
--- a number YYYYMMDD: its year, its month and its day of the month
+-- the year of a number YYYYMMDD
 abbrev pub yearOf : ℕ → ℕ
 yearOf n = n / 10000
 
+-- its month
 abbrev pub monthOf : ℕ → ℕ
 monthOf n = n / 100 % 100
 
+-- its day of the month
 abbrev pub dayOf : ℕ → ℕ
 dayOf n = n % 100
 
+-- a day of 1970 to 2099: its year is one of these, its month from 1 to 12, and its day one that the month has
 unfoldable pub isDay : ℕ → Bool
 isDay n =
     leb 1970 (yearOf n) && (leb (yearOf n) 2099
