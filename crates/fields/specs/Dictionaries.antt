@@ -3,22 +3,23 @@
 use mathlib.Core.Path.{_≡_, refl, sym, ap, _∙_, subst}
 use mathlib.Core.Bool.{Bool, true, false, cond, _&&_}
 use mathlib.Core.List.{List, [], _∷_}
-use Prim.Native.Nat.{ℕ, zero, suc, _+_, _/_, _%_, _≤_, _<_}
-use native.Mathlib.Nat.{add-zero, zero-add, add-suc, suc-add, add-assoc, le-of-suc-le-suc, not-suc-le-zero}
+use Prim.Native.Nat.{ℕ, zero, suc, _+_, _≤_, _<_}
+use native.Mathlib.Nat.{add-zero, zero-add, add-assoc, le-of-suc-le-suc, not-suc-le-zero}
 use native.Mathlib.Omega.{arith}
 use lib.Dec.{T, eqb, leb, eqb→eq, leb→le}
 use Rattle.kinds.specs.declared.Kind.{Kind}
 use Rattle.dictionary.specs.declared.Entry.{Entry}
 use Rattle.dictionary.specs.declared.Entry.the-variants.{Refused, Field}
 use Rattle.dictionary.specs.Dictionary.{Line, line, newOrder, cancelOrder, acknowledgments, executions, listOf, pick, indexOf, lookup, entryOf}
-use Rattle.fields.specs.Slots.{Slot, slot, widthOf, width, sum}
-use Rattle.fields.specs.Places.{entryAt, slotsFrom}
+use Rattle.fields.specs.Slots.{widthOf, width, sum}
+use Rattle.fields.specs.Places.{selectedAt, entryAt, slotsFrom, slotsOf}
 
 -- the widths of all places below k
 unfoldable pub before : (ℕ → Entry) → ℕ → ℕ
 before entry zero = 0
 before entry (suc k) = before entry k + widthOf (entry k)
 
+-- nothing stands before the first place
 pub before-none : (entry : ℕ → Entry) → before entry 0 ≡ 0
 unfolding before
 before-none entry = refl
@@ -134,6 +135,14 @@ dictionary-placed message = by (eqb message 0x38) (eqb message 0x39) (eqb messag
     by false false true b4 p q r s = at 0x25 (by-sweep (entryAt 0x25) at-acknowledgment) r
     by false false false true p q r s = at 0x2C (by-sweep (entryAt 0x2C) at-execution) s
     by false false false false p q r s = none-placed (entryAt message) (λ k. simp (p, q, r, s))
+
+-- all slots of a message fit the layout
+pub widths-fit : (message count : ℕ) (bits : List ℕ) → sum width (slotsOf message count bits) ≤ 154
+widths-fit message count bits =
+    let w : before (entryAt message) 0 + sum width (slotsOf message count bits) ≡ before (entryAt message) 120 = widths-add (selectedAt count bits) (entryAt message) 120 0 in
+    let z : before (entryAt message) 0 ≡ 0 = before-none (entryAt message) in
+    let f : before (entryAt message) 120 ≤ 154 = dictionary-placed message .fits in
+    omega arith
 
 -- ---- a listed field lies within the layout
 

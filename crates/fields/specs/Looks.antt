@@ -19,11 +19,12 @@ use Rattle.fields.specs.Walk.{pick, walk, Looking, lookEntry}
 use Rattle.fields.specs.WalkLaws.{walk-slots, and-move}
 use Rattle.fields.specs.Dictionaries.{before, Placed}
 
--- a layout with its selected slots cleared
+-- a slot of a layout, cleared where it is selected
 abbrev pub clearedSlot : Slot → List ℕ → List ℕ
 clearedSlot (slot true e) v = zeros (widthOf e)
 clearedSlot (slot false e) v = take (widthOf e) v
 
+-- all slots of a layout so, and the bytes after them as they were
 abbrev pub cleared : List Slot → List ℕ → List ℕ
 cleared [] v = v
 cleared (s ∷ ss) v = clearedSlot s v ++ cleared ss (drop (width s) v)

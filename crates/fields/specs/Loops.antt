@@ -1,23 +1,24 @@
 -- The code's loops over bitfield bytes and over the bits of one byte are a walk over the 120 places, whatever the walk's state.
 -- Assumes nothing.
-use mathlib.Core.Path.{_≡_, refl, sym, ap, ap₂, _∙_, subst}
-use mathlib.Core.Bool.{Bool, true, false, _&&_}
+use mathlib.Core.Path.{_≡_, refl, sym, ap, ap₂, _∙_}
+use mathlib.Core.Bool.{Bool, false}
 use mathlib.Core.List.{List}
 use Prim.Native.Nat.{ℕ, zero, suc, _+_, _*_, _-_, _/_, _%_, _^_, _≤_, _<_}
-use native.Mathlib.Nat.{add-zero, div-div-eq-div-mul, pow-suc, zero-div}
+use native.Mathlib.Nat.{add-zero, div-div-eq-div-mul, pow-suc}
 use native.Mathlib.Numerals.{add-one}
 use native.Mathlib.Omega.{arith}
-use lib.Dec.{ltb, eqb}
+use lib.Dec.{eqb}
 use lib.ListN.{getD}
 use borrow.Author.Tests.{lt-ltb, le-ltb}
 use Rattle.dictionary.specs.declared.Entry.{Entry}
 use Rattle.dictionary.specs.Dictionary.{entryOf}
-use Rattle.fields.specs.Places.{bitSet, selectedAt, entryAt}
+use Rattle.fields.specs.Places.{selectedAt, entryAt}
 use Rattle.fields.specs.Walk.{pick, walk}
 use Rattle.fields.specs.WalkLaws.{walk-add, walk-skip, walk-one}
 
 -- ---- the bits of one byte: x / 2 ^ i is what is left after i halvings
 
+-- one halving more
 pub halved : (x i : ℕ) → x / 2 ^ i / 2 ≡ x / 2 ^ (i + 1)
 halved x i = div-div-eq-div-mul x (2 ^ i) 2 ∙ ap (λ (n : ℕ). x / n) (sym (pow-suc 2 i)) ∙ rw add-one refl
 
@@ -27,16 +28,7 @@ gone x i (suc n) h =
     let e : i + suc n ≡ i + n + 1 = omega arith in
     ap (λ (m : ℕ). x / 2 ^ m) e ∙ sym (halved x (i + n)) ∙ ap (λ (m : ℕ). m / 2) (gone x i n h)
 
-within : (x i n : ℕ) → i + n ≡ 8 → x < 256 → (x / 2 ^ i ≡ 0 → ⊥) → i < 8
-within x i zero e l n =
-    let a : i ≡ 8 = omega arith in
-    absurd (n (ap (λ (m : ℕ). x / 2 ^ m) a ∙ omega arith))
-within x i (suc d) e l n = omega arith
-
--- while something is left there is a bit to look at
-pub bit-left : (x i : ℕ) → x < 256 → i ≤ 8 → (x / 2 ^ i ≡ 0 → ⊥) → i < 8
-bit-left x i l h n = within x i (8 - i) (omega arith) l n
-
+-- before the first halving
 pub first-bit : (x : ℕ) → x ≡ x / 2 ^ 0
 first-bit x = omega arith
 

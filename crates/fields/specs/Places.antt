@@ -1,6 +1,6 @@
 -- The slots of a message with its bitfields. Definitions alone. Assumes nothing.
-use Prim.Native.Nat.{ℕ, zero, suc, _+_, _-_, _/_, _%_, _^_}
-use mathlib.Core.Bool.{Bool, cond, not, _&&_, _||_}
+use Prim.Native.Nat.{ℕ, zero, suc, _+_, _/_, _%_, _^_}
+use mathlib.Core.Bool.{Bool, not, _&&_, _||_}
 use mathlib.Core.List.{List, [], _∷_}
 use lib.Dec.{ltb, eqb}
 use lib.ListN.{getD}
@@ -17,6 +17,7 @@ bitSet x bit = eqb (x / 2 ^ bit % 2) 1
 unfoldable pub selectedAt : ℕ → List ℕ → ℕ → Bool
 selectedAt count bits k = ltb (k / 8) count && bitSet (getD bits (k / 8) 0) (k % 8)
 
+-- what the dictionary has for place k
 unfoldable pub entryAt : ℕ → ℕ → Entry
 entryAt message k = entryOf message (k / 8 + 1) (k % 8)
 

@@ -3,20 +3,21 @@
 --     forth      a layout whose unselected slots are zero, gathered and spread, is that layout
 --     field-at   a selected field starts at the summed widths of all earlier set bits
 -- Assumes nothing.
-use mathlib.Core.Path.{_≡_, refl, sym, ap, ap₂, _∙_, subst}
+use mathlib.Core.Path.{_≡_, refl, sym, ap, ap₂, _∙_}
 use mathlib.Core.Bool.{Bool, true, false, _&&_}
 use mathlib.Core.List.{List, [], _∷_, _++_, append-assoc}
 use Prim.Native.Nat.{ℕ, zero, suc, _+_, _-_, _≤_}
-use native.Mathlib.Nat.{add-zero, zero-add, add-assoc}
+use native.Mathlib.Nat.{zero-add, sub-zero, zero-sub, suc-sub-suc}
 use native.Mathlib.Omega.{arith}
 use lib.Dec.{eqb}
-use lib.ListN.{length, take, drop, replicate, length-append, length-drop, length-replicate, take-append-drop}
+use lib.ListN.{length, take, drop, length-append, length-drop, length-replicate, take-append-drop}
 use lib.Seq.{length-take-le, take-at, drop-at, drop-drop, take-append-le, drop-append-le}
 use borrow.Author.Tests.{eqb-true}
 use Rattle.kinds.specs.Kinds.{allNul, agreesOf}
+use Rattle.numbers.specs.Numbers.{patched}
 use Rattle.dictionary.specs.declared.Entry.{Entry}
 use Rattle.dictionary.specs.declared.Entry.the-variants.{Refused, Field}
-use Rattle.fields.specs.Slots.{zeros, Slot, slot, widthOf, width, takes, sum, held, spread, sent, gathered, agreeSlot, agreeSent, agreeHeld, zeroSlot, zeroElsewhere}
+use Rattle.fields.specs.Slots.{zeros, Slot, slot, widthOf, width, takes, sum, spread, gathered, agreeSlot, agreeSent, agreeHeld, zeroElsewhere}
 
 -- ---- zeros
 
@@ -39,6 +40,23 @@ pub zeros-are-nul : (n : ℕ) → allNul (zeros n) ≡ true
 zeros-are-nul zero = refl
 zeros-are-nul (suc n) = zeros-are-nul n
 
+-- what is left of zeros is zeros
+pub drop-zeros : (k n : ℕ) → drop k (zeros n) ≡ zeros (n - k)
+drop-zeros zero n = ap (λ (i : ℕ). zeros i) (sym (sub-zero n))
+drop-zeros (suc k) zero = ap (λ (i : ℕ). zeros i) (sym (zero-sub (suc k)))
+drop-zeros (suc k) (suc n) = drop-zeros k n ∙ ap (λ (i : ℕ). zeros i) (sym (suc-sub-suc n k))
+
+-- bytes put at the front of zeros are followed by zeros
+pub put-in-zeros : (n : ℕ) (f : List ℕ) → patched (zeros n) 0 f ≡ f ++ zeros (n - length f)
+unfolding patched
+put-in-zeros n f = ap (λ (i : ℕ). f ++ drop i (zeros n)) (zero-add (length f)) ∙ ap (λ (l : List ℕ). f ++ l) (drop-zeros (length f) n)
+
+-- a list of k bytes that are NUL from place n on is its first n bytes and zeros
+pub zeros-after : (n k : ℕ) (l : List ℕ) → length l ≡ k → allNul (drop n l) ≡ true → take n l ++ zeros (k - n) ≡ l
+zeros-after n k l e z =
+    let d : length (drop n l) ≡ k - n = length-drop n l ∙ ap (λ (x : ℕ). x - n) e in
+    ap (λ (x : List ℕ). take n l ++ x) (sym (nul-is-zeros (drop n l) z ∙ ap zeros d)) ∙ take-append-drop n l
+
 -- ---- lengths
 
 pub spread-length : (ss : List Slot) (m : List ℕ) → sum takes ss ≤ length m → length (spread ss m) ≡ sum width ss
@@ -56,6 +74,12 @@ gathered-length (slot true e ∷ ss) v h =
     length-append (take (widthOf e) v) _
     ∙ ap₂ (λ (x y : ℕ). x + y) (length-take-le (widthOf e) v (omega arith)) (gathered-length ss (drop (widthOf e) v) (simp length-drop (omega arith)))
 gathered-length (slot false e ∷ ss) v h = gathered-length ss (drop (widthOf e) v) (simp length-drop (omega arith)) ∙ sym (zero-add (sum takes ss))
+
+-- what the selected slots take is at most what all slots take
+pub takes-below : (ss : List Slot) → sum takes ss ≤ sum width ss
+takes-below [] = omega arith
+takes-below (slot true e ∷ ss) = let h = takes-below ss in omega arith
+takes-below (slot false e ∷ ss) = let h = takes-below ss in omega arith
 
 -- ---- the round trip
 
@@ -130,11 +154,6 @@ spread-zero (slot false e ∷ ss) m n h =
     (ap (λ (x : List ℕ). zeroElsewhere ss (drop w x)) q ∙ ap (zeroElsewhere ss) (drop-at (zeros w) (spread ss m ++ zeros n) w l) ∙ spread-zero ss m n (omega arith))
 
 -- ---- kinds: the message's bytes and the layout's say the same
-
-agree-front : (b : Bool) (e : Entry) (v t : List ℕ) → widthOf e ≤ length v → agreeSlot (slot b e) (v ++ t) ≡ agreeSlot (slot b e) v
-agree-front true (Field w k p) v t h = ap (agreesOf k) (take-append-le w v t h)
-agree-front true Refused v t h = refl
-agree-front false e v t h = refl
 
 agree-taken : (e : Entry) (m t : List ℕ) → widthOf e ≤ length m → agreeSlot (slot true e) (take (widthOf e) m ++ t) ≡ agreeSlot (slot true e) m
 agree-taken (Field w k p) m t h = ap (agreesOf k) (take-at (take w m) t w (length-take-le w m h))

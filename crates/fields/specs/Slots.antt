@@ -12,6 +12,7 @@ use Rattle.dictionary.specs.declared.Entry.the-variants.{Refused, Field}
 abbrev pub zeros : ℕ → List ℕ
 zeros n = replicate n 0
 
+-- whether the bit is set, and what the dictionary has for it
 pub data Slot : Type 0 where
   slot : Bool → Entry → Slot
 
@@ -29,6 +30,7 @@ abbrev pub takes : Slot → ℕ
 takes (slot true e) = widthOf e
 takes (slot false e) = 0
 
+-- a measure of the slots, summed
 abbrev pub sum : (Slot → ℕ) → List Slot → ℕ
 sum f [] = 0
 sum f (s ∷ ss) = f s + sum f ss
@@ -39,6 +41,7 @@ badSlot (slot true Refused) = true
 badSlot (slot true (Field w k p)) = false
 badSlot (slot false e) = false
 
+-- 8: whether one of the slots is such a bit
 abbrev pub anyBad : List Slot → Bool
 anyBad [] = false
 anyBad (s ∷ ss) = badSlot s || anyBad ss
@@ -69,11 +72,12 @@ agreeSlot (slot true (Field w k p)) v = agreesOf k (take w v)
 agreeSlot (slot true Refused) v = true
 agreeSlot (slot false e) v = true
 
--- of the optional bytes of a message, and of a full layout
+-- 10: of the optional bytes of a message, whether all selected fields agree
 abbrev pub agreeSent : List Slot → List ℕ → Bool
 agreeSent [] m = true
 agreeSent (s ∷ ss) m = agreeSlot s m && agreeSent ss (drop (takes s) m)
 
+-- 10: the same of a full layout
 abbrev pub agreeHeld : List Slot → List ℕ → Bool
 agreeHeld [] v = true
 agreeHeld (s ∷ ss) v = agreeSlot s v && agreeHeld ss (drop (width s) v)

@@ -1,18 +1,10 @@
 // The optional block over any dictionary: its definitions and laws (specs/), and the moves of bytes that it needs.
 ghost use mathlib.Core.Path.{_≡_};
-ghost use mathlib.Core.Bool.{_&&_};
 ghost use Prim.Native.Nat.{_≤_, _<_};
 ghost use lib.ListN.{length, take};
 ghost use Rattle.numbers.specs.Numbers.{patched};
 ghost use Rattle.fields.specs.Places.{selectedAt, hasRequired};
 ghost use Rattle.fields.specs.Slots.{zeros};
-
-// Whether both hold.
-pub fn both(a: bool, b: bool) -> bool
-    ensures { λ r. ⌜ r ≡ (a && b) ⌝ }
-{
-    if a { b } else { false }
-}
 
 // A field's bytes into the front of a lent tail, which has room for them.
 pub fn copy(from: &[u8], to: &mut [u8])

@@ -4,9 +4,9 @@ use Rattle.fields.specs.Slots.{zeros}
 use denote.Ref.{now}
 use lib.ListN.{length, take, drop, set, length-set}
 use native.Mathlib.Omega.{arith}
-use Prim.Native.Nat.{ℕ, _+_, _-_, _≤_}
+use Prim.Native.Nat.{ℕ, _-_, _≤_}
 use mathlib.Core.List.{List, _++_}
-use mathlib.Core.Path.{_≡_, refl, sym, ap, _∙_}
+use mathlib.Core.Path.{_≡_, refl, ap, _∙_}
 use Rattle.fields.proofs.clear.Statement.{statement}
 use Rattle.fields.proofs.clear.Tie as tie
 

@@ -3,9 +3,9 @@ use Rattle.fields.proofs.Moves.{copy-more, copy-all}
 use denote.Ref.{now}
 use lib.ListN.{length, take, drop, getD, set, length-set}
 use native.Mathlib.Omega.{arith}
-use Prim.Native.Nat.{ℕ, _+_, _-_, _≤_}
+use Prim.Native.Nat.{ℕ, _-_, _≤_}
 use mathlib.Core.List.{List, _++_}
-use mathlib.Core.Path.{_≡_, refl, sym, ap, _∙_}
+use mathlib.Core.Path.{_≡_, refl, ap, _∙_}
 use Rattle.fields.proofs.copy.Statement.{statement}
 use Rattle.fields.proofs.copy.Tie as tie
 

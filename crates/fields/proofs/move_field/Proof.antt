@@ -2,7 +2,7 @@
 use Rattle.fields.proofs.Moves.{held-front}
 use Rattle.numbers.specs.Numbers.{patched}
 use denote.Ref.{now}
-use mathlib.Core.Path.{_≡_, ap, _∙_}
+use mathlib.Core.Path.{ap, _∙_}
 use borrow.Author.Needs.{needs}
 use Rattle.fields.proofs.move_field.Statement.{statement}
 use Rattle.fields.proofs.move_field.Tie as tie
