@@ -1,11 +1,9 @@
 -- The full list of units: pairs for 1 to 32 in their order, with any numbers, are in order. Assumes nothing.
-use mathlib.Core.Path.{_≡_, refl}
-use mathlib.Core.Bool.{true}
+use mathlib.Core.Path.{refl}
 use mathlib.Core.List.{List, [], _∷_}
-use Prim.Native.Nat.{ℕ, zero, suc, _≤_, _<_}
+use Prim.Native.Nat.{ℕ, zero, suc, _<_}
 use native.Mathlib.Omega.{arith}
-use lib.ListN.{length, replicate}
-use Rattle.groups.specs.Values.{fresh, Pair, unitsOf, NumbersFit, PairsInOrder}
+use Rattle.groups.specs.Values.{Pair, unitsOf, NumbersFit, PairsInOrder}
 use Rattle.groups.specs.NotTwice.{not-twice}
 
 -- n pairs from unit k on, with the number that each unit has

@@ -3,14 +3,14 @@
 use mathlib.Core.Path.{_≡_, refl, sym, ap, ap₂, _∙_}
 use mathlib.Core.Bool.{Bool, true, false, cond, _&&_, true≢false, and-eq-true-iff}
 use mathlib.Core.List.{List, [], _∷_, _++_}
-use Prim.Native.Nat.{ℕ, zero, suc, _+_, _-_, _*_, _≤_, _<_, zero-le}
+use Prim.Native.Nat.{ℕ, zero, suc, _+_, _*_, _≤_, _<_, zero-le}
 use native.Mathlib.Omega.{arith}
 use lib.Dec.{eqb, ltb, leb}
 use lib.ListN.{length, getD, drop, length-drop, length-append, replicate, length-set, List·getD-append}
 use lib.Seq.{drop-append-le}
-use borrow.Author.Tests.{lt-ltb, le-ltb, le-leb, eq-eqb, ne-eqb, leb-true, ltb-true, ltb-false, eqb-true, eqb-false}
+use borrow.Author.Tests.{le-ltb, le-leb, ne-eqb, leb-true, ltb-true, ltb-false, eqb-true, eqb-false}
 use Rattle.numbers.specs.Numbers.{numberAt}
-use Rattle.groups.specs.Groups.{free, mark, unitAt, unitsFrom, pairsGood, bitsGood, keyOf, groupKey, listGood, sizeBy, groupSize, nextSize, groupsFrom, groupsEnd}
+use Rattle.groups.specs.Groups.{free, mark, unitAt, unitsFrom, pairsGood, bitsGood, groupKey, listGood, sizeBy, groupSize, nextSize, groupsFrom, groupsEnd}
 
 left-true : (a b : Bool) → a && b ≡ true → a ≡ true
 left-true a b h = and-eq-true-iff a b .0 h .0
@@ -127,9 +127,6 @@ next-most marks s h =
 -- the bytes that the groups still to come can take
 abbrev pub room : List ℕ → ℕ
 room marks = cond (eqb (getD marks 1 0) 0) 165 0 + cond (eqb (getD marks 2 0) 0) 20 0 + cond (eqb (getD marks 3 0) 0) 20 0
-
-came : (a : Bool) (b : Bool) (c : Bool) → _&&_ a (_&&_ b c) ≡ true → c ≡ true
-came a b c h = right-true b c (right-true a (_&&_ b c) h)
 
 room-at : (a b c d k g : ℕ) → free (a ∷ b ∷ c ∷ d ∷ []) k ≡ true → g ≤ most k → g + room (mark (a ∷ b ∷ c ∷ d ∷ []) k) ≤ room (a ∷ b ∷ c ∷ d ∷ [])
 room-at a b c d zero g f h = absurd (true≢false (sym f))

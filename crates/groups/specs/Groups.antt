@@ -1,7 +1,7 @@
 -- Unit pairs and groups of the login-like messages: which are in order, and how many bytes they take. Definitions alone.
 -- Assumes nothing.
 use Prim.Native.Nat.{ℕ, zero, suc, _+_, _*_}
-use mathlib.Core.Bool.{Bool, true, false, cond, _&&_}
+use mathlib.Core.Bool.{Bool, true, cond, _&&_}
 use mathlib.Core.List.{List}
 use lib.Dec.{leb, ltb, eqb}
 use lib.ListN.{length, getD, set, drop, replicate}
@@ -13,6 +13,7 @@ use Rattle.numbers.specs.Numbers.{numberAt}
 abbrev pub free : List ℕ → ℕ → Bool
 free marks u = ltb 0 u && (ltb u (length marks) && eqb (getD marks u 0) 0)
 
+-- the marks once u has come
 abbrev pub mark : List ℕ → ℕ → List ℕ
 mark marks u = set marks u 1
 

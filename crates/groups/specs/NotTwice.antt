@@ -1,29 +1,32 @@
 -- What a walk with marks finds: that numbers are in their range and none comes twice. One law, for units and for group kinds alike.
 -- Assumes nothing.
 use mathlib.Core.Path.{_≡_, refl, sym, ap, _∙_}
-use mathlib.Core.Bool.{Bool, true, false, _&&_, and-eq-true-iff}
+use mathlib.Core.Bool.{true, and-eq-true-iff}
 use mathlib.Core.List.{List, [], _∷_}
-use Prim.Native.Nat.{ℕ, zero, suc, _+_, _≤_, _<_}
+use Prim.Native.Nat.{ℕ, zero, suc, _<_}
 use native.Mathlib.Nat.{le-of-suc-le-suc, not-suc-le-zero}
 use native.Mathlib.Omega.{arith}
-use lib.Dec.{eqb, ltb}
-use lib.ListN.{length, getD, set, replicate, length-set, length-replicate}
+use lib.Dec.{ltb}
+use lib.ListN.{length, getD, replicate, length-set, length-replicate}
 use lib.Seq.{getD-set-same, getD-set-other}
 use borrow.Author.Tests.{eqb-true, ltb-true, lt-ltb, eq-eqb}
 use Rattle.groups.specs.Groups.{free, mark}
 use Rattle.groups.specs.Values.{Distinct, fresh}
 
+-- a number is free: it is from 1 to the last place, and its mark is 0
 pub record Free (marks : List ℕ) (u : ℕ) : Type 0 where
   pub some : 0 < u
   pub place : u < length marks
   pub not-yet : getD marks u 0 ≡ 0
 
+-- what the test finds
 pub free-of : (marks : List ℕ) (u : ℕ) → free marks u ≡ true → Free marks u
 free-of marks u h =
     let a = and-eq-true-iff (ltb 0 u) _ .0 h in
     let b = and-eq-true-iff (ltb u (length marks)) _ .0 (a .1) in
     record { some = ltb-true _ _ (a .0); place = ltb-true _ _ (b .0); not-yet = eqb-true _ _ (b .1) }
 
+-- and what passes it
 pub is-free : (marks : List ℕ) (u : ℕ) → Free marks u → free marks u ≡ true
 is-free marks u f = rw (lt-ltb 0 u (f .some), lt-ltb u (length marks) (f .place), eq-eqb (getD marks u 0) 0 (f .not-yet))
 

@@ -3,21 +3,20 @@
 --     groups-are-a-value, a-value-is-groups    accepted groups are exactly the bytes of groups in order, each kind once
 -- Assumes nothing.
 use mathlib.Core.Path.{_≡_, refl, sym, ap, ap₂, _∙_}
-use mathlib.Core.Logic.{_⊎_, inl, inr, ⊎-elim}
-use mathlib.Core.Bool.{Bool, true, false, cond, _&&_, and-eq-true-iff}
+use mathlib.Core.Logic.{_⊎_, inl, inr}
+use mathlib.Core.Bool.{Bool, true, false, _&&_, and-eq-true-iff}
 use mathlib.Core.List.{List, [], _∷_, _++_, append-assoc, append-nil}
 use Prim.Native.Nat.{ℕ, zero, suc, _+_, _-_, _*_, _/_, _%_, _≤_, _<_, zero-le}
-use native.Mathlib.Nat.{le-of-suc-le-suc, not-suc-le-zero}
 use native.Mathlib.Omega.{arith}
 use lib.Dec.{eqb, ltb, leb}
-use lib.ListN.{length, getD, take, drop, replicate, length-append, length-drop, take-append-drop}
-use lib.Seq.{drop-at, take-at, take-add, length-take-le, getD-drop, getD-take, drop-drop}
+use lib.ListN.{length, getD, take, drop, replicate, length-append, length-drop}
+use lib.Seq.{drop-at, take-add, length-take-le, getD-drop, drop-drop}
 use borrow.Author.Tests.{eqb-true, eqb-false, ltb-true, lt-ltb, le-ltb, le-leb, ne-eqb, eq-eqb}
 use Rattle.numbers.specs.Numbers.{numberAt, bytesOf}
-use Rattle.numbers.specs.NumberLaws.{bytes-back}
-use Rattle.groups.specs.Groups.{free, mark, unitAt, unitsFrom, pairsGood, bitsGood, keyOf, groupKey, listGood, sizeBy, groupSize, nextSize, groupsFrom, groupsEnd}
-use Rattle.groups.specs.GroupLaws.{Fits, pairs-fit, bits-fit, Whole, whole-of, Taken, taken-of, key-long, next-fits, First, first-of, Ends, ends-of, key-front, next-front, pairs-front}
-use Rattle.groups.specs.Values.{Distinct, fresh, Pair, pairBytes, pairsBytes, unitsOf, NumbersFit, PairsInOrder, Group, groupBytes, groupsBytes, kindOf, kindsOf, InOrder, EachInOrder, GroupsInOrder}
+use Rattle.numbers.specs.NumberLaws.{bytes-back, bytes-first, bytes-later}
+use Rattle.groups.specs.Groups.{free, mark, unitAt, unitsFrom, pairsGood, bitsGood, keyOf, groupKey, sizeBy, groupSize, nextSize, groupsFrom, groupsEnd}
+use Rattle.groups.specs.GroupLaws.{pairs-fit, bits-fit, Whole, whole-of, taken-of, key-long, next-fits, first-of, ends-of, key-front, next-front}
+use Rattle.groups.specs.Values.{fresh, Pair, pairsBytes, unitsOf, NumbersFit, PairsInOrder, Group, groupBytes, groupsBytes, kindOf, kindsOf, InOrder, EachInOrder, GroupsInOrder}
 use Rattle.groups.specs.Values.Group.{units, bits}
 use Rattle.groups.specs.NotTwice.{not-twice, passed-over}
 
@@ -43,9 +42,6 @@ units-fresh (suc n) i s marks =
     let d : drop 5 (drop (5 * i) s) ≡ drop (5 * suc i) s = drop-drop 5 (5 * i) s ∙ ap (λ (k : ℕ). drop k s) f in
     ap (λ (b : Bool). free marks (unitAt s i) && b) (units-fresh n (suc i) s (mark marks (unitAt s i)))
     ∙ sym (ap₂ (λ (x : ℕ) (r : List ℕ). free marks x && fresh (mark marks x) (unitsOf (pairsIn n r))) u d)
-
-bytes-later : (k : ℕ) (s : List ℕ) → ((i : ℕ) → getD s i 0 < 256) → (i : ℕ) → getD (drop k s) i 0 < 256
-bytes-later k s bs i = rw (getD-drop k s i 0) (bs (k + i))
 
 numbers-fit : (n : ℕ) (s : List ℕ) → ((i : ℕ) → getD s i 0 < 256) → NumbersFit (pairsIn n s)
 numbers-fit zero s bs = tt
@@ -214,12 +210,6 @@ high a b v h k e = let q : v / 256 ≡ b = omega arith in ap (λ (y : ℕ). y % 
 
 five-more : (a b t x n m : ℕ) (r : List ℕ) → take (5 + m) (a ∷ b ∷ t ∷ x ∷ n ∷ r) ≡ a ∷ b ∷ t ∷ x ∷ n ∷ take m r
 five-more a b t x n m r = let e : 5 + m ≡ suc (suc (suc (suc (suc m)))) = omega arith in ap (λ (y : ℕ). take y (a ∷ b ∷ t ∷ x ∷ n ∷ r)) e
-
-bytes-first : (n : ℕ) (s : List ℕ) → ((i : ℕ) → getD s i 0 < 256) → (i : ℕ) → getD (take n s) i 0 < 256
-bytes-first zero s bs i = omega arith
-bytes-first (suc n) [] bs i = omega arith
-bytes-first (suc n) (x ∷ s) bs zero = bs 0
-bytes-first (suc n) (x ∷ s) bs (suc i) = bytes-first n s (λ j. bs (suc j)) i
 
 -- the group at the front of d as a value
 record One (k : ℕ) (d : List ℕ) : Type 0 where

@@ -27,17 +27,21 @@ pub record Pair : Type 0 where
   pub unit : ℕ
   pub number : ℕ
 
+-- a pair's bytes
 abbrev pub pairBytes : Pair → List ℕ
 pairBytes p = p .unit ∷ bytesOf 4 (p .number)
 
+-- those of pairs, one after the other
 abbrev pub pairsBytes : List Pair → List ℕ
 pairsBytes [] = []
 pairsBytes (p ∷ ps) = pairBytes p ++ pairsBytes ps
 
+-- their units
 abbrev pub unitsOf : List Pair → List ℕ
 unitsOf [] = []
 unitsOf (p ∷ ps) = p .unit ∷ unitsOf ps
 
+-- their numbers have four bytes
 abbrev pub NumbersFit : List Pair → Type 0
 NumbersFit [] = Unit {0}
 NumbersFit (p ∷ ps) = (p .number < 4294967296) × NumbersFit ps
@@ -60,6 +64,7 @@ abbrev pub groupBytes : Group → List ℕ
 groupBytes (units flag ps) = bytesOf 2 (5 + 5 * length ps) ++ (0x80 ∷ flag ∷ length ps ∷ pairsBytes ps)
 groupBytes (bits type list) = bytesOf 2 (5 + length list) ++ (0x81 ∷ type ∷ length list ∷ list)
 
+-- those of groups, one after the other
 abbrev pub groupsBytes : List Group → List ℕ
 groupsBytes [] = []
 groupsBytes (g ∷ gs) = groupBytes g ++ groupsBytes gs
@@ -69,6 +74,7 @@ abbrev pub kindOf : Group → ℕ
 kindOf (units flag ps) = keyOf 0x80 flag
 kindOf (bits type list) = keyOf 0x81 type
 
+-- the kinds of groups
 abbrev pub kindsOf : List Group → List ℕ
 kindsOf [] = []
 kindsOf (g ∷ gs) = kindOf g ∷ kindsOf gs
@@ -78,6 +84,7 @@ abbrev pub InOrder : Group → Type 0
 InOrder (units flag ps) = (flag < 2) × PairsInOrder ps
 InOrder (bits type list) = ((type ≡ 0x25) ⊎ (type ≡ 0x2C)) × (length list ≤ 15) × ((i : ℕ) → getD list i 0 < 256)
 
+-- each of the groups by its own rules
 abbrev pub EachInOrder : List Group → Type 0
 EachInOrder [] = Unit {0}
 EachInOrder (g ∷ gs) = InOrder g × EachInOrder gs

@@ -4,6 +4,7 @@ ghost use Prim.Native.Nat.{_*_, _≤_, _<_};
 ghost use lib.ListN.{length, replicate};
 ghost use Rattle.groups.specs.Groups.{unitsFrom, pairsGood, bitsGood, keyOf, groupKey, sizeBy, listGood, groupSize, nextSize, groupsEnd};
 
+// A byte as a place.
 fn wide(x: u8) -> usize
     ensures { λ r. ⌜ (r ≡ x) × (r < 256) ⌝ }
 {
@@ -129,6 +130,7 @@ fn group_size(key: u8, s: &[u8]) -> usize
     0
 }
 
+// What a group is, 1 to 3 or 0, and its bytes, or 0 where it is against the rules.
 struct Group {
     key: u8,
     size: usize,

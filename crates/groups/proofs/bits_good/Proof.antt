@@ -1,6 +1,5 @@
 -- `groups::bits_good` meets its contract. Assumes nothing.
 use Rattle.groups.specs.Groups.{bitsGood}
-use mathlib.Core.Path.{_≡_, refl, sym, ap, _∙_}
 use native.Mathlib.Omega.{arith}
 use borrow.Author.Tests.{le-leb, lt-leb}
 use borrow.Author.Needs.{needs}

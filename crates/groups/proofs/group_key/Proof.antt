@@ -1,6 +1,5 @@
 -- `groups::group_key` meets its contract. Assumes nothing.
 use Rattle.groups.specs.Groups.{groupKey}
-use mathlib.Core.Path.{_≡_, refl, sym, ap, _∙_}
 use native.Mathlib.Omega.{arith}
 use borrow.Author.Tests.{lt-ltb, le-ltb}
 use borrow.Author.Needs.{needs}

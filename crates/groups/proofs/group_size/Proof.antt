@@ -3,9 +3,8 @@ use Rattle.groups.specs.Groups.{groupSize, sizeBy, listGood}
 use Rattle.numbers.proofs.Tail.{tail-is}
 use Rattle.numbers.specs.Numbers.{numberAt}
 use denote.Ref.{now}
-use lib.ListN.{length, drop, getD}
-use Prim.Native.Nat.{ℕ}
-use mathlib.Core.Path.{_≡_, refl, sym, ap, _∙_}
+use lib.ListN.{getD}
+use mathlib.Core.Path.{sym, ap, _∙_}
 use native.Mathlib.Omega.{arith}
 use borrow.Author.Tests.{eq-eqb, ne-eqb}
 use borrow.Author.Needs.{needs}

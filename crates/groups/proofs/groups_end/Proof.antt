@@ -4,10 +4,10 @@ use Rattle.groups.proofs.Walk.{groups-none}
 use Rattle.groups.specs.Groups.{groupsFrom, nextSize, groupKey}
 use Rattle.numbers.proofs.Tail.{tail-is}
 use denote.Ref.{now}
-use lib.ListN.{length, replicate, drop}
+use lib.ListN.{replicate, drop}
 use native.Mathlib.Omega.{arith}
-use Prim.Native.Nat.{ℕ, _+_, _-_, _*_, _≤_, _<_}
-use mathlib.Core.Path.{_≡_, refl, sym, ap, _∙_}
+use Prim.Native.Nat.{ℕ, _-_}
+use mathlib.Core.Path.{_≡_, sym, ap, _∙_}
 use Rattle.groups.proofs.groups_end.Statement.{statement}
 use Rattle.groups.proofs.groups_end.Tie as tie
 

@@ -1,14 +1,12 @@
 -- `groups::next_group` meets its contract. Assumes nothing.
 use Rattle.groups.proofs.Walk.{next-no, next-yes}
-use lib.ListN.{length}
 use Rattle.groups.specs.GroupLaws.{key-long}
 use Rattle.groups.proofs.Walk.{free-zero, free-came, free-yes}
-use Rattle.groups.specs.Groups.{nextSize, groupKey, groupSize}
+use Rattle.groups.specs.Groups.{groupSize}
 use denote.Ref.{now}
 use Prim.Native.Nat.{ℕ}
-use mathlib.Core.Path.{_≡_, refl, sym, ap, _∙_}
+use mathlib.Core.Path.{sym, ap, _∙_}
 use native.Mathlib.Omega.{arith}
-use borrow.Author.Tests.{eq-eqb, ne-eqb}
 use borrow.Author.Needs.{needs}
 use Rattle.groups.proofs.next_group.Statement.{statement}
 use Rattle.groups.proofs.next_group.Tie as tie

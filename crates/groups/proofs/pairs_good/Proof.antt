@@ -1,6 +1,6 @@
 -- `groups::pairs_good` meets its contract. Assumes nothing.
 use Rattle.groups.specs.Groups.{pairsGood, unitsFrom}
-use mathlib.Core.Path.{_≡_, refl, sym, ap, _∙_}
+use mathlib.Core.Path.{ap, _∙_}
 use Prim.Native.Nat.{ℕ, _*_}
 use denote.Ref.{now}
 use lib.ListN.{length, replicate}

@@ -4,7 +4,7 @@ use Rattle.groups.specs.Groups.{unitsFrom}
 use denote.Ref.{now}
 use lib.ListN.{length, replicate, length-set}
 use native.Mathlib.Omega.{arith}
-use Prim.Native.Nat.{ℕ, _+_, _-_, _*_, _≤_, _<_}
+use Prim.Native.Nat.{ℕ, _-_, _≤_}
 use mathlib.Core.Path.{_≡_, refl, sym, ap, _∙_}
 use Rattle.groups.proofs.units_good.Statement.{statement}
 use Rattle.groups.proofs.units_good.Tie as tie
