@@ -2,16 +2,16 @@
 use mathlib.Core.Path.{_≡_, refl, sym, ap, _∙_, subst}
 use mathlib.Core.Bool.{Bool, true, false, not, or-false, and-true}
 use mathlib.Core.List.{List, [], _++_}
-use Prim.Native.Nat.{ℕ, _+_, _-_, _≤_, _<_}
+use Prim.Native.Nat.{ℕ, _-_, _≤_, _<_}
 use native.Mathlib.Nat.{zero-add}
 use native.Mathlib.Omega.{arith}
 use lib.Dec.{eqb, leb}
 use lib.ListN.{length}
-use borrow.Author.Tests.{eq-eqb, ne-eqb, leb-true, leb-false}
+use borrow.Author.Tests.{ne-eqb, leb-true, leb-false}
 use Rattle.fields.specs.Slots.{zeros, Slot, takes, width, sum, anyBad, spread, agreeSent}
 use Rattle.fields.specs.Places.{selectedAt, entryAt, slotsOf}
 use Rattle.fields.specs.Walk.{Taking}
-use Rattle.fields.specs.Dictionaries.{before, before-none, Placed, dictionary-placed, widths-add}
+use Rattle.fields.specs.Dictionaries.{before-none, dictionary-placed, widths-fit}
 use Rattle.fields.specs.Takes.{Took, took}
 use Rattle.spread.specs.declared.Taken.{Taken}
 use Rattle.spread.specs.State.{taking, start, takeWalk}
@@ -24,14 +24,6 @@ pub record TookAll (ss : List Slot) (m : List ℕ) (t : Taken) (layout : List �
   pub layout-is : sum takes ss ≡ length m → layout ≡ spread ss m ++ zeros (154 - sum width ss)
 
 module _ (message count : ℕ) (bits m : List ℕ) where
-  -- all slots of a message fit the layout
-  pub widths-fit : sum width (slotsOf message count bits) ≤ 154
-  widths-fit =
-      let w : before (entryAt message) 0 + sum width (slotsOf message count bits) ≡ before (entryAt message) 120 = widths-add (selectedAt count bits) (entryAt message) 120 0 in
-      let z : before (entryAt message) 0 ≡ 0 = before-none (entryAt message) in
-      let f : before (entryAt message) 120 ≤ 154 = dictionary-placed message .fits in
-      omega arith
-
   all : (r : Taking) → r ≡ takeWalk message count bits m 120 0 (start (zeros 154)) → Took (entryAt message) m (slotsOf message count bits) 0 (start (zeros 154)) r
   all r e = subst (Took (entryAt message) m (slotsOf message count bits) 0 (start (zeros 154))) (sym e) (took (entryAt message) 154 (dictionary-placed message) m (selectedAt count bits) 120 0 (start (zeros 154)) (omega arith))
 
@@ -43,7 +35,7 @@ module _ (message count : ℕ) (bits m : List ℕ) where
         bad-is = k .bad-is ∙ or-false (anyBad (slotsOf message count bits));
         total-is = total (leb n (length m)) refl k;
         agree-is = λ h. k .agree-is (omega arith) ∙ and-true (agreeSent (slotsOf message count bits) m);
-        layout-is = λ h. k .layout-is [] 154 (omega arith) (sym (before-none (entryAt message))) refl widths-fit;
+        layout-is = λ h. k .layout-is [] 154 (omega arith) (sym (before-none (entryAt message))) refl (widths-fit message count bits);
       }
     where
       total : (b : Bool) → leb (sum takes (slotsOf message count bits)) (length m) ≡ b → Took (entryAt message) m (slotsOf message count bits) 0 (start (zeros 154)) (taking t layout)

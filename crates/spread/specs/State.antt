@@ -7,6 +7,7 @@ use Rattle.fields.specs.Places.{selectedAt, entryAt}
 use Rattle.fields.specs.Walk.{walk, Taking, takeEntry}
 use Rattle.spread.specs.declared.Taken.{Taken}
 
+-- the struct, and the layout that is lent
 abbrev pub taking : Taken → List ℕ → Taking
 taking t layout = record { at = t .at; agree = eqb (t .wrong) 0; bad = not (eqb (t .bad) 0); layout = layout }
 
