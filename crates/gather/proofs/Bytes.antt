@@ -1,26 +1,15 @@
--- A bitfield byte: one that is zero changes nothing, and a call with literals asks and tells what is so of the message and the byte that the
--- literals are. Assumes nothing.
+-- A bitfield byte: a call with literals asks and tells what is so of the message and the byte that the literals are. Assumes nothing.
 use mathlib.Core.Path.{_≡_, refl, sym, ap, ap₂, _∙_}
 use mathlib.Core.List.{List}
 use Prim.Native.Nat.{ℕ, _+_, _*_, _/_, _^_, _≤_, _<_}
-use native.Mathlib.Nat.{add-zero}
 use native.Mathlib.Omega.{arith}
 use lib.ListN.{length, getD}
-use Rattle.dictionary.specs.declared.Entry.{Entry}
 use Rattle.fields.specs.Walk.{Looking, Giving}
-use Rattle.fields.specs.Loops.{over, first-bit, bits-end}
 use Rattle.gather.specs.State.{lookWalk, giveWalk}
 
 -- nothing is left of a byte after eight halvings
 pub none-left : (x i : ℕ) → x < 256 → i ≡ 8 → x / 2 ^ i ≡ 0
 none-left x i h e = ap (λ (m : ℕ). x / 2 ^ m) e ∙ omega arith
-
--- a byte that is zero changes nothing
-pub none-set : {S : Type 0} (change : Entry → S → S) (message count : ℕ) (bits : List ℕ) (j value : ℕ) (st : S) → j < count → value ≡ getD bits j 0 → value ≡ 0
-    → st ≡ over change message count bits 8 (8 * j) st
-none-set change message count bits j value st h v z =
-    bits-end change message count bits j 0 value value st (over change message count bits 8 (8 * j) st) h (omega arith) v (first-bit value) z
-    (ap (λ (k : ℕ). over change message count bits 8 k st) (add-zero (8 * j)))
 
 -- ---- the message and the byte by the literals m and i
 

@@ -19,6 +19,7 @@ unseen v = record { total = 0; agree = true; bad = false; rest = v }
 abbrev pub lookWalk : ℕ → ℕ → List ℕ → ℕ → ℕ → Looking → Looking
 lookWalk message count bits n k st = walk (selectedAt count bits) (λ (i : ℕ). lookEntry (entryAt message i)) n k st
 
+-- the place, and the buffer that is lent
 abbrev pub giving : ℕ → List ℕ → Giving
 giving at buffer = record { at = at; buffer = buffer }
 

@@ -3,9 +3,10 @@
 use mathlib.Core.Path.{refl}
 use native.Mathlib.Omega.{arith}
 use denote.Ref.{now}
+use Rattle.fields.specs.Loops.{byte-clear}
 use Rattle.fields.specs.Walk.{lookEntry}
 use Rattle.gather.specs.State.{looking}
-use Rattle.gather.proofs.Bytes.{none-set, look-at, look-told}
+use Rattle.gather.proofs.Bytes.{look-at, look-told}
 use Rattle.gather.proofs.look_byte.Statement.{statement}
 use Rattle.gather.proofs.look_byte.Tie as tie
 
@@ -13,7 +14,7 @@ returns : tie.Need-returns
 returns c =
     let start = c .before .before in
     let a = start .args in
-    (none-set lookEntry (a .message) (a .count) (now (a .bits)) (a .j) (a .value) (looking (a .s) (now (a .rest))) (start .pre .1) (start .pre .3) (c .if1 .taken), omega arith)
+    (byte-clear lookEntry (a .message) (a .count) (now (a .bits)) (a .j) (a .value) (looking (a .s) (now (a .rest))) (start .pre .1) (start .pre .3) (c .if1 .taken), omega arith)
 
 look-bits-requires : tie.Need-look-bits-requires
 look-bits-requires c κs =

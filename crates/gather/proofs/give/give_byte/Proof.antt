@@ -3,9 +3,10 @@
 use mathlib.Core.Path.{refl}
 use native.Mathlib.Omega.{arith}
 use denote.Ref.{now}
+use Rattle.fields.specs.Loops.{byte-clear}
 use Rattle.fields.specs.Walk.{giveEntry}
 use Rattle.gather.specs.State.{giving}
-use Rattle.gather.proofs.Bytes.{none-set, give-at, give-told}
+use Rattle.gather.proofs.Bytes.{give-at, give-told}
 use Rattle.gather.proofs.give.give_byte.Statement.{statement}
 use Rattle.gather.proofs.give.give_byte.Tie as tie
 
@@ -13,7 +14,7 @@ returns : tie.Need-returns
 returns c =
     let start = c .before .before .before in
     let a = start .args in
-    (none-set (giveEntry (now (a .layout))) (a .message) (a .count) (now (a .bits)) (a .j) (a .value) (giving (a .start) (now (a .out))) (start .pre .1) (start .pre .3) (c .if1 .taken), start .pre .4)
+    (byte-clear (giveEntry (now (a .layout))) (a .message) (a .count) (now (a .bits)) (a .j) (a .value) (giving (a .start) (now (a .out))) (start .pre .1) (start .pre .3) (c .if1 .taken), start .pre .4)
 
 give-bits-requires : tie.Need-give-bits-requires
 give-bits-requires c κs =
