@@ -1,24 +1,22 @@
 -- Reading and writing in stages, as the functions have them: the head, then the body, then the room. Assumes nothing.
 use mathlib.Core.Path.{_≡_, refl, sym, ap, ap₂, _∙_}
-use mathlib.Core.Bool.{Bool, true, false, cond, not, _&&_, _||_}
+use mathlib.Core.Bool.{Bool, true, false, cond, not, _||_}
 use mathlib.Core.List.{List, _++_}
-use Prim.Native.Nat.{ℕ, zero, suc, _+_, _-_, _≤_, _<_}
-use native.Mathlib.Nat.{zero-add, zero-sub, suc-sub-suc, sub-zero}
+use Prim.Native.Nat.{ℕ, suc, _+_, _-_, _≤_, _<_}
 use native.Mathlib.Omega.{arith}
 use lib.Dec.{ltb, eqb}
-use lib.ListN.{length, take, drop, length-append}
-use borrow.Author.Tests.{lt-ltb, le-ltb, ltb-false, eq-eqb, ne-eqb, eqb-true, eqb-false, not-false}
+use lib.ListN.{length, take, drop}
+use borrow.Author.Tests.{lt-ltb, le-ltb, ltb-false, eq-eqb, ne-eqb, eqb-false}
 use Rattle.refusals.specs.Names.{unknownType, badUnit, wrongTotal, badValue, badGroup, notZero, noRoom}
 use Rattle.kinds.specs.Kinds.{allNul}
-use Rattle.numbers.specs.Numbers.{patched, putBuffer}
-use Rattle.numbers.specs.NumberLaws.{patched-length, patched-join, put-stores}
-use Rattle.numbers.proofs.Tail.{tail-is, lent-patched}
+use Rattle.numbers.specs.Numbers.{patched}
+use Rattle.numbers.proofs.Tail.{tail-is}
 use Rattle.wire.specs.Header.{headerBytes, typeOf, unitOf, numberOf}
 use Rattle.wire.specs.FrameLaws.{passed}
 use Rattle.fields.specs.Slots.{zeros}
-use Rattle.logins.specs.Sessions.{ofMember, ofVenue, unitGood, fixedSize, valuesGood, bodyEnd, sizeOf, headRefusal, bodyRefusal, readRefusal, bodyOf, blank, refuse, readOf, unusedRefusal, heldRefusal, writeRefusal, writeBuffer}
-use Rattle.logins.specs.SessionLaws.{Ends, body-ends}
-use Rattle.logins.specs.declared.Record.{Record}
+use Rattle.fields.specs.SlotLaws.{put-in-zeros}
+use Rattle.logins.specs.Sessions.{ofMember, ofVenue, unitGood, fixedSize, valuesGood, bodyEnd, sizeOf, headRefusal, bodyRefusal, readRefusal, bodyOf, refuse, readOf, unusedRefusal, heldRefusal, writeRefusal, writeBuffer}
+use Rattle.logins.specs.SessionLaws.{body-ends}
 use Rattle.logins.specs.declared.Reading.{Reading}
 
 -- a chain that begins with 4 and 5: the head decides, or else what follows
@@ -79,18 +77,10 @@ pub read-refused : (m : List ℕ) (h : ℕ) → h ≡ readRefusal m → (h ≡ 0
 unfolding readOf
 read-refused m h e z = rw (ne-eqb (readRefusal m) 0 (λ q. z (e ∙ q))) (ap refuse e)
 
-drop-zeros : (k n : ℕ) → drop k (zeros n) ≡ zeros (n - k)
-drop-zeros zero n = ap zeros (sym (sub-zero n))
-drop-zeros (suc k) zero = ap zeros (sym (zero-sub (suc k)))
-drop-zeros (suc k) (suc n) = drop-zeros k n ∙ ap zeros (sym (suc-sub-suc n k))
-
 -- the body copied to the front of zeros
 body-copied : (m : List ℕ) → 10 ≤ length m → patched (zeros 433) 0 (take (length m - 10) (drop 10 m)) ≡ bodyOf m
-unfolding patched bodyOf
-body-copied m h =
-    ap (λ (f : List ℕ). f ++ drop (0 + length f) (zeros 433)) (tail-is m 10 h)
-    ∙ ap (λ (k : ℕ). drop 10 m ++ drop k (zeros 433)) (zero-add (length (drop 10 m)))
-    ∙ ap (λ (l : List ℕ). drop 10 m ++ l) (drop-zeros (length (drop 10 m)) 433)
+unfolding bodyOf
+body-copied m h = ap (patched (zeros 433) 0) (tail-is m 10 h) ∙ put-in-zeros 433 (drop 10 m)
 
 abbrev reading : ℕ → ℕ → ℕ → List ℕ → Reading
 reading t u n b = record { refusal = 0; session = record { message = t; unit = u; number = n; body = b } }
@@ -210,13 +200,3 @@ module _ (message unit number : ℕ) (b out : List ℕ) where
   buffer-written z n s ys e =
       rw (eq-eqb (writeRefusal message unit number b (length out)) 0 z)
       (e ∙ ap (λ (k : ℕ). patched out 0 (headerBytes (8 + k) message unit number ++ take k b)) s)
-
--- one part, and then the rest into the tail: the buffer holds the two in a row
-pub puts-then : (out out₁ a b : List ℕ) (n : ℕ) → n ≡ 0 + length a → n + length b ≤ length out → out₁ ≡ putBuffer out 0 a
-    → {ys : List ℕ} → ys ≡ patched (take (length out₁ - n) (drop n out₁)) 0 b → take n out₁ ++ (ys ++ drop (length out₁ - n) (drop n out₁)) ≡ patched out 0 (a ++ b)
-puts-then out out₁ a b n k room e {ys} q =
-    let p : out₁ ≡ patched out 0 a = e ∙ put-stores out 0 a (omega arith) in
-    let same : length out₁ ≡ length out = ap length p ∙ patched-length out 0 a (omega arith) in
-    lent-patched out₁ n b (omega (arith, same)) q
-    ∙ ap₂ (λ (o : List ℕ) (i : ℕ). patched o i b) p k
-    ∙ patched-join out 0 a (omega arith) b

@@ -1,12 +1,12 @@
 -- What is true of session messages: bodies lie within the message, are at most 433 bytes, and nothing after them plays a part; and what follows
 -- where a message is read or written, the refusals one by one. Assumes nothing.
 use mathlib.Core.Path.{_≡_, refl, sym, ap, ap₂, _∙_}
-use mathlib.Core.Bool.{Bool, true, false, cond, not, _&&_, _||_}
-use mathlib.Core.List.{List, [], _∷_, _++_}
+use mathlib.Core.Bool.{Bool, true, false, cond, not, _||_}
+use mathlib.Core.List.{List, _++_}
 use Prim.Native.Nat.{ℕ, zero, suc, _+_, _-_, _*_, _≤_, _<_, zero-le}
 use native.Mathlib.Omega.{arith}
-use lib.Dec.{leb, ltb, eqb}
-use lib.ListN.{length, getD, take, drop, length-drop, length-append, List·getD-append}
+use lib.Dec.{ltb, eqb}
+use lib.ListN.{length, getD, take, drop, length-drop, length-append}
 use lib.Seq.{drop-append-le, take-append-le}
 use borrow.Author.Tests.{lt-ltb, le-ltb, ltb-true, ltb-false, eq-eqb, ne-eqb, eqb-true, eqb-false, not-false}
 use Rattle.refusals.specs.Names.{wrongTotal, notZero, badGroup}
@@ -15,8 +15,8 @@ use Rattle.wire.specs.Header.{typeOf, unitOf, numberOf}
 use Rattle.wire.specs.FrameLaws.{passed}
 use Rattle.fields.specs.SlotLaws.{both-true}
 use Rattle.groups.specs.Groups.{pairsGood, groupsEnd}
-use Rattle.groups.specs.GroupLaws.{Fits, pairs-fit, at-front, pairs-front, Steady, groups-steady, pairs-steady, taken-by}
-use Rattle.logins.specs.Sessions.{ofMember, ofVenue, unitGood, fixedSize, namesGood, statusGood, reasonGood, valuesGood, flagGood, after, pairsEnd, responseEnd, listsEnd, bodyEnd, sizeOf, readRefusal, unusedRefusal, heldRefusal, writeRefusal}
+use Rattle.groups.specs.GroupLaws.{pairs-fit, at-front, pairs-front, Steady, groups-steady, pairs-steady, taken-by}
+use Rattle.logins.specs.Sessions.{ofMember, ofVenue, unitGood, fixedSize, namesGood, statusGood, reasonGood, valuesGood, flagGood, after, pairsEnd, responseEnd, listsEnd, bodyEnd, sizeOf, readRefusal, writeRefusal}
 
 -- ---- bytes in front
 
@@ -105,11 +105,12 @@ fixed-small message = by (eqb message 0x37) (eqb message 0x24) (eqb message 0x08
     by false false true = omega arith
     by false false false = omega arith
 
+-- bytes from a place on, where the front has them
 take-front : (a k : ℕ) (p u : List ℕ) → k + a ≤ length p → take a (drop k (p ++ u)) ≡ take a (drop k p)
 take-front a k p u h = ap (take a) (drop-append-le k p u (omega arith)) ∙ take-append-le a (drop k p) u (omega (arith, length-drop k p))
 
 module _ (p u : List ℕ) where
-  names-front : 19 ≤ length p → namesGood (p ++ u) ≡ namesGood p
+  pub names-front : 18 ≤ length p → namesGood (p ++ u) ≡ namesGood p
   names-front h = rw (take-append-le 4 p u (omega arith), take-front 4 4 p u (omega arith), take-front 10 8 p u (omega arith))
 
   status-front : 61 ≤ length p → statusGood (p ++ u) ≡ statusGood p
@@ -125,7 +126,7 @@ module _ (p u : List ℕ) where
     where
       by : (a b c : Bool) → cond a 19 (cond b 67 (cond c 66 0)) ≤ length p
           → cond a (namesGood (p ++ u)) (cond b (statusGood (p ++ u)) (cond c (reasonGood (p ++ u)) true)) ≡ cond a (namesGood p) (cond b (statusGood p) (cond c (reasonGood p) true))
-      by true b c l = names-front l
+      by true b c l = names-front (omega (arith, l))
       by false true c l = status-front (omega (arith, l))
       by false false true l = reason-front (omega (arith, l))
       by false false false l = refl

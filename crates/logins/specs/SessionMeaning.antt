@@ -4,27 +4,25 @@
 --     response-is-a-value, a-value-is-a-response     fixed part and count of pairs, the pairs, count of groups, the groups
 -- Assumes nothing.
 use mathlib.Core.Path.{_≡_, refl, sym, ap, ap₂, _∙_, subst}
-use mathlib.Core.Bool.{Bool, true, false, cond, _||_}
-use mathlib.Core.List.{List, [], _∷_, _++_, append-nil, append-assoc}
-use Prim.Native.Nat.{ℕ, zero, suc, _+_, _-_, _*_, _≤_, _<_}
+use mathlib.Core.Bool.{true, false, cond, _||_}
+use mathlib.Core.List.{List, [], _∷_, _++_, append-nil}
+use Prim.Native.Nat.{ℕ, suc, _+_, _-_, _*_, _<_}
 use native.Mathlib.Omega.{arith}
 use lib.Dec.{ltb, eqb}
 use lib.ListN.{length, getD, take, drop, length-append, length-drop}
 use lib.Seq.{getD-drop, drop-drop, drop-at, take-all, getD-at}
-use borrow.Author.Tests.{lt-ltb, ltb-true, ne-eqb, eqb-false}
-use Rattle.wire.specs.Header.{headerBytes, typeOf, unitOf, numberOf}
+use borrow.Author.Tests.{lt-ltb, ltb-true, ne-eqb}
+use Rattle.numbers.specs.NumberLaws.{bytes-later}
+use Rattle.wire.specs.Header.{headerBytes, typeOf}
 use Rattle.wire.specs.HeaderLaws.{Bytes, header-number}
 use Rattle.groups.specs.Groups.{pairsGood, groupsEnd}
 use Rattle.groups.specs.GroupLaws.{at-front, taken-by}
 use Rattle.groups.specs.Values.{Pair, pairsBytes, PairsInOrder, Group, groupsBytes, GroupsInOrder}
 use Rattle.groups.specs.ValueLaws.{PairsValue, pairs-are-a-value, a-value-is-pairs, pairs-length, GroupsValue, groups-are-a-value, a-value-is-groups}
 use Rattle.logins.specs.Sessions.{ofMember, ofVenue, fixedSize, valuesGood, flagGood, after, pairsEnd, responseEnd, listsEnd, bodyEnd, readRefusal}
-use Rattle.logins.specs.SessionLaws.{After, after-of, values-front, flag-front, Good, good, is-read}
+use Rattle.logins.specs.SessionLaws.{after-of, values-front, flag-front, good, is-read}
 
 -- ---- what is read
-
-bytes-later : (k : ℕ) (s : List ℕ) → Bytes s → Bytes (drop k s)
-bytes-later k s bs i = rw (getD-drop k s i 0) (bs (k + i))
 
 -- the lists of a body that is read end with it
 module _ (message : ℕ) (b : List ℕ) (h : bodyEnd message b ≡ suc (length b)) (some : 0 < fixedSize message) where

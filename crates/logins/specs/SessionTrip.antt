@@ -3,11 +3,11 @@
 --     read-again      a record that the writer takes, written and read with any bytes after it, is the same record
 -- Assumes nothing.
 use mathlib.Core.Path.{_≡_, refl, sym, ap, ap₂, _∙_}
-use mathlib.Core.Bool.{true, _||_}
-use mathlib.Core.List.{List, [], _∷_, _++_, append-nil}
-use Prim.Native.Nat.{ℕ, suc, _+_, _-_, _≤_, _<_}
+use mathlib.Core.Bool.{true}
+use mathlib.Core.List.{List, [], _++_, append-nil}
+use Prim.Native.Nat.{ℕ, suc, _+_, _-_, _≤_}
 use native.Mathlib.Omega.{arith}
-use lib.ListN.{length, getD, take, drop, length-append, length-drop, take-append-drop}
+use lib.ListN.{length, take, drop, length-append, length-drop, take-append-drop}
 use lib.Seq.{length-take-le, take-at, drop-at}
 use Rattle.kinds.specs.Kinds.{allNul}
 use Rattle.wire.specs.Header.{headerBytes, lengthOf, typeOf, unitOf, numberOf, totalOf}
@@ -15,9 +15,9 @@ use Rattle.wire.specs.HeaderLaws.{Bytes, header-length, header-number, header-t
 use Rattle.wire.specs.Frame.{frameRefusal, framed}
 use Rattle.wire.specs.FrameLaws.{Whole, accepted, framed-is}
 use Rattle.fields.specs.Slots.{zeros}
-use Rattle.fields.specs.SlotLaws.{nul-is-zeros, zeros-are-nul}
-use Rattle.logins.specs.Sessions.{ofMember, ofVenue, fixedSize, valuesGood, bodyEnd, sizeOf, readRefusal, bodyOf, recordOf, bytesFor, recordRefusal, sessionBytes}
-use Rattle.logins.specs.SessionLaws.{values-front, Ends, body-ends, body-steady, Good, good, is-read, Fit, fit, is-written}
+use Rattle.fields.specs.SlotLaws.{zeros-are-nul, zeros-after}
+use Rattle.logins.specs.Sessions.{valuesGood, bodyEnd, sizeOf, readRefusal, bodyOf, recordOf, recordRefusal, sessionBytes}
+use Rattle.logins.specs.SessionLaws.{values-front, Ends, body-ends, body-steady, good, is-read, Fit, fit, is-written}
 use Rattle.logins.specs.declared.Record.{Record}
 
 -- ---- what is read is written again
@@ -91,12 +91,6 @@ module _ (m : List ℕ) (bytes : Bytes m) (w : Whole m) (exact : length m ≡ to
 -- the values of a record's type: its array's length
 pub record Sound (r : Record) : Type 0 where
   pub body-length : length (r .body) ≡ 433
-
--- zeros after what is kept
-zeros-after : (n k : ℕ) (l : List ℕ) → length l ≡ k → allNul (drop n l) ≡ true → take n l ++ zeros (k - n) ≡ l
-zeros-after n k l e z =
-    let d : length (drop n l) ≡ k - n = length-drop n l ∙ ap (λ (x : ℕ). x - n) e in
-    ap (λ (x : List ℕ). take n l ++ x) (sym (nul-is-zeros (drop n l) z ∙ ap zeros d)) ∙ take-append-drop n l
 
 module _ (r : Record) (room : ℕ) (ok : Sound r) (z : recordRefusal r room ≡ 0) where
   size : ℕ

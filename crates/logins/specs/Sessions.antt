@@ -128,16 +128,20 @@ bodyOf m = drop 10 m ++ zeros (433 - length (drop 10 m))
 abbrev pub recordOf : List ℕ → Record
 recordOf m = record { message = typeOf m; unit = unitOf m; number = numberOf m; body = bodyOf m }
 
+-- the blank record
 abbrev pub blank : Record
 blank = record { message = 0; unit = 0; number = 0; body = zeros 433 }
 
+-- the first where a test holds, else the second
 abbrev pub pickReading : Bool → Reading → Reading → Reading
 pickReading true a b = a
 pickReading false a b = b
 
+-- what a refused message answers
 abbrev pub refuse : ℕ → Reading
 refuse n = record { refusal = n; session = blank }
 
+-- what reading answers: 0 and the record, or the refusal and the blank record
 unfoldable pub readOf : List ℕ → Reading
 readOf m = pickReading (eqb (readRefusal m) 0) (record { refusal = 0; session = recordOf m }) (refuse (readRefusal m))
 
@@ -180,11 +184,14 @@ writeBuffer message unit number b out =
 
 -- ---- the same of a record
 
+-- its refusals
 abbrev pub recordRefusal : Record → ℕ → ℕ
 recordRefusal r room = writeRefusal (r .message) (r .unit) (r .number) (r .body) room
 
+-- what the output buffer holds after it
 abbrev pub recordBuffer : Record → List ℕ → List ℕ
 recordBuffer r out = writeBuffer (r .message) (r .unit) (r .number) (r .body) out
 
+-- its message's bytes
 abbrev pub sessionBytes : Record → List ℕ
 sessionBytes r = bytesFor (r .message) (r .unit) (r .number) (r .body)

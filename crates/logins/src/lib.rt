@@ -81,6 +81,7 @@ fn fixed_size(message: u8) -> usize
     }
 }
 
+// Login Request: SessionSubID, Username and Password of their kind.
 fn names_good(b: &[u8]) -> bool
     requires { ⌜ 18 ≤ length (now b) ⌝ }
     ensures { λ r. ⌜ r ≡ namesGood (now (b .entry)) ⌝ }
@@ -93,6 +94,7 @@ fn names_good(b: &[u8]) -> bool
     false
 }
 
+// Login Response: LoginResponseStatus and LoginResponseText of their kinds.
 fn status_good(b: &[u8]) -> bool
     requires { ⌜ 61 ≤ length (now b) ⌝ }
     ensures { λ r. ⌜ r ≡ statusGood (now (b .entry)) ⌝ }
@@ -103,6 +105,7 @@ fn status_good(b: &[u8]) -> bool
     false
 }
 
+// Logout: LogoutReason of its kind or an exclamation mark, and LogoutReasonText of its kind.
 fn reason_good(b: &[u8]) -> bool
     requires { ⌜ 61 ≤ length (now b) ⌝ }
     ensures { λ r. ⌜ r ≡ reasonGood (now (b .entry)) ⌝ }

@@ -5,7 +5,7 @@ use Rattle.logins.specs.SessionLaws.{steady-small, fixed-small, lists-st
 use borrow.Author.Tests.{not-true, not-false}
 use denote.Ref.{now}
 use native.Mathlib.Omega.{arith}
-use mathlib.Core.Path.{_≡_, refl, sym, ap, _∙_}
+use mathlib.Core.Path.{sym, _∙_}
 use borrow.Author.Needs.{needs}
 use Rattle.logins.proofs.body_end.Statement.{statement}
 use Rattle.logins.proofs.body_end.Tie as tie

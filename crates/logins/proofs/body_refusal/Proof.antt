@@ -4,7 +4,7 @@ use Rattle.logins.specs.Sessions.{bodyRefusal}
 use borrow.Author.Tests.{not-true, not-false}
 use native.Mathlib.Omega.{arith}
 use denote.Ref.{now}
-use mathlib.Core.Path.{_≡_, refl, sym, ap, _∙_}
+use mathlib.Core.Path.{sym, _∙_}
 use borrow.Author.Needs.{needs}
 use Rattle.logins.proofs.body_refusal.Statement.{statement}
 use Rattle.logins.proofs.body_refusal.Tie as tie

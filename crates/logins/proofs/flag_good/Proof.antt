@@ -1,6 +1,5 @@
 -- `logins::flag_good` meets its contract. Assumes nothing.
 use Rattle.logins.specs.Sessions.{flagGood}
-use mathlib.Core.Path.{_≡_, refl, sym, ap, _∙_}
 use borrow.Author.Tests.{ne-eqb, eq-eqb}
 use borrow.Author.Needs.{needs}
 use Rattle.logins.proofs.flag_good.Statement.{statement}

@@ -1,6 +1,6 @@
 -- `logins::head_refusal` meets its contract. Assumes nothing.
 use Rattle.logins.specs.Sessions.{headRefusal}
-use mathlib.Core.Path.{_≡_, sym, _∙_}
+use mathlib.Core.Path.{sym, _∙_}
 use native.Mathlib.Omega.{arith}
 use borrow.Author.Tests.{ne-eqb, eq-eqb, not-true, not-false}
 use borrow.Author.Needs.{needs}

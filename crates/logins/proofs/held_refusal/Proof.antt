@@ -1,5 +1,5 @@
 -- `logins::held_refusal` meets its contract. Assumes nothing.
-use Rattle.logins.proofs.Stages.{Held, held-of, bad-values, bad-groups, not-zero, is-held}
+use Rattle.logins.proofs.Stages.{held-of, bad-values, bad-groups, not-zero, is-held}
 use Rattle.logins.specs.Sessions.{fixedSize, valuesGood, heldRefusal}
 use borrow.Author.Tests.{lt-ltb, not-true, not-false}
 use lib.ListN.{length}
@@ -7,7 +7,7 @@ use Prim.Native.Nat.{_-_, _≤_, _<_}
 use mathlib.Core.Bool.{true}
 use denote.Ref.{now}
 use native.Mathlib.Omega.{arith}
-use mathlib.Core.Path.{_≡_, refl, sym, ap, _∙_}
+use mathlib.Core.Path.{_≡_, sym, _∙_}
 use borrow.Author.Needs.{needs}
 use Rattle.logins.proofs.held_refusal.Statement.{statement}
 use Rattle.logins.proofs.held_refusal.Tie as tie

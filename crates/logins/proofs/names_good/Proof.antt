@@ -1,5 +1,5 @@
 -- `logins::names_good` meets its contract. Assumes nothing.
-use mathlib.Core.Path.{_≡_, refl, sym, ap, _∙_}
+use mathlib.Core.Path.{sym, _∙_}
 use borrow.Author.Needs.{needs}
 use Rattle.logins.proofs.names_good.Statement.{statement}
 use Rattle.logins.proofs.names_good.Tie as tie

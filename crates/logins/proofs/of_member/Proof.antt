@@ -1,9 +1,7 @@
 -- `logins::of_member` meets its contract. Assumes nothing.
 use mathlib.Core.Logic.{⊎-elim, inl, inr}
-use lib.Dec.{eqb}
-use mathlib.Core.Bool.{true, _||_, or-true}
 use mathlib.Core.Path.{_≡_}
-use borrow.Author.Tests.{ne-eqb, eq-eqb}
+use borrow.Author.Tests.{ne-eqb}
 use Rattle.logins.proofs.of_member.Statement.{statement}
 use Rattle.logins.proofs.of_member.Tie as tie
 

@@ -2,7 +2,7 @@
 use Rattle.logins.specs.Sessions.{ofVenue}
 use mathlib.Core.Logic.{⊎-elim, inl, inr}
 use lib.Dec.{eqb}
-use mathlib.Core.Bool.{Bool, true, false, _||_}
+use mathlib.Core.Bool.{Bool, true, false}
 use mathlib.Core.Path.{_≡_, refl}
 use Prim.Native.Nat.{ℕ, _≤_, _<_}
 use native.Mathlib.Omega.{arith}

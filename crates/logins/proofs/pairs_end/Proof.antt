@@ -1,5 +1,5 @@
 -- `logins::pairs_end` meets its contract. Assumes nothing.
-use mathlib.Core.Path.{_≡_, refl, sym, ap, _∙_}
+use mathlib.Core.Path.{sym, _∙_}
 use borrow.Author.Needs.{needs}
 use Rattle.logins.proofs.pairs_end.Statement.{statement}
 use Rattle.logins.proofs.pairs_end.Tie as tie

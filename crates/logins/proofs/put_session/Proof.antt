@@ -1,12 +1,13 @@
 -- `logins::put_session` meets its contract. Assumes nothing.
-use Rattle.logins.proofs.Stages.{puts-then}
+use Rattle.numbers.specs.NumberLaws.{put-stores}
+use Rattle.numbers.proofs.Tail.{puts-then}
 use Rattle.wire.specs.Header.{headerBytes}
 use lib.ListN.{take}
 use lib.Seq.{length-take-le}
 use Prim.Native.Nat.{_+_}
 use denote.Ref.{now}
 use native.Mathlib.Omega.{arith}
-use mathlib.Core.Path.{_≡_, refl, sym, ap, _∙_}
+use mathlib.Core.Path.{refl, _∙_}
 use borrow.Author.Needs.{needs}
 use Rattle.logins.proofs.put_session.Statement.{statement}
 use Rattle.logins.proofs.put_session.Tie as tie
@@ -41,7 +42,10 @@ returns c =
     let a = start .args in
     let head = c .before .before .before .before .before .before .write-header in
     let n = length-take-le (a .size) (now (a .b)) (start .pre .1) in
-    puts-then (now (a .out)) _ (headerBytes (8 + a .size) (a .message) (a .unit) (a .number)) (take (a .size) (now (a .b))) 10 refl (omega (arith, n, start .pre .2)) (head .ensures .1) (c .before .before .copy-front .ensures)
+    let header = headerBytes (8 + a .size) (a .message) (a .unit) (a .number) in
+    puts-then (now (a .out)) _ header (take (a .size) (now (a .b))) 10 refl (omega (arith, n, start .pre .2))
+    (head .ensures .1 ∙ put-stores (now (a .out)) 0 header (omega (arith, start .pre .2)))
+    (c .before .before .copy-front .ensures)
 
 pub put-session-spec : {M : Type 1} → statement M
 put-session-spec =

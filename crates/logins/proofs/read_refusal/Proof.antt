@@ -3,7 +3,6 @@ use Rattle.logins.proofs.Stages.{head-stops, too-short, by-body}
 use Rattle.logins.specs.SessionLaws.{fixed-small}
 use denote.Ref.{now}
 use native.Mathlib.Omega.{arith}
-use mathlib.Core.Path.{_≡_, refl, sym, ap, _∙_}
 use borrow.Author.Needs.{needs}
 use Rattle.logins.proofs.read_refusal.Statement.{statement}
 use Rattle.logins.proofs.read_refusal.Tie as tie

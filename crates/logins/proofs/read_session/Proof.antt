@@ -1,14 +1,14 @@
 -- `logins::read_session` meets its contract. Assumes nothing.
 use Rattle.logins.proofs.Stages.{read-refused, read-accepted}
 use Rattle.logins.specs.Sessions.{readRefusal}
-use Rattle.logins.specs.SessionLaws.{Good, good}
+use Rattle.logins.specs.SessionLaws.{good}
 use Rattle.logins.specs.SessionTrip.{body-small}
 use Rattle.numbers.proofs.Tail.{tail-is}
 use lib.ListN.{length}
 use Prim.Native.Nat.{_≤_}
 use denote.Ref.{now}
 use native.Mathlib.Omega.{arith}
-use mathlib.Core.Path.{_≡_, refl, sym, ap, _∙_}
+use mathlib.Core.Path.{_≡_, sym, ap, _∙_}
 use borrow.Author.Needs.{needs}
 use Rattle.logins.proofs.read_session.Statement.{statement}
 use Rattle.logins.proofs.read_session.Tie as tie

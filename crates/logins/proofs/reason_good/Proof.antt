@@ -1,5 +1,4 @@
 -- `logins::reason_good` meets its contract. Assumes nothing.
-use mathlib.Core.Path.{_≡_, refl, sym, ap, _∙_}
 use borrow.Author.Tests.{ne-eqb, eq-eqb}
 use borrow.Author.Needs.{needs}
 use Rattle.logins.proofs.reason_good.Statement.{statement}

@@ -6,7 +6,7 @@ use Rattle.groups.specs.Groups.{groupsEnd}
 use Rattle.groups.specs.GroupLaws.{groups-steady, pairs-steady}
 use denote.Ref.{now}
 use native.Mathlib.Omega.{arith}
-use mathlib.Core.Path.{_≡_, refl, sym, ap, _∙_}
+use mathlib.Core.Path.{_∙_}
 use borrow.Author.Needs.{needs}
 use Rattle.logins.proofs.response_end.Statement.{statement}
 use Rattle.logins.proofs.response_end.Tie as tie
