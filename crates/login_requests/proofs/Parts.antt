@@ -14,6 +14,7 @@ use borrow.Author.Tests.{lt-leb, eq-eqb, ne-eqb}
 use Rattle.numbers.specs.Numbers.{bytesOf, patched, putBuffer}
 use Rattle.numbers.specs.NumberLaws.{put-stores, patched-length, patched-join}
 use Rattle.fields.specs.Slots.{zeros}
+use Rattle.fields.specs.SlotLaws.{put-in-zeros}
 use Rattle.table.specs.declared.Table.{Table}
 use Rattle.table.specs.Table.{lastOf}
 use Rattle.groups.specs.Values.{pairsBytes}
@@ -152,12 +153,6 @@ counted out out₁ names k l h p =
     ∙ ap (λ (i : ℕ). patched (patched out 0 names) i (k ∷ [])) n
     ∙ patched-join out 0 names (omega arith) (k ∷ [])
 
-drop-zeros : (k n : ℕ) → drop k (zeros n) ≡ zeros (n - k)
-drop-zeros zero n = let z : n ≡ n - 0 = omega arith in ap zeros z
-drop-zeros (suc k) zero = let z : 0 ≡ 0 - suc k = omega arith in ap zeros z
-drop-zeros (suc k) (suc n) = let z : n - k ≡ suc n - suc k = omega arith in drop-zeros k n ∙ ap zeros z
-
 -- what is put into zeros is followed by zeros
 pub padded-is : (s : List ℕ) → patched (zeros 433) 0 s ≡ padded s
-unfolding patched
-padded-is s = let z : 0 + length s ≡ length s = omega arith in ap (λ (k : ℕ). s ++ drop k (zeros 433)) z ∙ ap (λ (l : List ℕ). s ++ l) (drop-zeros (length s) 433)
+padded-is s = put-in-zeros 433 s

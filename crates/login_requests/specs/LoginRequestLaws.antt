@@ -16,10 +16,11 @@ use mathlib.Core.List.{List, [], _∷_, _++_, append-assoc, append-nil}
 use Prim.Native.Nat.{ℕ, zero, suc, _+_, _-_, _*_, _≤_, _<_}
 use native.Mathlib.Omega.{arith}
 use lib.Dec.{leb, eqb}
-use lib.ListN.{length, getD, take, drop, replicate, length-append, length-drop}
-use lib.Seq.{take-append-le, drop-append-le, drop-at, getD-at, length-take-le}
+use lib.ListN.{length, getD, take, drop, replicate, length-append}
+use lib.Seq.{drop-at, getD-at, length-take-le}
 use borrow.Author.Tests.{leb-true, le-ltb, le-leb, lt-leb, lt-ltb, eq-eqb, ne-eqb, eqb-true}
 use Rattle.numbers.specs.Numbers.{numberAt, bytesOf}
+use Rattle.numbers.specs.NumberLaws.{bytes-first}
 use Rattle.kinds.specs.Kinds.{allNul}
 use Rattle.fields.specs.Slots.{zeros}
 use Rattle.fields.specs.SlotLaws.{zeros-are-nul}
@@ -32,7 +33,7 @@ use Rattle.groups.specs.NotTwice.{not-twice}
 use Rattle.groups.specs.ValueLaws.{pairs-length, a-value-is-groups}
 use Rattle.groups.specs.FullList.{listed, full-list}
 use Rattle.logins.specs.Sessions.{namesGood, valuesGood, fixedSize, flagGood, after, listsEnd, bodyEnd, sizeOf, writeRefusal, recordRefusal}
-use Rattle.logins.specs.SessionLaws.{is-written}
+use Rattle.logins.specs.SessionLaws.{names-front, is-written}
 use Rattle.login_requests.specs.declared.Choice.{Choice}
 use Rattle.login_requests.specs.declared.Bitfields.{Bitfields}
 use Rattle.login_requests.specs.LoginRequests.{allUnits, pickChoice, choiceOf, least, pairsFor, unitsGroup, bitsGroup, part, unitsPart, bitsPart, one, groupCount, groupsPart, saidOf, padded, loginRecord}
@@ -165,12 +166,6 @@ bits-bytes type b o =
     ap (λ (k : ℕ). bytesOf 2 (5 + b .count) ++ (0x81 ∷ type ∷ b .count ∷ take k (b .bits))) (sym (least-first (b .count) 15 (o .few)))
     ∙ ap (λ (k : ℕ). bytesOf 2 (5 + k) ++ (0x81 ∷ type ∷ k ∷ take (b .count) (b .bits))) (sym l)
 
-bytes-first : (n : ℕ) (s : List ℕ) → ((i : ℕ) → getD s i 0 < 256) → (i : ℕ) → getD (take n s) i 0 < 256
-bytes-first zero s bs i = omega arith
-bytes-first (suc n) [] bs i = omega arith
-bytes-first (suc n) (x ∷ s) bs zero = bs 0
-bytes-first (suc n) (x ∷ s) bs (suc i) = bytes-first n s (λ j. bs (suc j)) i
-
 bits-in-order : (type : ℕ) (b : Bitfields) → (type ≡ 0x25) ⊎ (type ≡ 0x2C) → BitsInOrder b → InOrder (bitsValue type b)
 bits-in-order type b k o = (k, omega (arith, o .few, length-take-le (b .count) (b .bits) (omega (arith, o .few, o .there))), bytes-first (b .count) (b .bits) (o .bytes))
 
@@ -239,12 +234,6 @@ module _ (table : Table) (c : Choice) (a e : Bitfields) where
 
 -- ---- writing
 
-take-front : (n k : ℕ) (p u : List ℕ) → k + n ≤ length p → take n (drop k (p ++ u)) ≡ take n (drop k p)
-take-front n k p u h = ap (take n) (drop-append-le k p u (omega arith)) ∙ take-append-le n (drop k p) u (omega (arith, length-drop k p))
-
-names-front : (p u : List ℕ) → length p ≡ 18 → namesGood (p ++ u) ≡ namesGood p
-names-front p u h = rw (take-append-le 4 p u (omega arith), take-front 4 4 p u (omega arith), take-front 10 8 p u (omega arith))
-
 -- names, a count and the bytes of as many groups in order, and zeros after them, are written where there is room
 module _ (names : List ℕ) (gs : List Group) (k room : ℕ) (long : length names ≡ 18) (good : namesGood names ≡ true) (o : GroupsInOrder gs)
     (has-room : 10 + (19 + length (groupsBytes gs)) ≤ room) where
@@ -273,7 +262,7 @@ module _ (names : List ℕ) (gs : List Group) (k room : ℕ) (long : length name
 
   values-are : valuesGood 0x37 (said ++ zeros k) ≡ true
   unfolding valuesGood
-  values-are = ap namesGood as-parts ∙ names-front names (length gs ∷ (groupsBytes gs ++ zeros k)) long ∙ good
+  values-are = ap namesGood as-parts ∙ names-front names (length gs ∷ (groupsBytes gs ++ zeros k)) (omega (arith, long)) ∙ good
 
   pub body-is-written : recordRefusal (record { message = 0x37; unit = 0; number = 0; body = (names ++ (length gs ∷ groupsBytes gs)) ++ zeros k }) room ≡ 0
   unfolding said fixedSize
@@ -412,7 +401,7 @@ module _ (table : Table) (choice : Choice) (names : List ℕ) (acknowledgments e
 
   values-of : (u : List ℕ) → valuesGood 0x37 (names ++ u) ≡ true
   unfolding valuesGood
-  values-of u = names-front names u long ∙ good
+  values-of u = names-front names u (omega (arith, long)) ∙ good
 
   units-refused : ((s : List ℕ) → nextSize (replicate 4 0) (unitsGroup table choice ++ s) ≡ 0) → recordRefusal (loginRecord table choice names acknowledgments executions) room ≡ 11
   unfolding loginRecord

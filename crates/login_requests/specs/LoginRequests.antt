@@ -24,6 +24,7 @@ upFrom (suc n) k = k ∷ upFrom n (suc k)
 abbrev pub allUnits : Choice
 allUnits = record { which = 1; flag = 1; count = 32; units = upFrom 32 1 }
 
+-- the first where a test holds, else the second
 abbrev pub pickChoice : Bool → Choice → Choice → Choice
 pickChoice true a b = a
 pickChoice false a b = b
@@ -34,6 +35,7 @@ choiceOf c = pickChoice (eqb (c .which) 0) allUnits c
 
 -- ---- the groups
 
+-- the lesser of two
 abbrev pub least : ℕ → ℕ → ℕ
 least a b = cond (leb a b) a b
 
@@ -56,16 +58,20 @@ abbrev pub part : Bool → List ℕ → List ℕ
 part true g = g
 part false g = []
 
+-- the group of units, where one is chosen
 unfoldable pub unitsPart : Table → Choice → List ℕ
 unitsPart table c = part (eqb (c .which) 1) (unitsGroup table c)
 
+-- the group of bitfields of a message type, where it is given
 unfoldable pub bitsPart : ℕ → Bitfields → List ℕ
 bitsPart type b = part (b .given) (bitsGroup type b)
 
+-- 1 for what is there
 abbrev pub one : Bool → ℕ
 one true = 1
 one false = 0
 
+-- the number of groups
 unfoldable pub groupCount : Choice → Bitfields → Bitfields → ℕ
 groupCount c acknowledgments executions = one (eqb (c .which) 1) + (one (acknowledgments .given) + one (executions .given))
 
@@ -83,6 +89,7 @@ saidOf table c names acknowledgments executions = names ++ (groupCount c acknowl
 abbrev pub padded : List ℕ → List ℕ
 padded s = s ++ zeros (433 - length s)
 
+-- the record of a Login Request: unit 0, number 0, and that body
 unfoldable pub loginRecord : Table → Choice → List ℕ → Bitfields → Bitfields → Record
 loginRecord table choice names acknowledgments executions =
     record { message = 0x37; unit = 0; number = 0; body = padded (saidOf table (choiceOf choice) names acknowledgments executions) }
