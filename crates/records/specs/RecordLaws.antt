@@ -6,7 +6,6 @@ use native.Mathlib.Omega.{arith}
 use lib.ListN.{length, getD, take, drop, set}
 use Rattle.numbers.specs.Numbers.{numberAt, bytesOf, patched, putBuffer}
 use Rattle.numbers.specs.NumberLaws.{put-stores}
-use Rattle.orders.specs.declared.Record.{Record}
 use Rattle.records.specs.Records.{recordAt}
 
 -- the first two bytes stored and the number put after them

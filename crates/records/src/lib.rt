@@ -1,7 +1,7 @@
 // A record as bytes, for callers that have numbers and byte buffers only: 235 of them, every part at a place of its own.
 ghost use mathlib.Core.Path.{_≡_};
 ghost use mathlib.Core.List.{_∷_, _++_};
-ghost use Prim.Native.Nat.{_+_, _≤_};
+ghost use Prim.Native.Nat.{_≤_};
 ghost use lib.ListN.{length};
 ghost use Rattle.numbers.specs.Numbers.{bytesOf, patched};
 ghost use Rattle.records.specs.Records.{recordBytes, recordAt};

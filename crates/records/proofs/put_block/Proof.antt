@@ -1,6 +1,6 @@
 -- `records::put_block` meets its contract. Assumes nothing.
 use Rattle.numbers.proofs.Tail.{puts-then, tail-length, first-stored}
-use mathlib.Core.Path.{_≡_, refl, sym, ap, _∙_}
+use mathlib.Core.Path.{refl, ap, _∙_}
 use mathlib.Core.List.{[], _∷_, _++_}
 use Rattle.numbers.specs.NumberLaws.{patched-length}
 use lib.ListN.{length, length-append, length-set}

@@ -1,9 +1,7 @@
 -- `records::put_body` meets its contract. Assumes nothing.
 use Rattle.numbers.proofs.Tail.{puts-then}
-use mathlib.Core.Path.{_≡_, refl, sym, ap, _∙_}
-use mathlib.Core.List.{[], _∷_, _++_}
-use Rattle.numbers.specs.NumberLaws.{patched-length}
-use lib.ListN.{length, length-append, length-set}
+use mathlib.Core.List.{_∷_, _++_}
+use lib.ListN.{length-append}
 use native.Mathlib.Omega.{arith}
 use denote.Ref.{now}
 use borrow.Author.Needs.{needs}

@@ -1,10 +1,10 @@
 -- `records::put_head` meets its contract. Assumes nothing.
 use Rattle.numbers.specs.Numbers.{bytesOf}
 use Rattle.records.specs.RecordLaws.{head-put}
-use mathlib.Core.Path.{_≡_, refl, sym, ap, _∙_}
-use mathlib.Core.List.{[], _∷_, _++_}
+use mathlib.Core.Path.{ap, _∙_}
+use mathlib.Core.List.{_∷_}
 use Rattle.numbers.specs.NumberLaws.{patched-length}
-use lib.ListN.{length, length-append, length-set}
+use lib.ListN.{length, length-set}
 use native.Mathlib.Omega.{arith}
 use denote.Ref.{now}
 use borrow.Author.Needs.{needs}
