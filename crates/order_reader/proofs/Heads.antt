@@ -5,7 +5,7 @@ use mathlib.Core.Bool.{Bool, true, false, cond, not, _||_, or-true}
 use mathlib.Core.List.{List}
 use Prim.Native.Nat.{ℕ, _+_, _≤_, _<_}
 use native.Mathlib.Omega.{arith}
-use lib.Dec.{leb, ltb, eqb}
+use lib.Dec.{leb, ltb}
 use lib.ListN.{length, getD}
 use borrow.Author.Tests.{not-true, not-false, le-leb, lt-leb, ltb-false}
 use Rattle.refusals.specs.Names.{unknownType, badUnit, wrongTotal}
@@ -13,6 +13,7 @@ use Rattle.wire.specs.Header.{typeOf, unitOf}
 use Rattle.wire.specs.FrameLaws.{passed}
 use Rattle.orders.specs.Shapes.{ofMember, ofVenue, countAt, mostOf, unitGood}
 use Rattle.orders.specs.Orders.{headRefusal, countOf}
+use Rattle.orders.specs.OrderLaws.{count-bounds, most-bound}
 use Rattle.order_reader.specs.Stages.{countRefusal}
 
 -- ---- the refusals by their tests
@@ -60,35 +61,6 @@ module _ (m : List ℕ) (message unit : ℕ) (e : message ≡ typeOf m) (f : uni
 
 -- ---- a good head
 
-count-at-least : (message : ℕ) → 30 ≤ countAt message
-unfolding countAt
-count-at-least message = by (eqb message 0x38) (eqb message 0x39) (eqb message 0x25)
-  where
-    by : (a b c : Bool) → 30 ≤ cond a 35 (cond b 30 (cond c 47 69))
-    by true b c = omega arith
-    by false true c = omega arith
-    by false false true = omega arith
-    by false false false = omega arith
-
-pub count-at-most : (message : ℕ) → countAt message ≤ 69
-unfolding countAt
-count-at-most message = by (eqb message 0x38) (eqb message 0x39) (eqb message 0x25)
-  where
-    by : (a b c : Bool) → cond a 35 (cond b 30 (cond c 47 69)) ≤ 69
-    by true b c = omega arith
-    by false true c = omega arith
-    by false false true = omega arith
-    by false false false = omega arith
-
-most-at-most : (message : ℕ) → mostOf message ≤ 15
-unfolding mostOf
-most-at-most message = by (eqb message 0x38) (eqb message 0x39)
-  where
-    by : (a b : Bool) → cond a 10 (cond b 2 15) ≤ 15
-    by true b = omega arith
-    by false true = omega arith
-    by false false = omega arith
-
 -- where the count stands, how many bitfields there are, and that they fit
 pub record GoodHead (m : List ℕ) (at count : ℕ) : Type 0 where
   pub at-least : 30 ≤ at
@@ -106,9 +78,9 @@ good-head m message at count z e f g =
     let p5 = passed (ltb (length m) (countAt (typeOf m) + 1 + countOf m)) _ _ (p4 .1) in
     let most : countOf m ≤ mostOf (typeOf m) = ltb-false _ _ (p4 .0) in
     let whole : countAt (typeOf m) + 1 + countOf m ≤ length m = ltb-false _ _ (p5 .0) in
-    let bound : mostOf (typeOf m) ≤ 15 = most-at-most (typeOf m) in
-    let low : 30 ≤ countAt (typeOf m) = count-at-least (typeOf m) in
-    let high : countAt (typeOf m) ≤ 69 = count-at-most (typeOf m) in
+    let bound : mostOf (typeOf m) ≤ 15 = most-bound (typeOf m) in
+    let low : 30 ≤ countAt (typeOf m) = count-bounds (typeOf m) .low in
+    let high : countAt (typeOf m) ≤ 69 = count-bounds (typeOf m) .high in
     let a : at ≡ countAt (typeOf m) = f ∙ ap countAt e in
     let n : count ≡ countOf m = g ∙ ap (λ (i : ℕ). getD m i 0) a in
     record { at-least = omega arith; at-most = omega arith; few = omega arith; fits = omega arith }

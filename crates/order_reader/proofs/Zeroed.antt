@@ -1,22 +1,13 @@
 -- Bytes copied into the front of an array of zeros: they stand there, with zeros after them. Assumes nothing.
-use mathlib.Core.Path.{_≡_, sym, ap, _∙_}
+use mathlib.Core.Path.{_≡_, ap, _∙_}
 use mathlib.Core.List.{List, _++_}
-use Prim.Native.Nat.{ℕ, zero, suc, _-_, _≤_}
-use native.Mathlib.Nat.{zero-add, zero-sub, suc-sub-suc, sub-zero}
+use Prim.Native.Nat.{ℕ, _-_, _≤_}
 use native.Mathlib.Omega.{arith}
 use lib.ListN.{length, take, drop, length-drop}
 use lib.Seq.{length-take-le}
 use Rattle.numbers.specs.Numbers.{patched}
 use Rattle.fields.specs.Slots.{zeros}
-
-drop-zeros : (k n : ℕ) → drop k (zeros n) ≡ zeros (n - k)
-drop-zeros zero n = ap (λ (i : ℕ). zeros i) (sym (sub-zero n))
-drop-zeros (suc k) zero = ap (λ (i : ℕ). zeros i) (sym (zero-sub (suc k)))
-drop-zeros (suc k) (suc n) = drop-zeros k n ∙ ap (λ (i : ℕ). zeros i) (sym (suc-sub-suc n k))
-
-zeroed : (n : ℕ) (f : List ℕ) → patched (zeros n) 0 f ≡ f ++ zeros (n - length f)
-unfolding patched
-zeroed n f = ap (λ (i : ℕ). f ++ drop i (zeros n)) (zero-add (length f)) ∙ ap (λ (l : List ℕ). f ++ l) (drop-zeros (length f) n)
+use Rattle.fields.specs.SlotLaws.{put-in-zeros}
 
 -- the part of a message from a up to e, which is w bytes, with z zeros after it
 pub copied : (n w z a e : ℕ) (m ys : List ℕ) → e - a ≡ w → n - w ≡ z → e ≤ length m → ys ≡ patched (zeros n) 0 (take (e - a) (drop a m))
@@ -26,4 +17,4 @@ copied n w z a e m ys p q h r =
     let d : length (drop a m) ≡ length m - a = length-drop a m in
     let l : length f ≡ w = length-take-le w (drop a m) (omega arith) in
     let s : n - length f ≡ z = omega arith in
-    r ∙ ap (λ (i : ℕ). patched (zeros n) 0 (take i (drop a m))) p ∙ zeroed n f ∙ ap (λ (i : ℕ). f ++ zeros i) s
+    r ∙ ap (λ (i : ℕ). patched (zeros n) 0 (take i (drop a m))) p ∙ put-in-zeros n f ∙ ap (λ (i : ℕ). f ++ zeros i) s

@@ -7,7 +7,8 @@ use mathlib.Core.List.{_++_}
 use denote.Ref.{now}
 use lib.ListN.{take, drop}
 use Rattle.fields.specs.Slots.{zeros}
-use Rattle.order_reader.proofs.Heads.{count-at-most, good-head}
+use Rattle.orders.specs.OrderLaws.{count-bounds}
+use Rattle.order_reader.proofs.Heads.{good-head}
 use Rattle.order_reader.proofs.Readings.{parted}
 use borrow.Author.Needs.{needs}
 use Rattle.order_reader.proofs.parts_of.Statement.{statement}
@@ -42,7 +43,7 @@ fixed-part-requires c κs =
 add-t9 : tie.Need-add-t9
 add-t9 c =
     let at = c .before .before .before .before .before in
-    omega (arith, count-at-most (at .before .type-of .result), at .count-at .ensures)
+    omega (arith, count-bounds (at .before .type-of .result) .high, at .count-at .ensures)
 
 cast-t10 : tie.Need-cast-t10
 cast-t10 c = search needs
@@ -50,7 +51,7 @@ cast-t10 c = search needs
 add-t11 : tie.Need-add-t11
 add-t11 c =
     let at = c .before .before .before .before .before in
-    omega (arith, count-at-most (at .before .type-of .result), at .count-at .ensures)
+    omega (arith, count-bounds (at .before .type-of .result) .high, at .count-at .ensures)
 
 returns : tie.Need-returns
 returns c =
