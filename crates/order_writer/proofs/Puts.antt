@@ -1,23 +1,21 @@
 -- The parts of a message in a row. Assumes nothing.
-use mathlib.Core.Path.{_≡_, refl, sym, ap, ap₂, _∙_, subst}
+use mathlib.Core.Path.{_≡_, ap, ap₂, _∙_}
 use mathlib.Core.List.{List, _∷_, _++_}
 use Prim.Native.Nat.{ℕ, _+_, _-_, _≤_}
-use native.Mathlib.Nat.{zero-add}
 use native.Mathlib.Omega.{arith}
 use lib.ListN.{length, take, drop, length-append}
 use lib.Seq.{length-take-le}
 use Rattle.numbers.specs.Numbers.{patched}
 use Rattle.numbers.specs.NumberLaws.{patched-length, patched-join}
-use Rattle.fields.specs.Slots.{Slot, takes, width, sum, gathered}
+use Rattle.fields.specs.Slots.{takes, sum, gathered}
 use Rattle.fields.specs.SlotLaws.{gathered-length}
 use Rattle.fields.specs.Places.{selectedAt, entryAt, slotsOf}
 use Rattle.fields.specs.Walk.{Giving}
-use Rattle.fields.specs.Dictionaries.{before, before-none, dictionary-placed}
+use Rattle.fields.specs.Dictionaries.{before, before-none, dictionary-placed, widths-fit}
 use Rattle.fields.specs.Gives.{gave}
 use Rattle.gather.specs.State.{giving, giveWalk}
 use Rattle.orders.specs.Shapes.{countAt}
 use Rattle.orders.specs.OrderLaws.{count-bounds}
-use Rattle.orders.specs.RoundTrip.{widths-fit}
 use Rattle.order_writer.specs.Stages.{fieldBytes, restBytes}
 
 -- the selected fields given at a place

@@ -2,7 +2,7 @@
 -- buffer follows. Assumes nothing.
 use mathlib.Core.Path.{_≡_, refl, sym, ap, ap₂, _∙_}
 use mathlib.Core.Bool.{Bool, true, false, cond, not, _&&_, _||_, or-false, and-true}
-use mathlib.Core.List.{List, [], _∷_, _++_}
+use mathlib.Core.List.{List, [], _++_}
 use Prim.Native.Nat.{ℕ, suc, _+_, _-_, _≤_}
 use native.Mathlib.Nat.{zero-add}
 use native.Mathlib.Omega.{arith}
@@ -14,17 +14,17 @@ use Rattle.numbers.specs.Numbers.{patched}
 use Rattle.kinds.specs.Kinds.{allNul}
 use Rattle.wire.specs.Header.{headerBytes}
 use Rattle.wire.specs.FrameLaws.{passed}
-use Rattle.fields.specs.Slots.{Slot, slot, takes, width, sum, anyBad, agreeHeld}
+use Rattle.fields.specs.Slots.{takes, width, sum, anyBad, agreeHeld}
 use Rattle.fields.specs.Places.{selectedAt, entryAt, slotsOf, hasRequired}
 use Rattle.fields.specs.Walk.{Looking}
-use Rattle.fields.specs.Dictionaries.{before-none, dictionary-placed}
+use Rattle.fields.specs.SlotLaws.{takes-below}
+use Rattle.fields.specs.Dictionaries.{before-none, dictionary-placed, widths-fit}
 use Rattle.fields.specs.Looks.{Looked, looked, cleared, zero-by-clearing}
 use Rattle.gather.specs.declared.Seen.{Seen}
 use Rattle.gather.specs.State.{looking, unseen, lookWalk}
 use Rattle.orders.specs.Shapes.{ofMember, ofVenue, countAt, mostOf, unitGood, fixedGood}
 use Rattle.orders.specs.Orders.{writeSlots, zeroUnused, sizeOf, orderBytes, writeRefusal, writeBuffer}
 use Rattle.orders.specs.OrderLaws.{most-bound}
-use Rattle.orders.specs.RoundTrip.{widths-fit}
 use Rattle.orders.specs.declared.Record.{Record}
 use Rattle.order_writer.specs.Stages.{topRefusal, unusedZero, seenRefusal, fieldBytes, restBytes}
 
@@ -60,11 +60,6 @@ count-fits message unit count z =
     omega (arith, ltb-false (mostOf message) count (p7 .0), most-bound message)
 
 -- what is sent is at most what is held
-sent-at-most : (ss : List Slot) → sum takes ss ≤ sum width ss
-sent-at-most [] = omega arith
-sent-at-most (slot true e ∷ ss) = let h = sent-at-most ss in omega arith
-sent-at-most (slot false e ∷ ss) = let h = sent-at-most ss in omega arith
-
 -- 8, 9, 10, 12, and what comes after them
 abbrev block : Record → Bool → Bool → Bool → ℕ → ℕ
 block r bad agree zero rest =
@@ -140,7 +135,7 @@ module _ (r : Record) (s : Seen) (rest : List ℕ) (lv : length (r .slots) ≡ 1
   size-is e = ap₂ (λ (x y : ℕ). x + 1 + r .count + y) e total-is
 
   pub total-small : s .total ≤ 154
-  total-small = omega (arith, total-is, sent-at-most (slotsOf (r .message) (r .count) (r .bits)), widths-fit (r .message) (r .count) (r .bits))
+  total-small = omega (arith, total-is, takes-below (slotsOf (r .message) (r .count) (r .bits)), widths-fit (r .message) (r .count) (r .bits))
 
 -- ---- the buffer
 

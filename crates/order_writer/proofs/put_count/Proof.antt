@@ -6,9 +6,8 @@ use denote.Ref.{now}
 use lib.ListN.{length, length-set}
 use Rattle.numbers.specs.NumberLaws.{patched-length}
 use native.Mathlib.Omega.{arith}
-use Prim.Native.Nat.{ℕ, _+_, _-_}
-use mathlib.Core.List.{List, [], _∷_}
-use mathlib.Core.Path.{_≡_, refl, sym, ap, _∙_}
+use mathlib.Core.List.{[], _∷_}
+use mathlib.Core.Path.{refl, ap, _∙_}
 use borrow.Author.Needs.{needs}
 use Rattle.order_writer.proofs.put_count.Statement.{statement}
 use Rattle.order_writer.proofs.put_count.Tie as tie

@@ -1,17 +1,8 @@
 -- `order_writer::put_fields` meets its contract. Assumes nothing.
 use Rattle.order_writer.proofs.Puts.{fields-put}
 use Rattle.order_writer.specs.Stages.{fieldBytes}
-use Rattle.order_writer.proofs.Puts.{fields-given}
-use Rattle.fields.specs.Places.{slotsOf}
-use Rattle.fields.specs.Slots.{gathered}
-use Rattle.numbers.specs.NumberLaws.{patched-length, patched-join}
-use Rattle.numbers.specs.Numbers.{patched}
-use lib.Seq.{length-take-le}
-use lib.ListN.{length, take}
 use denote.Ref.{now}
 use native.Mathlib.Omega.{arith}
-use Prim.Native.Nat.{ℕ, _+_}
-use mathlib.Core.Path.{_≡_, sym, ap, _∙_}
 use borrow.Author.Needs.{needs}
 use Rattle.order_writer.proofs.put_fields.Statement.{statement}
 use Rattle.order_writer.proofs.put_fields.Tie as tie

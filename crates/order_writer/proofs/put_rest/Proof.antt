@@ -1,14 +1,14 @@
 -- `order_writer::put_rest` meets its contract. Assumes nothing.
 use Rattle.order_writer.specs.Stages.{fieldBytes, restBytes}
 use Rattle.order_writer.proofs.Puts.{count-length}
-use Rattle.numbers.proofs.Tail.{puts-then, tail-length}
+use Rattle.numbers.proofs.Tail.{puts-then}
 use Rattle.orders.specs.Shapes.{countAt}
 use Rattle.numbers.specs.Numbers.{patched}
 use lib.Seq.{length-take-le}
 use lib.ListN.{length, take}
-use Prim.Native.Nat.{ℕ, _+_, _-_}
-use mathlib.Core.List.{List, [], _∷_, _++_}
-use mathlib.Core.Path.{_≡_, refl, sym, ap, _∙_}
+use Prim.Native.Nat.{ℕ, _-_}
+use mathlib.Core.List.{_∷_, _++_}
+use mathlib.Core.Path.{_≡_, ap, _∙_}
 use Rattle.orders.specs.OrderLaws.{count-bounds}
 use denote.Ref.{now}
 use native.Mathlib.Omega.{arith}

@@ -2,9 +2,8 @@
 use borrow.Author.Tests.{lt-ltb, le-ltb, not-true, not-false}
 use mathlib.Core.Path.{_≡_, sym, _∙_}
 use Rattle.order_writer.specs.Stages.{topRefusal}
-use Rattle.orders.specs.Shapes.{ofMember, ofVenue, mostOf, unitGood}
+use Rattle.orders.specs.Shapes.{mostOf}
 use native.Mathlib.Omega.{arith}
-use mathlib.Core.Bool.{true, false, _||_}
 use borrow.Author.Needs.{needs}
 use Rattle.order_writer.proofs.top_refusal.Statement.{statement}
 use Rattle.order_writer.proofs.top_refusal.Tie as tie
