@@ -1,20 +1,20 @@
 -- What follows where a message with bitfields is read or written: the refusals one by one. Assumes nothing.
-use mathlib.Core.Path.{_≡_, refl, sym, ap, ap₂, _∙_}
+use mathlib.Core.Path.{_≡_, refl}
 use mathlib.Core.Bool.{Bool, true, false, cond, not, _&&_, _||_}
-use mathlib.Core.List.{List, [], _∷_, _++_}
-use Prim.Native.Nat.{ℕ, suc, _+_, _-_, _≤_, _<_}
+use mathlib.Core.List.{List}
+use Prim.Native.Nat.{ℕ, _+_, _-_, _≤_}
 use native.Mathlib.Omega.{arith}
 use lib.Dec.{leb, ltb, eqb}
-use lib.ListN.{length, getD, take, drop}
-use borrow.Author.Tests.{le-leb, lt-leb, leb-false, lt-ltb, le-ltb, ltb-false, eq-eqb, ne-eqb, eqb-true, eqb-false, not-false}
+use lib.ListN.{length, drop}
+use borrow.Author.Tests.{lt-leb, le-ltb, ltb-false, eq-eqb, ne-eqb, eqb-true, eqb-false, not-false}
 use Rattle.kinds.specs.Kinds.{allNul}
 use Rattle.wire.specs.Header.{typeOf, unitOf}
 use Rattle.wire.specs.FrameLaws.{passed}
-use Rattle.fields.specs.Slots.{Slot, takes, sum, anyBad, agreeSent, agreeHeld, zeroElsewhere}
+use Rattle.fields.specs.Slots.{takes, sum, anyBad, agreeSent, agreeHeld, zeroElsewhere}
 use Rattle.fields.specs.SlotLaws.{both-true}
 use Rattle.fields.specs.Places.{slotsOf, hasRequired}
 use Rattle.orders.specs.Shapes.{ofMember, ofVenue, countAt, mostOf, unitGood, fixedGood}
-use Rattle.orders.specs.Orders.{countOf, bitsOf, optionalOf, fixedOf, headRefusal, blockRefusal, readRefusal, recordOf, writeSlots, zeroUnused, sizeOf, orderBytes, writeRefusal}
+use Rattle.orders.specs.Orders.{countOf, bitsOf, optionalOf, fixedOf, headRefusal, blockRefusal, readRefusal, writeSlots, zeroUnused, sizeOf, writeRefusal}
 use Rattle.orders.specs.declared.Record.{Record}
 
 -- ---- shapes

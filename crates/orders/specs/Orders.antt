@@ -1,6 +1,6 @@
 -- Reading and writing a message with bitfields. Definitions alone. Assumes nothing.
 use Prim.Native.Nat.{ℕ, _+_, _-_}
-use mathlib.Core.Bool.{Bool, true, false, cond, not, _&&_, _||_}
+use mathlib.Core.Bool.{Bool, true, cond, not, _&&_, _||_}
 use mathlib.Core.List.{List, [], _∷_, _++_}
 use lib.Dec.{leb, ltb, eqb}
 use lib.ListN.{length, getD, take, drop}
@@ -15,13 +15,15 @@ use Rattle.orders.specs.declared.Record.{Record}
 
 -- ---- reading a whole message m
 
--- the count of bitfields; the bitfields, with zeros after them; the optional bytes
+-- the count of bitfields
 abbrev pub countOf : List ℕ → ℕ
 countOf m = getD m (countAt (typeOf m)) 0
 
+-- the bitfields, with zeros after them
 unfoldable pub bitsOf : List ℕ → List ℕ
 bitsOf m = take (countOf m) (drop (countAt (typeOf m) + 1) m) ++ zeros (15 - countOf m)
 
+-- the optional bytes: all that follows the bitfields
 unfoldable pub optionalOf : List ℕ → List ℕ
 optionalOf m = drop (countAt (typeOf m) + 1 + countOf m) m
 
@@ -48,6 +50,7 @@ blockRefusal message count bits fixed optional =
     (cond (not (fixedGood message fixed && agreeSent (slotsOf message count bits) optional)) badValue
     0)))
 
+-- 01, Numbers of refusal, in reading order: the head, then the block
 unfoldable pub readRefusal : List ℕ → ℕ
 readRefusal m = cond (eqb (headRefusal m) 0) (blockRefusal (typeOf m) (countOf m) (bitsOf m) (fixedOf m) (optionalOf m)) (headRefusal m)
 
@@ -74,6 +77,7 @@ blank = record { message = 0; unit = 0; number = 0; fixed = zeros 59; count = 0;
 
 -- ---- writing a record
 
+-- its slots
 unfoldable pub writeSlots : Record → List Slot
 writeSlots r = slotsOf (r .message) (r .count) (r .bits)
 

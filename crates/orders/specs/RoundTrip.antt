@@ -3,41 +3,26 @@
 --     read-again      a record that the writer takes, written and read with any bytes after it, is the same record
 -- Assumes nothing.
 use mathlib.Core.Path.{_≡_, refl, sym, ap, ap₂, _∙_}
-use mathlib.Core.Bool.{true, false, _||_}
+use mathlib.Core.Bool.{_||_}
 use mathlib.Core.List.{List, [], _∷_, _++_, append-assoc, append-nil}
 use Prim.Native.Nat.{ℕ, suc, _+_, _-_, _≤_, _<_}
-use native.Mathlib.Nat.{add-assoc}
 use native.Mathlib.Omega.{arith}
-use lib.ListN.{length, getD, take, drop, length-append, length-take, length-drop, take-append-drop}
-use lib.Seq.{length-take-le, take-at, drop-at, drop-drop, drop-cons, getD-at, take-append-le}
+use lib.ListN.{length, getD, take, drop, length-append, length-drop, take-append-drop}
+use lib.Seq.{length-take-le, take-at, drop-at, drop-drop, drop-cons, getD-at}
 use Rattle.kinds.specs.Kinds.{allNul}
 use Rattle.numbers.specs.NumberLaws.{number-fits}
 use Rattle.wire.specs.Header.{headerBytes, lengthOf, typeOf, unitOf, numberOf, totalOf}
-use Rattle.wire.specs.HeaderLaws.{Bytes, header-length, header-type, header-unit, header-number, header-total, header-again}
+use Rattle.wire.specs.HeaderLaws.{Bytes, header-length, header-number, header-total, header-again}
 use Rattle.wire.specs.Frame.{frameRefusal, framed}
-use Rattle.wire.specs.FrameLaws.{Whole, whole, accepted, framed-is}
-use Rattle.fields.specs.Slots.{zeros, Slot, slot, takes, width, sum, anyBad, spread, gathered, agreeSent}
-use Rattle.fields.specs.SlotLaws.{length-zeros, nul-is-zeros, zeros-are-nul, spread-length, gathered-length, gathered-front, back, forth, spread-zero, agree-spread, agree-gathered}
-use Rattle.fields.specs.Places.{selectedAt, entryAt, slotsOf, hasRequired}
-use Rattle.fields.specs.Dictionaries.{before, before-none, dictionary-placed, widths-add}
+use Rattle.wire.specs.FrameLaws.{Whole, accepted, framed-is}
+use Rattle.fields.specs.Slots.{zeros, Slot, takes, width, sum, anyBad, spread, gathered, agreeSent}
+use Rattle.fields.specs.SlotLaws.{length-zeros, zeros-are-nul, zeros-after, takes-below, spread-length, gathered-length, gathered-front, back, forth, spread-zero, agree-spread, agree-gathered}
+use Rattle.fields.specs.Places.{slotsOf, hasRequired}
+use Rattle.fields.specs.Dictionaries.{widths-fit}
 use Rattle.orders.specs.Shapes.{ofMember, ofVenue, countAt, unitGood, fixedGood}
 use Rattle.orders.specs.Orders.{countOf, bitsOf, optionalOf, fixedOf, layoutOf, readRefusal, recordOf, writeSlots, sizeOf, orderBytes, writeRefusal}
-use Rattle.orders.specs.OrderLaws.{CountBounds, count-bounds, most-bound, Good, good, is-read, Fit, fit, is-written}
+use Rattle.orders.specs.OrderLaws.{count-bounds, most-bound, good, is-read, fit, is-written}
 use Rattle.orders.specs.declared.Record.{Record}
-
--- all slots of a message fit the layout
-pub widths-fit : (message count : ℕ) (bits : List ℕ) → sum width (slotsOf message count bits) ≤ 154
-widths-fit message count bits =
-    let w : before (entryAt message) 0 + sum width (slotsOf message count bits) ≡ before (entryAt message) 120 = widths-add (selectedAt count bits) (entryAt message) 120 0 in
-    let z : before (entryAt message) 0 ≡ 0 = before-none (entryAt message) in
-    let f : before (entryAt message) 120 ≤ 154 = dictionary-placed message .fits in
-    omega arith
-
--- the selected fields take at most the layout
-takes-below : (ss : List Slot) → sum takes ss ≤ sum width ss
-takes-below [] = omega arith
-takes-below (slot true e ∷ ss) = let h = takes-below ss in omega arith
-takes-below (slot false e ∷ ss) = let h = takes-below ss in omega arith
 
 -- ---- five parts one after the other
 
@@ -208,12 +193,6 @@ read-sound m bytes z =
         let t : length (take n (drop a l)) ≡ n = length-take-le n (drop a l) (omega arith) in
         length-append (take n (drop a l)) (zeros (k - n)) ∙ omega (arith, t, length-zeros (k - n))
 
--- zeros after what is kept
-zeros-after : (n k : ℕ) (l : List ℕ) → n ≤ length l → length l ≡ k → allNul (drop n l) ≡ true → take n l ++ zeros (k - n) ≡ l
-zeros-after n k l h e z =
-    let d : length (drop n l) ≡ k - n = length-drop n l ∙ ap (λ (x : ℕ). x - n) e in
-    ap (λ (x : List ℕ). take n l ++ x) (sym (nul-is-zeros (drop n l) z ∙ ap zeros d)) ∙ take-append-drop n l
-
 module _ (r : Record) (room : ℕ) (ok : Sound r) (z : writeRefusal r room ≡ 0) where
   count-low : 10 ≤ countAt (r .message)
   count-low = omega (arith, count-bounds (r .message) .low)
@@ -251,7 +230,7 @@ module _ (r : Record) (room : ℕ) (ok : Sound r) (z : writeRefusal r room ≡ 0
       ap (λ (l : List ℕ). l ++ zeros (69 - countAt (r .message)))
       (parts-fixed (headerBytes (sizeOf r - 2) (r .message) (r .unit) (r .number)) (take (countAt (r .message) - 10) (r .fixed)) (r .count) (take (r .count) (r .bits)) (gathered (writeSlots r) (r .slots)) (countAt (r .message)) refl kept-fixed kept-bits count-low)
       ∙ ap (λ (i : ℕ). take (countAt (r .message) - 10) (r .fixed) ++ zeros i) (sym n)
-      ∙ zeros-after (countAt (r .message) - 10) 59 (r .fixed) (omega (arith, count-bounds (r .message) .high, ok .fixed-length)) (ok .fixed-length) (fit r room z .zero-fixed)
+      ∙ zeros-after (countAt (r .message) - 10) 59 (r .fixed) (ok .fixed-length) (fit r room z .zero-fixed)
 
   bits-are : bitsOf (orderBytes r) ≡ r .bits
   unfolding orderBytes bitsOf
@@ -259,7 +238,7 @@ module _ (r : Record) (room : ℕ) (ok : Sound r) (z : writeRefusal r room ≡ 0
       ap (λ (c : ℕ). take c (drop (countAt (r .message) + 1) (orderBytes r)) ++ zeros (15 - c)) count-is
       ∙ ap (λ (l : List ℕ). l ++ zeros (15 - r .count))
       (parts-bits (headerBytes (sizeOf r - 2) (r .message) (r .unit) (r .number)) (take (countAt (r .message) - 10) (r .fixed)) (r .count) (take (r .count) (r .bits)) (gathered (writeSlots r) (r .slots)) (countAt (r .message)) refl kept-fixed kept-bits count-low)
-      ∙ zeros-after (r .count) 15 (r .bits) (omega (arith, count-small, ok .bits-length)) (ok .bits-length) (fit r room z .zero-bits)
+      ∙ zeros-after (r .count) 15 (r .bits) (ok .bits-length) (fit r room z .zero-bits)
 
   optional-are : optionalOf (orderBytes r) ≡ gathered (writeSlots r) (r .slots)
   unfolding orderBytes optionalOf

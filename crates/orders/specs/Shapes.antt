@@ -1,6 +1,6 @@
 -- The messages with bitfields: their fixed parts. Definitions alone. Assumes nothing.
-use Prim.Native.Nat.{ℕ, _+_, _-_}
-use mathlib.Core.Bool.{Bool, true, false, cond, _&&_, _||_}
+use Prim.Native.Nat.{ℕ}
+use mathlib.Core.Bool.{Bool, cond, _&&_, _||_}
 use mathlib.Core.List.{List}
 use lib.Dec.{leb, eqb}
 use lib.ListN.{take, drop}
@@ -8,10 +8,11 @@ use Rattle.kinds.specs.declared.Kind.the-variants.{Alphanumeric, Identifier}
 use Rattle.kinds.specs.Kinds.{agreesOf, agreesFilledOf}
 use Rattle.numbers.specs.Numbers.{numberAt}
 
--- New Order and Cancel Order from the member, Order Acknowledgment and Order Execution from the venue
+-- New Order and Cancel Order from the member
 abbrev pub ofMember : ℕ → Bool
 ofMember message = eqb message 0x38 || eqb message 0x39
 
+-- Order Acknowledgment and Order Execution from the venue
 abbrev pub ofVenue : ℕ → Bool
 ofVenue message = eqb message 0x25 || eqb message 0x2C
 
@@ -52,6 +53,7 @@ executionGood f =
     && (agreesOf Alphanumeric (take 1 (drop 53 f))
     && agreesOf Alphanumeric (take 4 (drop 54 f))))
 
+-- 10: the values of the fixed part of a message of the type
 unfoldable pub fixedGood : ℕ → List ℕ → Bool
 fixedGood message f =
     cond (eqb message 0x38) (newOrderGood f)

@@ -83,6 +83,7 @@ pub fn unit_good(message: u8, unit: u8) -> bool
     table::unit_refusal(Unit(unit)) == 0
 }
 
+// New Order: ClOrdID and Side not blank and of their kinds, OrderQty from 1 to 999,999.
 fn new_order_good(f: &[u8]) -> bool
     requires { ⌜ 25 ≤ length (now f) ⌝ }
     ensures { λ r. ⌜ r ≡ newOrderGood (now (f .entry)) ⌝ }
@@ -98,6 +99,7 @@ fn new_order_good(f: &[u8]) -> bool
     false
 }
 
+// Cancel Order: OrigClOrdID not blank and of its kind.
 fn cancel_order_good(f: &[u8]) -> bool
     requires { ⌜ 20 ≤ length (now f) ⌝ }
     ensures { λ r. ⌜ r ≡ cancelOrderGood (now (f .entry)) ⌝ }
@@ -105,6 +107,7 @@ fn cancel_order_good(f: &[u8]) -> bool
     kinds::identifies(&f[0..20])
 }
 
+// Order Acknowledgment: ClOrdID not blank and of its kind.
 fn acknowledgment_good(f: &[u8]) -> bool
     requires { ⌜ 28 ≤ length (now f) ⌝ }
     ensures { λ r. ⌜ r ≡ acknowledgmentGood (now (f .entry)) ⌝ }
@@ -112,6 +115,7 @@ fn acknowledgment_good(f: &[u8]) -> bool
     kinds::identifies(&f[8..28])
 }
 
+// Order Execution: ClOrdID not blank and of its kind; BaseLiquidityIndicator, SubLiquidityIndicator and ContraBroker of theirs.
 fn execution_good(f: &[u8]) -> bool
     requires { ⌜ 58 ≤ length (now f) ⌝ }
     ensures { λ r. ⌜ r ≡ executionGood (now (f .entry)) ⌝ }

@@ -1,5 +1,5 @@
 -- `orders::execution_good` meets its contract. Assumes nothing.
-use mathlib.Core.Path.{_≡_, sym, ap, _∙_}
+use mathlib.Core.Path.{sym, _∙_}
 use borrow.Author.Needs.{needs}
 use Rattle.orders.proofs.execution_good.Statement.{statement}
 use Rattle.orders.proofs.execution_good.Tie as tie

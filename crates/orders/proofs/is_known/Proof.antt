@@ -1,5 +1,5 @@
 -- `orders::is_known` meets its contract. Assumes nothing.
-use mathlib.Core.Path.{_≡_, sym, _∙_}
+use mathlib.Core.Path.{sym, _∙_}
 use borrow.Author.Needs.{needs}
 use Rattle.orders.proofs.is_known.Statement.{statement}
 use Rattle.orders.proofs.is_known.Tie as tie

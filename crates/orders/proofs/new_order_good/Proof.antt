@@ -6,7 +6,6 @@ use lib.Dec.{leb}
 use native.Mathlib.Omega.{arith}
 use Prim.Native.Nat.{ℕ}
 use mathlib.Core.Path.{_≡_, sym, ap, _∙_}
-use mathlib.Core.Bool.{true, false}
 use borrow.Author.Needs.{needs}
 use Rattle.orders.proofs.new_order_good.Statement.{statement}
 use Rattle.orders.proofs.new_order_good.Tie as tie

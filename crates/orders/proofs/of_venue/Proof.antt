@@ -1,9 +1,7 @@
 -- `orders::of_venue` meets its contract. Assumes nothing.
 use mathlib.Core.Logic.{⊎-elim, inl, inr}
-use lib.Dec.{eqb}
-use mathlib.Core.Bool.{true, _||_, or-true}
 use mathlib.Core.Path.{_≡_}
-use borrow.Author.Tests.{ne-eqb, eq-eqb}
+use borrow.Author.Tests.{ne-eqb}
 use Rattle.orders.proofs.of_venue.Statement.{statement}
 use Rattle.orders.proofs.of_venue.Tie as tie
 
