@@ -1,29 +1,23 @@
 -- The bytes of a part of a slice, as a buffer takes them whole. Assumes nothing.
 use mathlib.Core.Path.{_≡_, refl, sym, ap, _∙_}
-use mathlib.Core.List.{List, _++_, append-nil}
+use mathlib.Core.List.{List}
 use mathlib.Core.Bool.{Bool, true, false}
 use Prim.Native.Nat.{ℕ, zero, suc, _+_, _-_, _*_, _/_, _%_, _^_, _≤_, _<_}
 use native.Mathlib.Omega.{arith}
-use lib.ListN.{length, take, drop, length-take, length-drop, drop-of-length-le}
-use lib.Seq.{length-take-le}
+use lib.ListN.{length, take, drop}
 use lib.Dec.{eqb}
 use borrow.Author.Tests.{eqb-false}
 use Rattle.orders.specs.declared.Record.{Record}
 use Rattle.numbers.specs.Numbers.{patched}
+use Rattle.numbers.specs.NumberLaws.{patched-part}
 use Rattle.named.specs.Named.{choose, selecting, storing, setIn}
 use Rattle.named.specs.declared.Found.{Found}
 
+-- bytes from a place on, as many as the buffer has
 pub lifted : (s to : List ℕ) (at n : ℕ) → n ≡ at + length to → n ≤ length s → {out : List ℕ} → out ≡ patched to 0 (take (n - at) (drop at s)) → out ≡ take (length to) (drop at s)
-unfolding patched
 lifted s to at n e h {out} p =
     let k : n - at ≡ length to = omega arith in
-    let l : length (take (length to) (drop at s)) ≡ length to = length-take-le (length to) (drop at s) (simp length-drop (omega arith)) in
-    let y : 0 + length (take (length to) (drop at s)) ≡ length to = omega (arith, l) in
-    let z : drop (0 + length (take (length to) (drop at s))) to ≡ drop (length to) to = ap (λ (m : ℕ). drop m to) y in
-    p
-    ∙ ap (λ (m : ℕ). patched to 0 (take m (drop at s))) k
-    ∙ ap (λ (d : List ℕ). take (length to) (drop at s) ++ d) (z ∙ drop-of-length-le to {i = length to} (omega arith))
-    ∙ append-nil (take (length to) (drop at s))
+    patched-part to s (length to) at refl (omega arith) (p ∙ ap (λ (m : ℕ). patched to 0 (take m (drop at s))) k)
 
 -- ---- a record with a field set
 

@@ -13,13 +13,12 @@ use lib.ListN.{length, take, drop}
 use borrow.Author.Tests.{eq-eqb}
 use Rattle.numbers.specs.Numbers.{numberAt, bytesOf, patched}
 use Rattle.numbers.specs.Prices.{bitsOf, signedOf}
-use Rattle.numbers.specs.NumberLaws.{length-bytesOf, read-of-written, put-stores}
+use Rattle.numbers.specs.NumberLaws.{length-bytesOf, put-is-there, read-of-written, put-stores}
 use Rattle.numbers.specs.PriceLaws.{bits-fit, signed-back}
 use Rattle.orders.specs.declared.Record.{Record}
 use Rattle.named.specs.declared.Found.{Found}
 use Rattle.named.specs.Named.{found, nowhere, pick, fixedOf, numberIn, longIn, priceIn, bytesIn, text1In, text4In, text20In}
 use Rattle.named.specs.Named.{numberFixed, longFixed, priceFixed, text1Fixed, text4Fixed, text20Fixed, choose, fixing, fixingOf}
-use Rattle.named.specs.NamedLaws.{put-is-there}
 use Rattle.named.specs.OtherLaws.{kept-after, kept-before}
 use Rattle.named.specs.LocalLaws.{Local, got-alike}
 
@@ -70,8 +69,7 @@ module _ {message at w : ℕ} {r : Record} (i : Part message at w r) where
   fixed-is-held bytes l =
       let h : at + length bytes ≤ length (r .fixed) = omega (arith, i .fits, i .whole, l) in
       ap₂ (λ (f : Found) (s : List ℕ). bytesIn w f s) (fixed-is-found bytes) (fixed-part bytes)
-      ∙ ap (λ (m : ℕ). take m (drop at (patched (r .fixed) at bytes))) (sym l)
-      ∙ put-is-there (r .fixed) at bytes h
+      ∙ put-is-there (r .fixed) at bytes w l h
 
   -- the number of a field that was set
   fixed-number : (v : ℕ) → v < 256 ^ w → numberAt w at (fixingOf message at (bytesOf w v) r .fixed) ≡ v

@@ -4,7 +4,7 @@ use mathlib.Core.Bool.{Bool, true, false, cond, _&&_}
 use mathlib.Core.List.{List}
 use lib.Dec.{leb, eqb}
 use lib.ListN.{length, getD, set, take, drop}
-use lib.IntN.{ℤ, pos}
+use lib.IntN.{pos}
 use Rattle.numbers.specs.Numbers.{numberAt, patched}
 use Rattle.numbers.specs.Prices.{priceAt}
 use Rattle.dictionary.specs.declared.Entry.{Entry}
@@ -26,12 +26,15 @@ use Rattle.named.specs.declared.Text64.{Text64}
 
 -- ---- where a field stands
 
+-- at a place
 abbrev pub found : ℕ → Found
 found at = record { selected = true; at = at }
 
+-- at none
 abbrev pub nowhere : Found
 nowhere = record { selected = false; at = 0 }
 
+-- the first where a test holds, else the second
 abbrev pub pick : Bool → Found → Found → Found
 pick true a b = a
 pick false a b = b
@@ -56,18 +59,23 @@ fixedOf message at r = pick (eqb (r .message) message) (found at) nowhere
 
 -- ---- what is read there: 0 or zeros where the field is not selected
 
+-- a number of four bytes
 unfoldable pub numberIn : Found → List ℕ → NumberField
 numberIn f s = record { selected = f .selected; value = cond (f .selected) (numberAt 4 (f .at) s) 0 }
 
+-- a number of eight bytes
 unfoldable pub longIn : Found → List ℕ → LongField
 longIn f s = record { selected = f .selected; value = cond (f .selected) (numberAt 8 (f .at) s) 0 }
 
+-- a price
 unfoldable pub priceIn : Found → List ℕ → PriceField
 priceIn f s = record { selected = f .selected; value = cond (f .selected) (priceAt (f .at) s) (pos 0) }
 
+-- so many bytes
 abbrev pub bytesIn : ℕ → Found → List ℕ → List ℕ
 bytesIn width f s = cond (f .selected) (take width (drop (f .at) s)) (zeros width)
 
+-- texts, by their width
 unfoldable pub text1In : Found → List ℕ → Text1
 text1In f s = record { selected = f .selected; bytes = bytesIn 1 f s }
 
@@ -88,6 +96,7 @@ text64In f s = record { selected = f .selected; bytes = bytesIn 64 f s }
 
 -- ---- the optional fields, and those of the fixed part
 
+-- an optional field, by its message, bitfield byte and bit
 abbrev pub numberOf : ℕ → ℕ → ℕ → Record → NumberField
 numberOf message byte bit r = numberIn (optionalOf message byte bit 4 r) (r .slots)
 
@@ -112,6 +121,7 @@ text16Of message byte bit r = text16In (optionalOf message byte bit 16 r) (r .sl
 abbrev pub text64Of : ℕ → ℕ → ℕ → Record → Text64
 text64Of message byte bit r = text64In (optionalOf message byte bit 64 r) (r .slots)
 
+-- a field of the fixed part, by its message and its place there
 abbrev pub numberFixed : ℕ → ℕ → Record → NumberField
 numberFixed message at r = numberIn (fixedOf message at r) (r .fixed)
 
@@ -132,6 +142,7 @@ text20Fixed message at r = text20In (fixedOf message at r) (r .fixed)
 
 -- ---- a record in which a field is set
 
+-- the first where a test holds, else the second
 abbrev pub choose : Bool → Record → Record → Record
 choose true a b = a
 choose false a b = b
@@ -140,6 +151,7 @@ choose false a b = b
 unfoldable pub withBit : ℕ → ℕ → ℕ
 withBit x bit = cond (bitSet x bit) x (x + 2 ^ bit)
 
+-- the larger of two
 abbrev pub larger : ℕ → ℕ → ℕ
 larger a b = cond (leb b a) a b
 
@@ -155,7 +167,7 @@ selecting byte bit r = record {
   slots = r .slots;
 }
 
--- bytes put into the full layout, and into the fixed part
+-- bytes put into the full layout
 unfoldable pub storing : ℕ → List ℕ → Record → Record
 storing at bytes r = record {
   message = r .message;
@@ -167,6 +179,7 @@ storing at bytes r = record {
   slots = patched (r .slots) at bytes;
 }
 
+-- bytes put into the fixed part
 unfoldable pub fixing : ℕ → List ℕ → Record → Record
 fixing at bytes r = record {
   message = r .message;
@@ -186,9 +199,10 @@ settableOf message byte bit width r = pick (eqb (r .message) message) (placeIn w
 abbrev pub setIn : Found → ℕ → ℕ → List ℕ → Record → Record
 setIn f byte bit bytes r = choose (f .selected) (selecting byte bit (storing (f .at) bytes r)) r
 
+-- the same by its message, bitfield byte and bit, where the bytes are as many as the field has
 unfoldable pub settingOf : ℕ → ℕ → ℕ → List ℕ → Record → Record
 settingOf message byte bit bytes r = setIn (settableOf message byte bit (length bytes) r) byte bit bytes r
 
--- a field of the fixed part set to bytes
+-- a field of the fixed part set to bytes. A record of another type stays as it is
 unfoldable pub fixingOf : ℕ → ℕ → List ℕ → Record → Record
 fixingOf message at bytes r = choose (eqb (r .message) message) (fixing at bytes r) r

@@ -1,19 +1,19 @@
 -- What is true of a record's fields: what is set is got. Assumes nothing.
 use mathlib.Core.Path.{_≡_, refl, sym, ap, ap₂, _∙_}
-use mathlib.Core.Bool.{Bool, true, false, cond, _&&_}
-use mathlib.Core.List.{List, _++_}
-use Prim.Native.Nat.{ℕ, zero, suc, _+_, _-_, _*_, _/_, _%_, _^_, _≤_, _<_}
+use mathlib.Core.Bool.{Bool, true, false, cond}
+use mathlib.Core.List.{List}
+use Prim.Native.Nat.{ℕ, zero, suc, _+_, _-_, _/_, _%_, _^_, _≤_, _<_}
 use native.Mathlib.Omega.{arith}
 use lib.Dec.{eqb, leb}
 use lib.IntN.{ℤ}
 use lib.Signed.{mag}
-use lib.ListN.{length, getD, set, take, drop}
-use lib.Seq.{take-at, drop-append-add, length-take-le, getD-set-same}
-use borrow.Author.Tests.{eq-eqb, ne-eqb, le-leb, leb-true, leb-false, eqb-false}
+use lib.ListN.{length, getD}
+use lib.Seq.{getD-set-same}
+use borrow.Author.Tests.{eq-eqb, ne-eqb, le-leb, leb-true, eqb-false}
 use Rattle.kinds.specs.declared.Kind.{Kind}
 use Rattle.numbers.specs.Numbers.{numberAt, bytesOf, patched}
-use Rattle.numbers.specs.Prices.{bitsOf, signedOf, priceAt}
-use Rattle.numbers.specs.NumberLaws.{length-bytesOf, read-of-written, put-stores}
+use Rattle.numbers.specs.Prices.{bitsOf, signedOf}
+use Rattle.numbers.specs.NumberLaws.{length-bytesOf, put-is-there, read-of-written, put-stores}
 use Rattle.numbers.specs.PriceLaws.{bits-fit, signed-back}
 use Rattle.dictionary.specs.declared.Entry.{Entry}
 use Rattle.dictionary.specs.declared.Entry.the-variants.{Refused, Field}
@@ -22,10 +22,7 @@ use Rattle.fields.specs.Places.{bitSet}
 use Rattle.fields.specs.Dictionaries.{field-fits}
 use Rattle.orders.specs.declared.Record.{Record}
 use Rattle.named.specs.declared.Found.{Found}
-use Rattle.named.specs.declared.NumberField.{NumberField}
-use Rattle.named.specs.declared.LongField.{LongField}
-use Rattle.named.specs.declared.PriceField.{PriceField}
-use Rattle.named.specs.Named.{found, nowhere, pick, placeIn, selectedOf, optionalOf, numberIn, longIn, priceIn, bytesIn, numberOf, longOf, priceOf, choose, withBit, larger, selecting, storing, settableOf, setIn, settingOf}
+use Rattle.named.specs.Named.{found, nowhere, pick, placeIn, selectedOf, optionalOf, numberIn, longIn, priceIn, bytesIn, numberOf, longOf, priceOf, withBit, larger, selecting, storing, settableOf, setIn, settingOf}
 
 -- ---- an entry's field, by its width
 
@@ -65,18 +62,6 @@ larger-reaches a b = by (leb b a) refl
     by : (t : Bool) → leb b a ≡ t → b ≤ cond t a b
     by true e = leb-true b a e
     by false e = omega arith
-
--- ---- bytes that are put are there
-
-pub put-is-there : (xs : List ℕ) (p : ℕ) (bs : List ℕ) → p + length bs ≤ length xs → take (length bs) (drop p (patched xs p bs)) ≡ bs
-unfolding patched
-put-is-there xs p bs h =
-    let l : length (take p xs) ≡ p = length-take-le p xs (omega arith) in
-    let d = drop (p + length bs) xs in
-    let k : length (take p xs) + 0 ≡ p = omega (arith, l) in
-    ap (λ (m : ℕ). take (length bs) (drop m (take p xs ++ (bs ++ d)))) (sym k)
-    ∙ ap (take (length bs)) (drop-append-add (take p xs) (bs ++ d) 0)
-    ∙ take-at bs d (length bs) refl
 
 -- ---- what is set is got: over any listed bit of any message
 
@@ -121,8 +106,7 @@ module _ {message byte bit w p : ℕ} {k : Kind} {r : Record} (i : Listed messag
   set-is-held bytes l =
       let h : p + length bytes ≤ length (r .slots) = omega (arith, field-fits message byte bit (i .listed), i .whole, l) in
       ap₂ (λ (f : Found) (s : List ℕ). bytesIn w f s) (set-is-found bytes l) (set-slots bytes l)
-      ∙ ap (λ (m : ℕ). take m (drop p (patched (r .slots) p bytes))) (sym l)
-      ∙ put-is-there (r .slots) p bytes h
+      ∙ put-is-there (r .slots) p bytes w l h
 
   -- the number of a field that was set
   set-number : (v : ℕ) → v < 256 ^ w → numberAt w p (settingOf message byte bit (bytesOf w v) r .slots) ≡ v

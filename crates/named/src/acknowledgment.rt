@@ -18,147 +18,147 @@ use orders::Record;
 pub fn transaction_time(r: Record) -> LongField
     ensures { λ a. ⌜ a ≡ longFixed 0x25 0 r ⌝ }
 {
-    crate::long_fixed(r, 0x25, 0)
+    crate::reading::long_fixed(r, 0x25, 0)
 }
 
 // ClOrdID.
 pub fn cl_ord_id(r: Record) -> Text20
     ensures { λ a. ⌜ a ≡ text20Fixed 0x25 8 r ⌝ }
 {
-    crate::text20_fixed(r, 0x25, 8)
+    crate::reading::text20_fixed(r, 0x25, 8)
 }
 
 // OrderID.
 pub fn order_id(r: Record) -> LongField
     ensures { λ a. ⌜ a ≡ longFixed 0x25 28 r ⌝ }
 {
-    crate::long_fixed(r, 0x25, 28)
+    crate::reading::long_fixed(r, 0x25, 28)
 }
 
 // Side: byte 1, bit 1.
 pub fn side(r: Record) -> Text1
     ensures { λ a. ⌜ a ≡ text1Of 0x25 1 0 r ⌝ }
 {
-    crate::text1_of(r, 0x25, 1, 0)
+    crate::reading::text1_of(r, 0x25, 1, 0)
 }
 
 // Price: byte 1, bit 4.
 pub fn price(r: Record) -> PriceField
     ensures { λ a. ⌜ a ≡ priceOf 0x25 1 2 r ⌝ }
 {
-    crate::price_of(r, 0x25, 1, 2)
+    crate::reading::price_of(r, 0x25, 1, 2)
 }
 
 // ExecInst: byte 1, bit 8.
 pub fn exec_inst(r: Record) -> Text1
     ensures { λ a. ⌜ a ≡ text1Of 0x25 1 3 r ⌝ }
 {
-    crate::text1_of(r, 0x25, 1, 3)
+    crate::reading::text1_of(r, 0x25, 1, 3)
 }
 
 // OrdType: byte 1, bit 16.
 pub fn ord_type(r: Record) -> Text1
     ensures { λ a. ⌜ a ≡ text1Of 0x25 1 4 r ⌝ }
 {
-    crate::text1_of(r, 0x25, 1, 4)
+    crate::reading::text1_of(r, 0x25, 1, 4)
 }
 
 // TimeInForce: byte 1, bit 32.
 pub fn time_in_force(r: Record) -> Text1
     ensures { λ a. ⌜ a ≡ text1Of 0x25 1 5 r ⌝ }
 {
-    crate::text1_of(r, 0x25, 1, 5)
+    crate::reading::text1_of(r, 0x25, 1, 5)
 }
 
 // MinQty: byte 1, bit 64.
 pub fn min_qty(r: Record) -> NumberField
     ensures { λ a. ⌜ a ≡ numberOf 0x25 1 6 r ⌝ }
 {
-    crate::number_of(r, 0x25, 1, 6)
+    crate::reading::number_of(r, 0x25, 1, 6)
 }
 
 // Symbol: byte 2, bit 1.
 pub fn symbol(r: Record) -> Text8
     ensures { λ a. ⌜ a ≡ text8Of 0x25 2 0 r ⌝ }
 {
-    crate::text8_of(r, 0x25, 2, 0)
+    crate::reading::text8_of(r, 0x25, 2, 0)
 }
 
 // SymbolSfx: byte 2, bit 2.
 pub fn symbol_sfx(r: Record) -> Text8
     ensures { λ a. ⌜ a ≡ text8Of 0x25 2 1 r ⌝ }
 {
-    crate::text8_of(r, 0x25, 2, 1)
+    crate::reading::text8_of(r, 0x25, 2, 1)
 }
 
 // Capacity: byte 2, bit 64.
 pub fn capacity(r: Record) -> Text1
     ensures { λ a. ⌜ a ≡ text1Of 0x25 2 6 r ⌝ }
 {
-    crate::text1_of(r, 0x25, 2, 6)
+    crate::reading::text1_of(r, 0x25, 2, 6)
 }
 
 // Account: byte 3, bit 1.
 pub fn account(r: Record) -> Text16
     ensures { λ a. ⌜ a ≡ text16Of 0x25 3 0 r ⌝ }
 {
-    crate::text16_of(r, 0x25, 3, 0)
+    crate::reading::text16_of(r, 0x25, 3, 0)
 }
 
 // ClearingFirm: byte 3, bit 2.
 pub fn clearing_firm(r: Record) -> Text4
     ensures { λ a. ⌜ a ≡ text4Of 0x25 3 1 r ⌝ }
 {
-    crate::text4_of(r, 0x25, 3, 1)
+    crate::reading::text4_of(r, 0x25, 3, 1)
 }
 
 // ClearingAccount: byte 3, bit 4.
 pub fn clearing_account(r: Record) -> Text4
     ensures { λ a. ⌜ a ≡ text4Of 0x25 3 2 r ⌝ }
 {
-    crate::text4_of(r, 0x25, 3, 2)
+    crate::reading::text4_of(r, 0x25, 3, 2)
 }
 
 // MaxFloor: byte 3, bit 16.
 pub fn max_floor(r: Record) -> NumberField
     ensures { λ a. ⌜ a ≡ numberOf 0x25 3 4 r ⌝ }
 {
-    crate::number_of(r, 0x25, 3, 4)
+    crate::reading::number_of(r, 0x25, 3, 4)
 }
 
 // OrderQty: byte 3, bit 64.
 pub fn order_qty(r: Record) -> NumberField
     ensures { λ a. ⌜ a ≡ numberOf 0x25 3 6 r ⌝ }
 {
-    crate::number_of(r, 0x25, 3, 6)
+    crate::reading::number_of(r, 0x25, 3, 6)
 }
 
 // LeavesQty: byte 5, bit 2.
 pub fn leaves_qty(r: Record) -> NumberField
     ensures { λ a. ⌜ a ≡ numberOf 0x25 5 1 r ⌝ }
 {
-    crate::number_of(r, 0x25, 5, 1)
+    crate::reading::number_of(r, 0x25, 5, 1)
 }
 
 // LastShares: byte 5, bit 4.
 pub fn last_shares(r: Record) -> NumberField
     ensures { λ a. ⌜ a ≡ numberOf 0x25 5 2 r ⌝ }
 {
-    crate::number_of(r, 0x25, 5, 2)
+    crate::reading::number_of(r, 0x25, 5, 2)
 }
 
 // LastPx: byte 5, bit 8.
 pub fn last_px(r: Record) -> PriceField
     ensures { λ a. ⌜ a ≡ priceOf 0x25 5 3 r ⌝ }
 {
-    crate::price_of(r, 0x25, 5, 3)
+    crate::reading::price_of(r, 0x25, 5, 3)
 }
 
 // ExpireTime: byte 5, bit 128.
 pub fn expire_time(r: Record) -> LongField
     ensures { λ a. ⌜ a ≡ longOf 0x25 5 7 r ⌝ }
 {
-    crate::long_of(r, 0x25, 5, 7)
+    crate::reading::long_of(r, 0x25, 5, 7)
 }
 
 // The record with TransactionTime set.

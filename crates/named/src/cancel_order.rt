@@ -10,14 +10,14 @@ use orders::Record;
 pub fn orig_cl_ord_id(r: Record) -> Text20
     ensures { λ a. ⌜ a ≡ text20Fixed 0x39 0 r ⌝ }
 {
-    crate::text20_fixed(r, 0x39, 0)
+    crate::reading::text20_fixed(r, 0x39, 0)
 }
 
 // ClearingFirm: byte 1, bit 1.
 pub fn clearing_firm(r: Record) -> Text4
     ensures { λ a. ⌜ a ≡ text4Of 0x39 1 0 r ⌝ }
 {
-    crate::text4_of(r, 0x39, 1, 0)
+    crate::reading::text4_of(r, 0x39, 1, 0)
 }
 
 // The record with OrigClOrdID set.

@@ -19,161 +19,161 @@ use orders::Record;
 pub fn cl_ord_id(r: Record) -> Text20
     ensures { λ a. ⌜ a ≡ text20Fixed 0x38 0 r ⌝ }
 {
-    crate::text20_fixed(r, 0x38, 0)
+    crate::reading::text20_fixed(r, 0x38, 0)
 }
 
 // Side.
 pub fn side(r: Record) -> Text1
     ensures { λ a. ⌜ a ≡ text1Fixed 0x38 20 r ⌝ }
 {
-    crate::text1_fixed(r, 0x38, 20)
+    crate::reading::text1_fixed(r, 0x38, 20)
 }
 
 // OrderQty.
 pub fn order_qty(r: Record) -> NumberField
     ensures { λ a. ⌜ a ≡ numberFixed 0x38 21 r ⌝ }
 {
-    crate::number_fixed(r, 0x38, 21)
+    crate::reading::number_fixed(r, 0x38, 21)
 }
 
 // ClearingFirm: byte 1, bit 1.
 pub fn clearing_firm(r: Record) -> Text4
     ensures { λ a. ⌜ a ≡ text4Of 0x38 1 0 r ⌝ }
 {
-    crate::text4_of(r, 0x38, 1, 0)
+    crate::reading::text4_of(r, 0x38, 1, 0)
 }
 
 // ClearingAccount: byte 1, bit 2.
 pub fn clearing_account(r: Record) -> Text4
     ensures { λ a. ⌜ a ≡ text4Of 0x38 1 1 r ⌝ }
 {
-    crate::text4_of(r, 0x38, 1, 1)
+    crate::reading::text4_of(r, 0x38, 1, 1)
 }
 
 // Price: byte 1, bit 4.
 pub fn price(r: Record) -> PriceField
     ensures { λ a. ⌜ a ≡ priceOf 0x38 1 2 r ⌝ }
 {
-    crate::price_of(r, 0x38, 1, 2)
+    crate::reading::price_of(r, 0x38, 1, 2)
 }
 
 // ExecInst: byte 1, bit 8.
 pub fn exec_inst(r: Record) -> Text1
     ensures { λ a. ⌜ a ≡ text1Of 0x38 1 3 r ⌝ }
 {
-    crate::text1_of(r, 0x38, 1, 3)
+    crate::reading::text1_of(r, 0x38, 1, 3)
 }
 
 // OrdType: byte 1, bit 16.
 pub fn ord_type(r: Record) -> Text1
     ensures { λ a. ⌜ a ≡ text1Of 0x38 1 4 r ⌝ }
 {
-    crate::text1_of(r, 0x38, 1, 4)
+    crate::reading::text1_of(r, 0x38, 1, 4)
 }
 
 // TimeInForce: byte 1, bit 32.
 pub fn time_in_force(r: Record) -> Text1
     ensures { λ a. ⌜ a ≡ text1Of 0x38 1 5 r ⌝ }
 {
-    crate::text1_of(r, 0x38, 1, 5)
+    crate::reading::text1_of(r, 0x38, 1, 5)
 }
 
 // MinQty: byte 1, bit 64.
 pub fn min_qty(r: Record) -> NumberField
     ensures { λ a. ⌜ a ≡ numberOf 0x38 1 6 r ⌝ }
 {
-    crate::number_of(r, 0x38, 1, 6)
+    crate::reading::number_of(r, 0x38, 1, 6)
 }
 
 // MaxFloor: byte 1, bit 128.
 pub fn max_floor(r: Record) -> NumberField
     ensures { λ a. ⌜ a ≡ numberOf 0x38 1 7 r ⌝ }
 {
-    crate::number_of(r, 0x38, 1, 7)
+    crate::reading::number_of(r, 0x38, 1, 7)
 }
 
 // Symbol: byte 2, bit 1.
 pub fn symbol(r: Record) -> Text8
     ensures { λ a. ⌜ a ≡ text8Of 0x38 2 0 r ⌝ }
 {
-    crate::text8_of(r, 0x38, 2, 0)
+    crate::reading::text8_of(r, 0x38, 2, 0)
 }
 
 // SymbolSfx: byte 2, bit 2.
 pub fn symbol_sfx(r: Record) -> Text8
     ensures { λ a. ⌜ a ≡ text8Of 0x38 2 1 r ⌝ }
 {
-    crate::text8_of(r, 0x38, 2, 1)
+    crate::reading::text8_of(r, 0x38, 2, 1)
 }
 
 // Capacity: byte 2, bit 64.
 pub fn capacity(r: Record) -> Text1
     ensures { λ a. ⌜ a ≡ text1Of 0x38 2 6 r ⌝ }
 {
-    crate::text1_of(r, 0x38, 2, 6)
+    crate::reading::text1_of(r, 0x38, 2, 6)
 }
 
 // RoutingInst: byte 2, bit 128.
 pub fn routing_inst(r: Record) -> Text4
     ensures { λ a. ⌜ a ≡ text4Of 0x38 2 7 r ⌝ }
 {
-    crate::text4_of(r, 0x38, 2, 7)
+    crate::reading::text4_of(r, 0x38, 2, 7)
 }
 
 // Account: byte 3, bit 1.
 pub fn account(r: Record) -> Text16
     ensures { λ a. ⌜ a ≡ text16Of 0x38 3 0 r ⌝ }
 {
-    crate::text16_of(r, 0x38, 3, 0)
+    crate::reading::text16_of(r, 0x38, 3, 0)
 }
 
 // LocateReqd: byte 3, bit 64.
 pub fn locate_reqd(r: Record) -> Text1
     ensures { λ a. ⌜ a ≡ text1Of 0x38 3 6 r ⌝ }
 {
-    crate::text1_of(r, 0x38, 3, 6)
+    crate::reading::text1_of(r, 0x38, 3, 6)
 }
 
 // ExpireTime: byte 3, bit 128.
 pub fn expire_time(r: Record) -> LongField
     ensures { λ a. ⌜ a ≡ longOf 0x38 3 7 r ⌝ }
 {
-    crate::long_of(r, 0x38, 3, 7)
+    crate::reading::long_of(r, 0x38, 3, 7)
 }
 
 // DisplayRange: byte 6, bit 1.
 pub fn display_range(r: Record) -> NumberField
     ensures { λ a. ⌜ a ≡ numberOf 0x38 6 0 r ⌝ }
 {
-    crate::number_of(r, 0x38, 6, 0)
+    crate::reading::number_of(r, 0x38, 6, 0)
 }
 
 // StopPx: byte 6, bit 2.
 pub fn stop_px(r: Record) -> PriceField
     ensures { λ a. ⌜ a ≡ priceOf 0x38 6 1 r ⌝ }
 {
-    crate::price_of(r, 0x38, 6, 1)
+    crate::reading::price_of(r, 0x38, 6, 1)
 }
 
 // ExDestination: byte 6, bit 16.
 pub fn ex_destination(r: Record) -> Text1
     ensures { λ a. ⌜ a ≡ text1Of 0x38 6 4 r ⌝ }
 {
-    crate::text1_of(r, 0x38, 6, 4)
+    crate::reading::text1_of(r, 0x38, 6, 4)
 }
 
 // EchoText: byte 6, bit 32.
 pub fn echo_text(r: Record) -> Text64
     ensures { λ a. ⌜ a ≡ text64Of 0x38 6 5 r ⌝ }
 {
-    crate::text64_of(r, 0x38, 6, 5)
+    crate::reading::text64_of(r, 0x38, 6, 5)
 }
 
 // LocateBroker: byte 10, bit 2.
 pub fn locate_broker(r: Record) -> Text4
     ensures { λ a. ⌜ a ≡ text4Of 0x38 10 1 r ⌝ }
 {
-    crate::text4_of(r, 0x38, 10, 1)
+    crate::reading::text4_of(r, 0x38, 10, 1)
 }
 
 // The record with ClOrdID set.

@@ -1,5 +1,5 @@
 -- `named::larger_of` meets its contract. Assumes nothing.
-use borrow.Author.Tests.{eq-eqb, ne-eqb, le-leb, lt-leb}
+use borrow.Author.Tests.{le-leb, lt-leb}
 use Rattle.named.proofs.larger_of.Statement.{statement}
 use Rattle.named.proofs.larger_of.Tie as tie
 

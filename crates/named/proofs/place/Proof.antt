@@ -1,8 +1,7 @@
 -- `named::place` meets its contract. Assumes nothing.
 use Rattle.named.specs.NamedLaws.{placed, misplaced, unlisted}
 use Rattle.fields.specs.Dictionaries.{field-fits}
-use borrow.Author.Tests.{eq-eqb, ne-eqb, le-leb, lt-leb}
-use mathlib.Core.Path.{_≡_, refl, sym, ap, _∙_}
+use mathlib.Core.Path.{sym, _∙_}
 use native.Mathlib.Omega.{arith}
 use borrow.Author.Needs.{needs}
 use Rattle.named.proofs.place.Statement.{statement}

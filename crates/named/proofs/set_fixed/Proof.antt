@@ -1,6 +1,6 @@
 -- `named::set_fixed` meets its contract. Assumes nothing.
 use Rattle.named.specs.Named.{fixingOf}
-use borrow.Author.Tests.{eq-eqb, ne-eqb, le-leb, lt-leb}
+use borrow.Author.Tests.{eq-eqb, ne-eqb}
 use borrow.Author.Needs.{needs}
 use Rattle.named.proofs.set_fixed.Statement.{statement}
 use Rattle.named.proofs.set_fixed.Tie as tie

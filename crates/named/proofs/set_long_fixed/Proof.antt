@@ -2,7 +2,7 @@
 use Rattle.named.specs.Named.{fixingOf}
 use Prim.Native.Nat.{ℕ}
 use mathlib.Core.List.{List}
-use mathlib.Core.Path.{_≡_, refl, sym, ap, _∙_}
+use mathlib.Core.Path.{ap, _∙_}
 use borrow.Author.Needs.{needs}
 use Rattle.named.proofs.set_long_fixed.Statement.{statement}
 use Rattle.named.proofs.set_long_fixed.Tie as tie

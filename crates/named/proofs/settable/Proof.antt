@@ -1,7 +1,7 @@
 -- `named::settable` meets its contract. Assumes nothing.
 use Rattle.named.specs.Named.{settableOf}
 use native.Mathlib.Omega.{arith}
-use borrow.Author.Tests.{eq-eqb, ne-eqb, le-leb, lt-leb}
+use borrow.Author.Tests.{eq-eqb, ne-eqb}
 use borrow.Author.Needs.{needs}
 use Rattle.named.proofs.settable.Statement.{statement}
 use Rattle.named.proofs.settable.Tie as tie

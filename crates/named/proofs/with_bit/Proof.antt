@@ -1,7 +1,7 @@
 -- `named::with_bit` meets its contract. Assumes nothing.
 use Rattle.named.proofs.Answers.{room, weight}
 use Rattle.named.specs.Named.{withBit}
-use mathlib.Core.Path.{_≡_, refl, sym, ap, _∙_}
+use mathlib.Core.Path.{sym, _∙_}
 use borrow.Author.Needs.{needs}
 use Rattle.named.proofs.with_bit.Statement.{statement}
 use Rattle.named.proofs.with_bit.Tie as tie
