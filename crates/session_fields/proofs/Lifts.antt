@@ -1,18 +1,18 @@
 -- Bytes lifted out of a buffer: a field's bytes where there are as many, and else the buffer that was to take them; and a group's bitfields.
 -- Assumes nothing.
 use mathlib.Core.Path.{_≡_, refl, sym, ap, ap₂, _∙_}
-use mathlib.Core.Bool.{Bool, true, false, _&&_}
+use mathlib.Core.Bool.{Bool, true, _&&_}
 use mathlib.Core.List.{List, _++_}
 use Prim.Native.Nat.{ℕ, _+_, _-_, _≤_, _<_}
 use native.Mathlib.Omega.{arith}
 use lib.Dec.{leb, ltb}
-use lib.ListN.{length, getD, take, drop, length-drop, replicate-append-replicate}
-use lib.Seq.{length-take-le, drop-at}
+use lib.ListN.{length, getD, take, drop, length-drop}
+use lib.Seq.{length-take-le}
 use borrow.Author.Tests.{le-leb, lt-leb, leb-true}
 use Rattle.numbers.specs.Numbers.{patched}
 use Rattle.numbers.specs.NumberLaws.{patched-part}
 use Rattle.fields.specs.Slots.{zeros}
-use Rattle.fields.specs.SlotLaws.{length-zeros, both-true}
+use Rattle.fields.specs.SlotLaws.{put-in-zeros, both-true}
 use Rattle.session_fields.specs.SessionFields.{liftedOf, frontOf, hasBits, bitsIn}
 
 module _ (at : ℕ) (s to : List ℕ) where
@@ -53,19 +53,10 @@ module _ (n at : ℕ) (s to : List ℕ) where
 
 -- ---- bitfields, zero after them
 
-zeros-left : (n : ℕ) → n ≤ 15 → drop n (zeros 15) ≡ zeros (15 - n)
-zeros-left n h =
-    let k : n + (15 - n) ≡ 15 = omega arith in
-    ap (λ (m : ℕ). drop n (zeros m)) (sym k)
-    ∙ ap (drop n) (sym (replicate-append-replicate n (15 - n) 0))
-    ∙ drop-at (zeros n) (zeros (15 - n)) n (length-zeros n)
-
 bits-held : (n at : ℕ) (s : List ℕ) → at + n ≤ length s → n ≤ 15 → frontOf n at s (zeros 15) ≡ take n (drop at s) ++ zeros (15 - n)
-unfolding patched
 bits-held n at s h l =
     let e : length (take n (drop at s)) ≡ n = length-take-le n (drop at s) (simp length-drop (omega arith)) in
-    let k : 0 + length (take n (drop at s)) ≡ n = omega (arith, e) in
-    front-there n at s (zeros 15) h l ∙ ap (λ (m : ℕ). take n (drop at s) ++ drop m (zeros 15)) k ∙ ap (λ (z : List ℕ). take n (drop at s) ++ z) (zeros-left n l)
+    front-there n at s (zeros 15) h l ∙ put-in-zeros 15 (take n (drop at s)) ∙ ap (λ (m : ℕ). take n (drop at s) ++ zeros (15 - m)) e
 
 pub bits-got : (p n : ℕ) (s : List ℕ) → n ≡ getD s (p + 3) 0 → hasBits p s ≡ true → {out : List ℕ} → out ≡ frontOf n (p + 4) s (zeros 15)
     → record { there = true; count = n; bits = out } ≡ bitsIn (hasBits p s) (getD s (p + 3) 0) (p + 4) s

@@ -2,15 +2,15 @@
 use mathlib.Core.Path.{_≡_, refl, sym, ap, ap₂, _∙_}
 use mathlib.Core.Logic.{_⊎_, inl, inr, ⊎-elim}
 use mathlib.Core.Bool.{Bool, true, false, cond, _&&_}
-use mathlib.Core.List.{List, [], _∷_, _++_}
+use mathlib.Core.List.{List, [], _∷_}
 use Prim.Native.Nat.{ℕ, _+_, _-_, _*_, _≤_, _<_, min}
 use native.Mathlib.Omega.{arith}
 use lib.Dec.{ltb, eqb}
 use lib.ListN.{length, getD, take, drop, length-take, length-drop}
-use lib.Seq.{length-take-le, getD-at, take-at, drop-at, getD-take, getD-drop, ext-getD}
+use lib.Seq.{length-take-le, getD-at, getD-take, getD-drop, ext-getD}
 use borrow.Author.Tests.{eq-eqb}
 use Rattle.numbers.specs.Numbers.{numberAt, bytesOf, patched, putBuffer}
-use Rattle.numbers.specs.NumberLaws.{read-of-written, put-stores, patched-length, patched-before, patched-after, number-before, number-beyond}
+use Rattle.numbers.specs.NumberLaws.{put-is-there, read-of-written, put-stores, patched-length, patched-before, patched-after, number-before, number-beyond}
 use Rattle.fields.specs.Slots.{zeros}
 use Rattle.logins.specs.declared.Record.{Record}
 use Rattle.session_fields.specs.SessionFields.{isOf, bytesIn, byteIn, outgoingIn}
@@ -46,11 +46,6 @@ pub record Part (message at w : ℕ) (r : Record) : Type 0 where
   pub fits : at + w ≤ 433
 
 -- bytes that are put are there
-put-is-there : (xs : List ℕ) (p : ℕ) (bs : List ℕ) (w : ℕ) → length bs ≡ w → p + length bs ≤ length xs → take w (drop p (patched xs p bs)) ≡ bs
-unfolding patched
-put-is-there xs p bs w l h =
-    ap (take w) (drop-at (take p xs) (bs ++ drop (p + length bs) xs) p (length-take-le p xs (omega arith))) ∙ take-at bs (drop (p + length bs) xs) w l
-
 module _ {message at w : ℕ} {r : Record} (i : Part message at w r) where
   -- the record stays of its type
   pub set-is-of : (bytes : List ℕ) → isOf message (settingOf message at bytes r) ≡ true

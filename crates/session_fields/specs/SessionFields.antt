@@ -20,6 +20,7 @@ use Rattle.session_fields.specs.declared.Text60.{Text60}
 
 -- ---- what is read: 0 or zeros in a record of another type
 
+-- whether a record is of the type
 abbrev pub isOf : ℕ → Record → Bool
 isOf message r = eqb (r .message) message
 
@@ -31,12 +32,15 @@ liftedOf at s to = cond (leb (at + length to) (length s)) (take (length to) (dro
 abbrev pub bytesIn : ℕ → Bool → ℕ → List ℕ → List ℕ
 bytesIn w b at s = cond b (take w (drop at s)) (zeros w)
 
+-- the byte there
 abbrev pub byteIn : Bool → ℕ → List ℕ → ByteField
 byteIn b at s = record { selected = b; value = cond b (getD s at 0) 0 }
 
+-- the outgoing number there
 abbrev pub outgoingIn : Bool → ℕ → List ℕ → OutgoingField
 outgoingIn b at s = record { selected = b; value = record { 0 = cond b (numberAt 4 at s) 0 } }
 
+-- the texts there, by their width
 abbrev pub text1In : Bool → ℕ → List ℕ → Text1
 text1In b at s = record { selected = b; bytes = bytesIn 1 b at s }
 
@@ -70,6 +74,7 @@ text60Of message at r = text60In (isOf message r) at (r .body)
 
 -- ---- pairs of unit (1) and last number (4)
 
+-- the pair at a place, where it is there
 abbrev pub pairIn : Bool → ℕ → List ℕ → PairField
 pairIn b at s = record {
   there = b;
@@ -104,23 +109,27 @@ groupFrom (suc n) t x at s =
 unfoldable pub requestGroup : ℕ → ℕ → Record → ℕ
 requestGroup t x r = cond (isOf 0x37 r) (groupFrom (getD (r .body) 18 0) t x 19 (r .body)) 0
 
--- of a Login Response: the count of its groups stands after its pairs, and they follow it
+-- of a Login Response: where the count of its groups stands, after its pairs; they follow it
 abbrev pub responseCount : List ℕ → ℕ
 responseCount s = 67 + 5 * getD s 66 0
 
+-- the group of a type, and for a message type, as above
 unfoldable pub responseGroup : ℕ → ℕ → Record → ℕ
 responseGroup t x r = cond (isOf 0x24 r) (groupFrom (getD (r .body) (responseCount (r .body)) 0) t x (responseCount (r .body) + 1) (r .body)) 0
 
+-- the number of its groups
 unfoldable pub responseGroups : Record → ByteField
 responseGroups r = byteIn (isOf 0x24 r) (responseCount (r .body)) (r .body)
 
--- of the units' group, by its place and one: its flag, and its pair i, from 0
+-- the flag of the units' group, by its place and one
 unfoldable pub groupFlag : ℕ → Record → ByteField
 groupFlag p r = byteIn (ltb 0 p) (p + 2) (r .body)
 
+-- whether the units' group has pair i
 abbrev pub hasEntry : ℕ → ℕ → List ℕ → Bool
 hasEntry p i s = ltb 0 p && (ltb i (getD s (p + 3) 0) && ltb i 32)
 
+-- its pair i, from 0
 unfoldable pub groupPair : ℕ → ℕ → Record → PairField
 groupPair p i r = pairIn (hasEntry p i (r .body)) (p + 4 + 5 * i) (r .body)
 
@@ -129,6 +138,7 @@ unfoldable pub listedFrom : ℕ → ℕ → ℕ → ℕ → List ℕ → ℕ
 listedFrom zero unit i at s = 0
 listedFrom (suc n) unit i at s = cond (eqb (getD s (at + 5 * i) 0) unit) (suc i) (listedFrom n unit (suc i) at s)
 
+-- the same of the units' group, by its place and one
 abbrev pub listedAt : ℕ → ℕ → List ℕ → ℕ
 listedAt p unit s = cond (ltb 0 p) (listedFrom (getD s (p + 3) 0) unit 0 (p + 4) s) 0
 
@@ -144,6 +154,7 @@ groupListed p unit r = listedIn p (listedAt p unit (r .body)) (r .body)
 abbrev pub hasBits : ℕ → List ℕ → Bool
 hasBits p s = ltb 0 p && (leb (getD s (p + 3) 0) 15 && leb (p + 4 + getD s (p + 3) 0) (length s))
 
+-- n bitfields from a place on, where they are there
 abbrev pub bitsIn : Bool → ℕ → ℕ → List ℕ → BitsField
 bitsIn b n at s = record { there = b; count = cond b n 0; bits = cond b (take n (drop at s) ++ zeros (15 - n)) (zeros 15) }
 
@@ -157,6 +168,7 @@ frontOf n at s to = cond (leb (at + n) (length s) && leb n (length to)) (patched
 
 -- ---- a record in which a field is set
 
+-- the first where a test holds, else the second
 abbrev pub choose : Bool → Record → Record → Record
 choose true a b = a
 choose false a b = b

@@ -1,5 +1,7 @@
 // The fields of the session messages by name, read and set. A getter answers whether the record is of the getter's type, and the value:
-// 0 or zeros where it is not. A setter leaves a record of another type as it is. A module for each message.
+// 0 or zeros where it is not. A setter leaves a record of another type as it is. A module for each message; `fixed` has how texts and bytes
+// of the fixed part are read, and how pairs and groups are read and fields set stands here.
+mod fixed;
 pub mod login_request;
 pub mod login_response;
 pub mod logout;
@@ -7,7 +9,7 @@ pub mod logout;
 ghost use mathlib.Core.Path.{_≡_};
 ghost use mathlib.Core.List.{[], _∷_};
 ghost use Rattle.numbers.specs.Numbers.{bytesOf, putBuffer};
-ghost use Rattle.session_fields.specs.SessionFields.{liftedOf, byteOf, outgoingOf, text1Of, text4Of, text10Of, text60Of, pairIn, hasPair, pairOf, storing, settingOf};
+ghost use Rattle.session_fields.specs.SessionFields.{outgoingOf, pairIn, hasPair, pairOf, storing, settingOf};
 ghost use Rattle.session_fields.specs.SessionFields.{groupIs, groupFrom, requestGroup, responseGroup, groupFlag, hasEntry, groupPair, listedFrom, listedAt, listedIn, groupListed, responseGroups, frontOf, hasBits, groupBits};
 use logins::Record;
 use table::OutgoingNumber;
@@ -70,37 +72,6 @@ pub struct Text60 {
     pub bytes: [u8; 60],
 }
 
-// As many bytes of s from a place on as the buffer has; where there are fewer, the buffer stays as it is.
-fn lift(s: &[u8], at: usize, to: &mut [u8])
-    ensures { λ _. ⌜ now (to .exit) ≡ liftedOf at (now (s .entry)) (now (to .entry)) ⌝ }
-{
-    if s.len() < at {
-        return;
-    }
-    if s.len() - at < to.len() {
-        return;
-    }
-    let n = at + to.len();
-    fields::copy(&s[at..n], to);
-}
-
-// The byte at a place of a message of the type.
-fn byte_of(r: Record, message: u8, at: u8) -> ByteField
-    ensures { λ a. ⌜ a ≡ byteOf message at r ⌝ }
-{
-    let body = r.body;
-    if r.message == message {
-        return ByteField {
-            selected: true,
-            value: numbers::byte_at(&body, at as usize),
-        };
-    }
-    ByteField {
-        selected: false,
-        value: 0,
-    }
-}
-
 // The outgoing number at a place of a message of the type.
 fn outgoing_of(r: Record, message: u8, at: u8) -> OutgoingField
     ensures { λ a. ⌜ a ≡ outgoingOf message at r ⌝ }
@@ -116,82 +87,6 @@ fn outgoing_of(r: Record, message: u8, at: u8) -> OutgoingField
     OutgoingField {
         selected: false,
         value: OutgoingNumber(0),
-    }
-}
-
-// The one byte from a place on of a message of the type.
-fn text1_of(r: Record, message: u8, at: u8) -> Text1
-    ensures { λ a. ⌜ a ≡ text1Of message at r ⌝ }
-{
-    let body = r.body;
-    let mut bytes: [u8; 1] = [0; 1];
-    if r.message == message {
-        lift(&body, at as usize, &mut bytes);
-        return Text1 {
-            selected: true,
-            bytes: bytes,
-        };
-    }
-    Text1 {
-        selected: false,
-        bytes: bytes,
-    }
-}
-
-// The four bytes from a place on of a message of the type.
-fn text4_of(r: Record, message: u8, at: u8) -> Text4
-    ensures { λ a. ⌜ a ≡ text4Of message at r ⌝ }
-{
-    let body = r.body;
-    let mut bytes: [u8; 4] = [0; 4];
-    if r.message == message {
-        lift(&body, at as usize, &mut bytes);
-        return Text4 {
-            selected: true,
-            bytes: bytes,
-        };
-    }
-    Text4 {
-        selected: false,
-        bytes: bytes,
-    }
-}
-
-// The ten bytes from a place on of a message of the type.
-fn text10_of(r: Record, message: u8, at: u8) -> Text10
-    ensures { λ a. ⌜ a ≡ text10Of message at r ⌝ }
-{
-    let body = r.body;
-    let mut bytes: [u8; 10] = [0; 10];
-    if r.message == message {
-        lift(&body, at as usize, &mut bytes);
-        return Text10 {
-            selected: true,
-            bytes: bytes,
-        };
-    }
-    Text10 {
-        selected: false,
-        bytes: bytes,
-    }
-}
-
-// The 60 bytes from a place on of a message of the type.
-fn text60_of(r: Record, message: u8, at: u8) -> Text60
-    ensures { λ a. ⌜ a ≡ text60Of message at r ⌝ }
-{
-    let body = r.body;
-    let mut bytes: [u8; 60] = [0; 60];
-    if r.message == message {
-        lift(&body, at as usize, &mut bytes);
-        return Text60 {
-            selected: true,
-            bytes: bytes,
-        };
-    }
-    Text60 {
-        selected: false,
-        bytes: bytes,
     }
 }
 
@@ -491,6 +386,7 @@ fn set_bytes(r: Record, message: u8, at: usize, bytes: &[u8]) -> Record
     r
 }
 
+// Four bytes.
 struct Bytes4 {
     bytes: [u8; 4],
 }

@@ -15,28 +15,28 @@ use table::Unit;
 pub fn session_sub_id(r: Record) -> Text4
     ensures { λ a. ⌜ a ≡ text4Of 0x37 0 r ⌝ }
 {
-    crate::text4_of(r, 0x37, 0)
+    crate::fixed::text4_of(r, 0x37, 0)
 }
 
 // Username.
 pub fn username(r: Record) -> Text4
     ensures { λ a. ⌜ a ≡ text4Of 0x37 4 r ⌝ }
 {
-    crate::text4_of(r, 0x37, 4)
+    crate::fixed::text4_of(r, 0x37, 4)
 }
 
 // Password.
 pub fn password(r: Record) -> Text10
     ensures { λ a. ⌜ a ≡ text10Of 0x37 8 r ⌝ }
 {
-    crate::text10_of(r, 0x37, 8)
+    crate::fixed::text10_of(r, 0x37, 8)
 }
 
 // The number of groups.
 pub fn group_count(r: Record) -> ByteField
     ensures { λ a. ⌜ a ≡ byteOf 0x37 18 r ⌝ }
 {
-    crate::byte_of(r, 0x37, 18)
+    crate::fixed::byte_of(r, 0x37, 18)
 }
 
 // The flag of the units' group.

@@ -19,21 +19,21 @@ use table::Unit;
 pub fn status(r: Record) -> Text1
     ensures { λ a. ⌜ a ≡ text1Of 0x24 0 r ⌝ }
 {
-    crate::text1_of(r, 0x24, 0)
+    crate::fixed::text1_of(r, 0x24, 0)
 }
 
 // LoginResponseText.
 pub fn text(r: Record) -> Text60
     ensures { λ a. ⌜ a ≡ text60Of 0x24 1 r ⌝ }
 {
-    crate::text60_of(r, 0x24, 1)
+    crate::fixed::text60_of(r, 0x24, 1)
 }
 
 // The flag: 0 or 1.
 pub fn flag(r: Record) -> ByteField
     ensures { λ a. ⌜ a ≡ byteOf 0x24 61 r ⌝ }
 {
-    crate::byte_of(r, 0x24, 61)
+    crate::fixed::byte_of(r, 0x24, 61)
 }
 
 // The last outgoing number that the venue received.
@@ -47,7 +47,7 @@ pub fn last_received(r: Record) -> OutgoingField
 pub fn unit_count(r: Record) -> ByteField
     ensures { λ a. ⌜ a ≡ byteOf 0x24 66 r ⌝ }
 {
-    crate::byte_of(r, 0x24, 66)
+    crate::fixed::byte_of(r, 0x24, 66)
 }
 
 // Pair i, from 0: a unit and its last number, there where i is below the count and below 32.

@@ -14,14 +14,14 @@ use table::OutgoingNumber;
 pub fn reason(r: Record) -> Text1
     ensures { λ a. ⌜ a ≡ text1Of 0x08 0 r ⌝ }
 {
-    crate::text1_of(r, 0x08, 0)
+    crate::fixed::text1_of(r, 0x08, 0)
 }
 
 // LogoutReasonText.
 pub fn text(r: Record) -> Text60
     ensures { λ a. ⌜ a ≡ text60Of 0x08 1 r ⌝ }
 {
-    crate::text60_of(r, 0x08, 1)
+    crate::fixed::text60_of(r, 0x08, 1)
 }
 
 // The last outgoing number that the venue received.
@@ -35,7 +35,7 @@ pub fn last_received(r: Record) -> OutgoingField
 pub fn unit_count(r: Record) -> ByteField
     ensures { λ a. ⌜ a ≡ byteOf 0x08 65 r ⌝ }
 {
-    crate::byte_of(r, 0x08, 65)
+    crate::fixed::byte_of(r, 0x08, 65)
 }
 
 // Pair i, from 0: a unit and its last number, there where i is below the count and below 32.

@@ -1,4 +1,4 @@
--- `session_fields::text10_of` meets its contract. Assumes nothing.
+-- `session_fields::fixed::text10_of` meets its contract. Assumes nothing.
 use borrow.Author.Tests.{eq-eqb, ne-eqb}
 use native.Mathlib.Omega.{arith}
 use lib.ListN.{length}
@@ -10,8 +10,8 @@ use Rattle.fields.specs.Slots.{zeros}
 use Rattle.session_fields.proofs.Lifts.{lift-there}
 use Rattle.session_fields.specs.SessionFields.{text10Of}
 use borrow.Author.Needs.{needs}
-use Rattle.session_fields.proofs.text10_of.Statement.{statement}
-use Rattle.session_fields.proofs.text10_of.Tie as tie
+use Rattle.session_fields.proofs.fixed.text10_of.Statement.{statement}
+use Rattle.session_fields.proofs.fixed.text10_of.Tie as tie
 
 body-length : (c : tie.Start) → length (c .args .r .body) ≡ 433
 body-length c = search needs

@@ -1,9 +1,9 @@
--- `session_fields::byte_of` meets its contract. Assumes nothing.
+-- `session_fields::fixed::byte_of` meets its contract. Assumes nothing.
 use borrow.Author.Tests.{eq-eqb, ne-eqb}
 use Rattle.session_fields.specs.SessionFields.{byteOf}
 use borrow.Author.Needs.{needs}
-use Rattle.session_fields.proofs.byte_of.Statement.{statement}
-use Rattle.session_fields.proofs.byte_of.Tie as tie
+use Rattle.session_fields.proofs.fixed.byte_of.Statement.{statement}
+use Rattle.session_fields.proofs.fixed.byte_of.Tie as tie
 
 slice-aggregate-byte-at : tie.Need-slice-aggregate-byte-at
 slice-aggregate-byte-at c = search needs

@@ -1,4 +1,4 @@
--- `session_fields::lift` meets its contract. Assumes nothing.
+-- `session_fields::fixed::lift` meets its contract. Assumes nothing.
 use native.Mathlib.Omega.{arith}
 use denote.Ref.{now}
 use Prim.Native.Nat.{_+_}
@@ -6,8 +6,8 @@ use lib.ListN.{length}
 use mathlib.Core.Path.{refl}
 use Rattle.session_fields.proofs.Lifts.{lift-short, lift-copied}
 use borrow.Author.Needs.{needs}
-use Rattle.session_fields.proofs.lift.Statement.{statement}
-use Rattle.session_fields.proofs.lift.Tie as tie
+use Rattle.session_fields.proofs.fixed.lift.Statement.{statement}
+use Rattle.session_fields.proofs.fixed.lift.Tie as tie
 
 returns : tie.Need-returns
 returns c =
