@@ -1,11 +1,11 @@
 -- A session message's record put into a buffer: the head, and the body with zeros in the tail after it. Assumes nothing.
-use mathlib.Core.Path.{_≡_, refl, sym, ap, ap₂, _∙_}
+use mathlib.Core.Path.{_≡_, refl, ap, ap₂, _∙_}
 use mathlib.Core.List.{List, _∷_, _++_}
-use Prim.Native.Nat.{ℕ, _+_, _-_, _≤_}
+use Prim.Native.Nat.{ℕ, _-_, _≤_}
 use native.Mathlib.Omega.{arith}
 use lib.ListN.{length, take, drop, length-append, length-drop}
 use Rattle.numbers.specs.Numbers.{bytesOf, patched}
-use Rattle.numbers.proofs.Tail.{tail-is, puts-then, tail-length}
+use Rattle.numbers.proofs.Tail.{tail-is, puts-then}
 use Rattle.wire.specs.Header.{typeOf, unitOf, numberOf}
 use Rattle.fields.specs.Slots.{zeros}
 use Rattle.fields.specs.SlotLaws.{length-zeros}
@@ -24,9 +24,6 @@ module _ (m buffer out₁ : List ℕ) (t u n : ℕ) (least : 10 ≤ length m) (m
   padded-length =
       let d : length (drop 10 m) ≡ length m - 10 = length-drop 10 m in
       length-append (drop 10 m) (zeros (433 - length (drop 10 m))) ∙ omega (arith, length-zeros (433 - length (drop 10 m)))
-
-  pub session-tail : length (take (length out₁ - 6) (drop 6 out₁)) ≡ length buffer - 6
-  session-tail = tail-length buffer out₁ (t ∷ u ∷ bytesOf 4 n) padded 6 refl (omega (arith, padded-length)) p
 
   pub session-put : t ≡ typeOf m → u ≡ unitOf m → n ≡ numberOf m → {ys : List ℕ}
       → ys ≡ patched (take (length out₁ - 6) (drop 6 out₁)) 0 (take (length m - 10) (drop 10 m) ++ zeros (433 - length (take (length m - 10) (drop 10 m))))

@@ -30,9 +30,11 @@ carries direction message =
 
 -- ---- a session message's record as 439 bytes: type, unit, number, the 433 bytes of the body
 
+-- its bytes
 unfoldable pub sessionRecordBytes : sessionRecords.Record → List ℕ
 sessionRecordBytes r = (r .message ∷ r .unit ∷ bytesOf 4 (r .number)) ++ r .body
 
+-- the record that the first 439 bytes are
 unfoldable pub sessionAt : List ℕ → sessionRecords.Record
 sessionAt s = record { message = getD s 0 0; unit = getD s 1 0; number = numberAt 4 2 s; body = take 433 (drop 6 s) }
 
@@ -63,10 +65,11 @@ readRecord direction s buffer = cond (eqb (readCall direction s (length buffer))
 
 -- ---- writing a record s
 
--- a record's own refusals, and the bytes of its message
+-- a record's own refusals
 unfoldable pub ownWrite : List ℕ → ℕ → ℕ
 ownWrite s room = cond (isSession (getD s 0 0)) (sessions.recordRefusal (sessionAt s) room) (orders.writeRefusal (recordAt s) room)
 
+-- the bytes of its message
 unfoldable pub messageOf : List ℕ → List ℕ
 messageOf s = cond (isSession (getD s 0 0)) (sessions.sessionBytes (sessionAt s)) (orders.orderBytes (recordAt s))
 

@@ -3,19 +3,19 @@
 use mathlib.Core.Path.{_≡_, refl, sym, ap, ap₂, _∙_, subst}
 use mathlib.Core.Bool.{Bool, true, false, cond}
 use mathlib.Core.List.{List, [], _∷_, _++_, append-nil, append-assoc}
-use Prim.Native.Nat.{ℕ, suc, _+_, _-_, _≤_, _<_}
+use Prim.Native.Nat.{ℕ, _-_, _≤_, _<_}
 use native.Mathlib.Nat.{zero-add}
 use native.Mathlib.Omega.{arith}
 use lib.Dec.{eqb, ltb}
 use lib.ListN.{length, getD, take, drop, length-append, length-drop}
-use lib.Seq.{take-at, take-add, length-take-le}
+use lib.Seq.{take-at, length-take-le}
 use borrow.Author.Tests.{eq-eqb, eqb-true, eqb-false, le-ltb, ltb-false}
-use Rattle.numbers.specs.Numbers.{numberAt, bytesOf, patched}
-use Rattle.numbers.specs.NumberLaws.{number-after, number-back, number-fits, patched-length}
-use Rattle.wire.specs.Header.{typeOf, unitOf, numberOf, totalOf}
-use Rattle.wire.specs.HeaderLaws.{Bytes, bytes-front}
+use Rattle.numbers.specs.Numbers.{bytesOf, patched}
+use Rattle.numbers.specs.NumberLaws.{number-after, number-back, number-fits, bytes-first, patched-length}
+use Rattle.wire.specs.Header.{typeOf, numberOf, totalOf}
+use Rattle.wire.specs.HeaderLaws.{Bytes}
 use Rattle.wire.specs.Frame.{frameRefusal, framed}
-use Rattle.wire.specs.FrameLaws.{Whole, whole, framed-is, framed-length, framed-accepted, framed-again, passed}
+use Rattle.wire.specs.FrameLaws.{Whole, whole, framed-is, framed-length, framed-accepted, framed-again}
 use Rattle.fields.specs.Slots.{zeros}
 use Rattle.fields.specs.SlotLaws.{length-zeros}
 use Rattle.orders.specs.Orders as orders
@@ -158,7 +158,7 @@ module _ (direction : ℕ) (s buffer : List ℕ) (bytes : Bytes s) (z : readCall
   exact = ap length (sym (ap framed (sym (append-nil (framed s))) ∙ framed-again s [] (it .frames))) ∙ framed-length (framed s) alone
 
   part-bytes : Bytes (framed s)
-  part-bytes = subst Bytes (sym (framed-is s (it .frames))) (bytes-front (totalOf s) s bytes)
+  part-bytes = subst Bytes (sym (framed-is s (it .frames))) (bytes-first (totalOf s) s bytes)
 
   -- what the record's buffer holds: the record, and after it what stood there
   pub record-stored : readRecord direction s buffer ≡ recordOf (framed s) ++ drop (length (recordOf (framed s))) buffer

@@ -6,8 +6,6 @@ ghost use Prim.Native.Nat.{_-_, _≤_};
 ghost use lib.ListN.{length};
 ghost use Rattle.numbers.specs.Numbers.{patched};
 ghost use Rattle.fields.specs.Slots.{zeros};
-ghost use Rattle.records.specs.Records.{recordAt};
-ghost use Rattle.orders.specs.Orders.{writeRefusal, writeBuffer};
 ghost use Rattle.logins.specs.Sessions as sessions;
 ghost use Rattle.messages.specs.Messages.{isSession, carries, sessionRecordBytes, sessionAt, readRefusal, readCall, readRecord, writeCall, writeOut};
 ghost use Rattle.messages.specs.Stages.{ownRecord, wholeRecord};
