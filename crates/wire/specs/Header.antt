@@ -8,15 +8,19 @@ use Rattle.numbers.specs.Numbers.{numberAt, bytesOf}
 abbrev pub headerBytes : ℕ → ℕ → ℕ → ℕ → List ℕ
 headerBytes length type unit number = 186 ∷ 186 ∷ bytesOf 2 length ++ (type ∷ unit ∷ bytesOf 4 number)
 
+-- the length, at 2
 unfoldable pub lengthOf : List ℕ → ℕ
 lengthOf s = numberAt 2 2 s
 
+-- the type, at 4
 abbrev pub typeOf : List ℕ → ℕ
 typeOf s = getD s 4 0
 
+-- the unit, at 5
 abbrev pub unitOf : List ℕ → ℕ
 unitOf s = getD s 5 0
 
+-- the number, at 6
 unfoldable pub numberOf : List ℕ → ℕ
 numberOf s = numberAt 4 6 s
 

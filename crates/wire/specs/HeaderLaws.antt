@@ -42,11 +42,6 @@ more b s h k (suc i) = k i
 none : Bytes []
 none i = omega arith
 
-pub bytes-front : (n : ℕ) (s : List ℕ) → Bytes s → Bytes (take n s)
-bytes-front zero s b = none
-bytes-front (suc n) [] b = none
-bytes-front (suc n) (x ∷ s) b = more x (take n s) (b 0) (bytes-front n s (λ i. b (suc i)))
-
 two : (a b : ℕ) → a < 256 → b < 256 → bytesOf 2 (a + 256 * (b + 256 * 0)) ≡ a ∷ b ∷ []
 two a b ha hb = bytes-back 2 (a ∷ b ∷ []) (omega arith) (more a (b ∷ []) ha (more b [] hb none))
 

@@ -2,8 +2,6 @@
 pub mod header;
 
 ghost use mathlib.Core.Path.{_≡_};
-ghost use Prim.Native.Nat.{_+_, _≤_};
-ghost use lib.ListN.{length};
 ghost use Rattle.wire.specs.Frame.{notBA, startsBad, lengthBad, cutShort, frameRefusal, framed};
 
 // Whether a byte is present at a place and is not BA.

@@ -1,13 +1,11 @@
 -- `wire::frame` meets its contract. Assumes nothing.
 use Rattle.wire.specs.FrameLaws.{whole, framed-is, refused-is-empty}
-use Rattle.wire.specs.Frame.{frameRefusal, framed}
-use Rattle.wire.specs.Header.{totalOf}
+use Rattle.wire.specs.Frame.{frameRefusal}
 use denote.Ref.{now}
 use lib.Seq.{length-take-le}
-use lib.ListN.{length, take}
+use lib.ListN.{take}
 use native.Mathlib.Omega.{arith}
 use Prim.Native.Nat.{ℕ}
-use mathlib.Core.List.{List}
 use mathlib.Core.Path.{_≡_, _∙_, sym, ap}
 use borrow.Author.Needs.{needs}
 use Rattle.wire.proofs.frame.Statement.{statement}

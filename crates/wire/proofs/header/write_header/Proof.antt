@@ -4,7 +4,6 @@ use Rattle.numbers.proofs.Tail.{no-room, stored}
 use denote.Ref.{now}
 use lib.ListN.{length-set}
 use native.Mathlib.Omega.{arith}
-use mathlib.Core.Path.{_≡_}
 use borrow.Author.Needs.{needs}
 use Rattle.wire.proofs.header.write_header.Statement.{statement}
 use Rattle.wire.proofs.header.write_header.Tie as tie
