@@ -27,6 +27,7 @@ pub record Example : Type 0 where
   pub answered : List ℕ
   pub stated : List ℕ
 
+-- a line of its three parts
 abbrev example : ℕ → List ℕ → List ℕ → Example
 example p a s = record { number = p; answered = a; stated = s }
 
@@ -73,10 +74,11 @@ slotsBefore m byte bit = take (8 * (byte - 1) + dictionary.indexOf bit) (slotsOf
 abbrev startOf : List ℕ → ℕ → ℕ → ℕ
 startOf m byte bit = countAt (typeOf m) + 1 + orders.countOf m + sum takes (slotsBefore m byte bit)
 
--- what the message has from there on, and what its record holds from the field's slot on
+-- what the message has from there on
 abbrev sentFrom : List ℕ → ℕ → ℕ → List ℕ
 sentFrom m byte bit = drop (startOf m byte bit) m
 
+-- what its record holds from the field's slot on
 abbrev heldFrom : List ℕ → ℕ → ℕ → List ℕ
 heldFrom m byte bit = drop (sum width (slotsBefore m byte bit)) (orders.recordOf m .slots)
 
@@ -108,6 +110,7 @@ firstPair s = groups.groupKey s ∷ groups.unitAt (drop 5 s) 0 ∷ numberAt 4 1 
 abbrev unitOne : List ℕ
 unitOne = 1 ∷ 1 ∷ 113482 ∷ []
 
+-- P1 to P14 of document 01
 abbrev pub examples : List Example
 examples =
     -- 12.3400, -12.3400, -0.0001, -922337203685477.5808
