@@ -1,9 +1,8 @@
 -- A day that computes: the line breaks during one replay and again during the next, the book is cut, and the third replay completes. Assumes nothing.
 use mathlib.Core.Path.{_≡_, refl}
 use mathlib.Core.Bool.{true, false}
-use mathlib.Core.List.{List, [], _∷_, _++_}
-use Prim.Native.Nat.{ℕ}
-use Rattle.day.specs.Model.{Msg, messages, live, Sent, complete, Event, logs, logsIn, takesIt, steps, delivers, breaks, drops, cuts, World, run, start}
+use mathlib.Core.List.{List, [], _∷_}
+use Rattle.day.specs.Model.{Msg, messages, live, complete, Event, logs, logsIn, takesIt, steps, delivers, breaks, drops, cuts, World, run, start}
 
 abbrev a : Msg
 a = record { unit = 1; num = 1; body = 7 ∷ 7 ∷ [] }

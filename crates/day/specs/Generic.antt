@@ -1,19 +1,17 @@
 -- What the code's functions must be proved to do, the simulation of the day over them by the abstract day, and demand 3 over any that do it.
 -- Assumes nothing.
-use mathlib.Core.Path.{_≡_, refl, sym, ap, subst, _∙_}
-use mathlib.Core.Bool.{Bool, true, false, _&&_, _||_, not, true≢false, false≢true}
-use mathlib.Core.List.{List, [], _∷_, _++_, map, append-nil}
-use mathlib.Core.Option.{Option, none, some}
-use Prim.Native.Nat.{ℕ, zero, suc, _+_, _≤_, _<_}
-use native.Mathlib.Omega.{arith}
-use lib.ListN.{length, take, drop}
-use Rattle.day.specs.Model.{Found, readBook, fresh, pick, Msg, Item, Table, ofUnit, count, messages, Phase, closed, asked, replaying, live, Sent, response, message, complete, heartbeat, logout, Member, ends, broken, inPhase, got, full, restartOf, restarted, Venue, took, stopped, logged, nextInLog, onLine, World, Event, logs, logsIn, takesIt, steps, beats, logsOut, delivers, breaks, drops, strays, cuts, apply, run, start}
+use mathlib.Core.Path.{_≡_, refl, sym, ap, _∙_}
+use mathlib.Core.Bool.{Bool, true, false, _&&_, false≢true}
+use mathlib.Core.List.{List, [], _∷_, _++_, map}
+use Prim.Native.Nat.{ℕ, _≤_}
+use lib.ListN.{length, take}
+use Rattle.day.specs.Model.{Msg, Table, ofUnit, count, messages, Phase, closed, asked, replaying, live, Sent, response, complete, heartbeat, logout, Member, broken, inPhase, got, full, restartOf, restarted, Venue, took, stopped, logged, nextInLog, onLine, World, Event, logs, logsIn, takesIt, beats, logsOut, delivers, breaks, drops, strays, cuts, apply, run, start}
 use Rattle.day.specs.Inv.{Inv, inv-run, inv-asking}
-use Rattle.day.specs.Safe.{Safe, Headed, Readable, counted}
+use Rattle.day.specs.Safe.{Readable, counted}
 use Rattle.day.specs.Laws.{prefix-length}
-use Rattle.day.specs.Steps.{movesTo, movesSend, many, stepped, run-many}
-use Rattle.day.specs.Story.{Bytes, Code, Happens, theLog, aLogin, aSending, aHearing, aBeat, aBye, aTaking, aStep, aStray, aDelivery, aBreak, aDrop, aCut, Now, putOn, noLine, ofVenue, nowLogin, nowMember, nowVenue, nowTaken, nowStep, nowBeat, nowBye, nowGets, nowDrop, nowStray, next, story, dawn, All}
-use Rattle.day.specs.Demand.{Exact, exact, restarts, Completes, complete-whole, must-complete}
+use Rattle.day.specs.Steps.{movesTo, movesSend, many, run-many}
+use Rattle.day.specs.Story.{Bytes, Code, Happens, theLog, aLogin, aSending, aHearing, aBeat, aBye, aTaking, aStep, aStray, aDelivery, aBreak, aDrop, aCut, Now, putOn, noLine, nowLogin, nowTaken, nowStep, nowBeat, nowBye, nowGets, nowDrop, nowStray, next, story, dawn, All}
+use Rattle.day.specs.Demand.{exact, restarts, Completes, complete-whole, must-complete}
 
 -- ---- what the code's functions must be proved to do: an equation a function
 
@@ -90,7 +88,7 @@ all-append : (P : Bytes → Type 0) (a b : List Bytes) → All P a → All P b �
 all-append P [] b h k = k
 all-append P (x ∷ a) b h k = (h .0, all-append P a b (h .1) k)
 
-map-++ : {X : Type 0} (f : Bytes → X) (a b : List Bytes) → map f (a ++ b) ≡ map f a ++ map f b
+pub map-++ : {X : Type 0} (f : Bytes → X) (a b : List Bytes) → map f (a ++ b) ≡ map f a ++ map f b
 map-++ f [] b = refl
 map-++ f (x ∷ a) b = rw (map-++ f a b)
 

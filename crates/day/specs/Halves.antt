@@ -1,17 +1,18 @@
 -- The interface in two halves, which meet in what a line carries: a member and a venue that are proved apart make the whole.
 -- Assumes nothing.
-use mathlib.Core.Path.{_≡_, refl}
+use mathlib.Core.Path.{_≡_}
 use mathlib.Core.Bool.{Bool, true, false, _&&_}
 use mathlib.Core.List.{List, [], _∷_, map}
 use Prim.Native.Nat.{ℕ, suc, _≤_}
 use lib.ListN.{length, take}
-use Rattle.day.specs.Model.{Msg, Table, count, Phase, closed, asked, Sent, response, heartbeat, logout, Member, ends, broken, inPhase, got, full, restartOf, restarted, Venue, took, stopped, logged, nextInLog, start}
+use Rattle.day.specs.Model.{Msg, Table, count, Phase, closed, asked, Sent, response, heartbeat, logout, Member, broken, inPhase, got, full, restartOf, restarted, Venue, took, stopped, logged, nextInLog, start}
 use Rattle.day.specs.Safe.{Readable}
 use Rattle.day.specs.Steps.{docStep}
 use Rattle.day.specs.Story.{Bytes, All, Code}
 use Rattle.day.specs.Generic.{Meets, StepIs}
 
--- what a line carries, and what its ends make of it
+-- what a line carries, and what its ends make of it: what bytes say, and as which message of the log; what a login lists; which bytes a venue sends,
+-- and which are a login of ours
 pub record Line : Type 1 where
   pub says : Bytes → Sent
   pub msgOf : Bytes → Msg
@@ -19,6 +20,7 @@ pub record Line : Type 1 where
   pub Fine : Bytes → Type 0
   pub OurLogin : Bytes → Type 0
 
+-- the member's part of `Code`, and the venue's
 pub record MemberCode : Type 1 where
   pub State : Type 0
   pub phase : State → Phase
@@ -51,6 +53,7 @@ pub record VenueCode : Type 1 where
   pub isBye : Bytes → Bool
   pub bye : Bytes → Bytes
 
+-- both together
 abbrev pub code : MemberCode → VenueCode → Code
 code A B = record {
   State = A .State;
@@ -83,6 +86,7 @@ code A B = record {
   bye = B .bye;
 }
 
+-- such a member: an equation a function, on states that it can come to
 pub record MeetsMember (L : Line) (A : MemberCode) : Type 1 where
   pub view : A .State → Member
   pub Good : A .State → Type 0
@@ -112,17 +116,22 @@ pub record StepsAs (v v′ : Venue) (xs : List Sent) : Type 0 where
   pub to : v′ ≡ docStep (suc (length (v .log))) v .to
   pub sent : xs ≡ docStep (suc (length (v .log))) v .sent
 
--- such a venue
+-- Such a venue: its log only grows, and it keeps and replays it as document 01 says. Said on states that it can come to, over the venue of Model.antt.
 pub record MeetsVenue (L : Line) (B : VenueCode) : Type 1 where
+  -- how a state is seen, and which it can come to
   pub viewV : B .Ven → Venue
   pub GoodV : B .Ven → Type 0
+  -- a new one has an empty log and no session
   pub empty-good : GoodV (B .empty)
   pub empty-is : viewV (B .empty) ≡ start .venue
   pub running-is : (v : B .Ven) → viewV v .running ≡ B .running v
   pub log-is : (v : B .Ven) → viewV v .log ≡ map (L .msgOf) (B .logOf v)
+  -- a message that is offered is put at the log's end, with the next number of its unit, or nothing changes; which the log can read and has room
+  -- for is the venue's own
   pub readable : ℕ → Bytes → B .Ven → Bool
   pub adds-good : (room : ℕ) (b : Bytes) (v : B .Ven) → GoodV v → GoodV (B .adds room b v)
   pub adds-is : (room : ℕ) (b : Bytes) (v : B .Ven) → GoodV v → viewV (B .adds room b v) ≡ logged (readable room b v && nextInLog (L .msgOf b) (viewV v)) (L .msgOf b) (viewV v)
+  -- what a member sends changes neither log nor replay
   pub hears-good : (b : Bytes) (v : B .Ven) → GoodV v → GoodV (B .hears b v)
   pub hears-is : (b : Bytes) (v : B .Ven) → GoodV v → viewV (B .hears b v) ≡ viewV v
   -- a login is taken only outside a session; ours is, with room for the answer
@@ -130,11 +139,14 @@ pub record MeetsVenue (L : Line) (B : VenueCode) : Type 1 where
   pub answerRoom : ℕ
   pub accepts-ours : (room : ℕ) (b : Bytes) (v : B .Ven) → L .OurLogin b → GoodV v → B .running v ≡ false → answerRoom ≤ room → B .accepts room b v ≡ true
   pub takes-good : (room : ℕ) (b : Bytes) (v : B .Ven) → B .accepts room b v ≡ true → GoodV v → GoodV (B .takesLogin room b v)
+  -- any login that is taken begins a session that goes through the log from its first message on
   pub strays-is : (room : ℕ) (b : Bytes) (v : B .Ven) → B .accepts room b v ≡ true → GoodV v → (t : Table) × (viewV (B .takesLogin room b v) ≡ took t (viewV v))
-  -- a login that lists no more than the log holds, as ours does
+  -- ours is sent what is above the numbers that it lists; it lists no more than the log holds
   pub takes-is : (room : ℕ) (b : Bytes) (v : B .Ven) → L .OurLogin b → B .accepts room b v ≡ true → GoodV v → ((u : ℕ) → L .lists b u ≤ count u (viewV v .log)) → viewV (B .takesLogin room b v) ≡ took (L .lists b) (viewV v)
+  -- it is answered with status A
   pub answers-fine : (room : ℕ) (b : Bytes) (v : B .Ven) → B .accepts room b v ≡ true → GoodV v → All (L .Fine) (B .answers room b v)
   pub answers-is : (room : ℕ) (b : Bytes) (v : B .Ven) → B .accepts room b v ≡ true → GoodV v → map (L .says) (B .answers room b v) ≡ response true ∷ []
+  -- whatever the room, a step goes no other way, and what it sends can be read
   pub step-good : (room : ℕ) (v : B .Ven) → GoodV v → B .running v ≡ true → GoodV (B .stepTo room v)
   pub step-fine : (room : ℕ) (v : B .Ven) → GoodV v → B .running v ≡ true → All (L .Fine) (B .stepSends room v)
   pub step-is : (room : ℕ) (v : B .Ven) → GoodV v → B .running v ≡ true → StepIs (viewV v) (viewV (B .stepTo room v)) (map (L .says) (B .stepSends room v))
@@ -142,13 +154,16 @@ pub record MeetsVenue (L : Line) (B : VenueCode) : Type 1 where
   -- first that is goes out, or Replay Complete at the place where the log stood at login, or nothing at the log's end
   pub stepRoom : ℕ
   pub steps-as-told : (room : ℕ) (v : B .Ven) → GoodV v → B .running v ≡ true → stepRoom ≤ room → StepsAs (viewV v) (viewV (B .stepTo room v)) (map (L .says) (B .stepSends room v))
+  -- a break ends the session
   pub stop-good : (v : B .Ven) → GoodV v → GoodV (B .stop v)
   pub stop-is : (v : B .Ven) → GoodV v → viewV (B .stop v) ≡ stopped (viewV v)
+  -- heartbeats and Logouts that it may send at any time of a session
   pub beat-fine : L .Fine (B .beat)
   pub beat-is : L .says (B .beat) ≡ heartbeat
   pub bye-fine : (b : Bytes) → B .isBye b ≡ true → L .Fine (B .bye b)
   pub bye-is : (b : Bytes) → B .isBye b ≡ true → L .says (B .bye b) ≡ logout
 
+-- a member and a venue that are proved apart are what the day asks for
 abbrev pub both : (L : Line) (A : MemberCode) (B : VenueCode) → MeetsMember L A → MeetsVenue L B → Meets (code A B)
 both L A B M N = record {
   says = L .says;

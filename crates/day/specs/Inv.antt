@@ -1,17 +1,17 @@
 -- What holds at every moment, and that each event keeps it. Assumes nothing.
 use mathlib.Core.Path.{_≡_, refl, sym, ap, subst, _∙_}
-use mathlib.Core.Bool.{Bool, true, false, _&&_, _||_, not, true≢false, false≢true}
-use mathlib.Core.List.{List, [], _∷_, _++_, append-nil, append-assoc, List·Memᴰ, Memᴰ·append-left, Memᴰ·append-right, List·Memᴰ·head, List·Memᴰ·tail, Memᴰ·cast}
+use mathlib.Core.Bool.{Bool, true, false, _&&_, _||_, true≢false, false≢true}
+use mathlib.Core.List.{List, [], _∷_, _++_, append-nil, List·Memᴰ, Memᴰ·append-left, List·Memᴰ·head, List·Memᴰ·tail, Memᴰ·cast}
 use Prim.Native.Nat.{ℕ, zero, suc, _+_, _≤_, _<_, max}
 use native.Mathlib.Omega.{arith}
-use lib.Dec.{leb, ltb, eqb}
+use lib.Dec.{ltb, eqb}
 use lib.ListN.{length, take, getD, drop, length-append}
-use lib.Seq.{take-append-le, take-suc, split-at, take-append-seam, take-length}
-use borrow.Author.Tests.{eqb-true, eqb-false, eq-eqb, ne-eqb, ltb-true, ltb-false}
-use Rattle.day.specs.Model.{Msg, Item, mark, entry, Table, bump, zeros, keep, ofUnit, count, messages, pick, Phase, closed, asked, replaying, live, Sent, response, message, complete, heartbeat, logout, Member, ends, inPhase, got, gotIn, full, fullIn, Restart, short, bad, good, restartOf, restarted, Venue, above, none-msg, Move, idle, tells, passes, moveOf, move, sends, moved, took, stopped, logged, nextInLog, World, Event, logs, logsIn, takesIt, steps, beats, logsOut, delivers, breaks, drops, strays, cuts, onLine, withVenue, sending, leaving, alone, loggingIn, taking, stepping, saying, delivering, breaking, dropping, straying, cut, apply, run, start}
-use Rattle.day.specs.Laws.{ofUnit-append, count-snoc, NumberedFrom, numbered-snoc, Prefix, prefix-trans, prefix-refl, prefix-more, prefix-unit, prefix-length, same-prefix}
-use Rattle.day.specs.Safe.{Numbered, Safe, counted, safe-ends, safe-got, safe-grows, safe-restarted, InLog, Headed}
-use Rattle.day.specs.Walk.{walk, walk-then, walk-map, after, phase-got, Orderly, Told, At, countsAfter, step, Next, Whole, GaplessIn, Gapless, Passed, ReachedIn, Reached, table-got}
+use lib.Seq.{take-append-le, take-suc, split-at, take-append-seam}
+use borrow.Author.Tests.{eqb-true, eqb-false, eq-eqb, ltb-true, ltb-false}
+use Rattle.day.specs.Model.{Msg, Item, mark, Table, bump, keep, ofUnit, count, pick, Phase, closed, asked, replaying, live, Sent, response, message, complete, heartbeat, logout, Member, ends, full, Restart, short, bad, good, restartOf, restarted, Venue, above, none-msg, Move, idle, tells, passes, moveOf, move, sends, moved, logged, nextInLog, World, Event, logs, logsIn, takesIt, steps, beats, logsOut, delivers, breaks, drops, strays, cuts, onLine, withVenue, leaving, alone, loggingIn, taking, stepping, saying, delivering, breaking, dropping, straying, cut, apply, run, start}
+use Rattle.day.specs.Laws.{ofUnit-append, count-snoc, NumberedFrom, numbered-snoc, Prefix, prefix-refl, prefix-more, prefix-length}
+use Rattle.day.specs.Safe.{Numbered, Safe, counted, safe-ends, safe-got, safe-grows, safe-restarted, InLog}
+use Rattle.day.specs.Walk.{walk, walk-then, walk-map, after, phase-got, Orderly, Told, At, step, Next, Whole, Gapless, Passed, ReachedIn, Reached, table-got}
 
 abbrev pub AllIn : List Msg → List Sent → Type 0
 AllIn log [] = Unit {0}
@@ -203,11 +203,6 @@ pub record Passes (v : Venue) (m : Msg) : Type 0 where
   pub is : getD (v .log) (v .at) none-msg ≡ m
   pub inside : v .at < length (v .log)
   pub short : v .told ≡ false → v .at ≡ v .upTo → ⊥
-
-code : Move → ℕ
-code idle = 0
-code tells = 1
-code (passes m) = 2
 
 move-tells : (v : Venue) → move v ≡ tells → (v .told ≡ false) × (v .at ≡ v .upTo)
 move-tells v = go (v .told) (eqb (v .at) (v .upTo)) (ltb (v .at) (length (v .log))) refl refl

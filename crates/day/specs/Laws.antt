@@ -1,16 +1,13 @@
 -- Lists of messages: by unit, counted, numbered. Assumes nothing.
-use mathlib.Core.Path.{_≡_, refl, sym, ap, subst, _∙_}
+use mathlib.Core.Path.{_≡_, refl, sym, ap, _∙_}
 use mathlib.Core.Bool.{Bool, true, false}
-use mathlib.Core.List.{List, [], _∷_, _++_, append-assoc, append-nil, List·Memᴰ, List·Memᴰ·head, List·Memᴰ·tail, Memᴰ·append-left, List·Memᴰ·append-cases}
-use mathlib.Core.Logic.{_⊎_, inl, inr}
-use Prim.Native.Nat.{ℕ, zero, suc, _+_, _≤_, _<_, max}
+use mathlib.Core.List.{List, [], _∷_, _++_, append-assoc, append-nil, List·Memᴰ, List·Memᴰ·head, List·Memᴰ·tail}
+use Prim.Native.Nat.{ℕ, suc, _+_, _≤_}
 use native.Mathlib.Omega.{arith}
-use native.Mathlib.Nat.{add-zero, add-suc}
-use lib.Dec.{leb, ltb, eqb}
-use lib.ListN.{length, take, getD, length-append, drop, take-append-drop}
-use lib.Seq.{take-suc}
-use borrow.Author.Tests.{eqb-true, eqb-false, eq-eqb, ne-eqb}
-use Rattle.day.specs.Model.{Msg, Item, mark, entry, Table, bump, keep, ofUnit, count, onto, messages, pick}
+use lib.Dec.{eqb}
+use lib.ListN.{length, take, length-append, drop, take-append-drop}
+use borrow.Author.Tests.{eq-eqb}
+use Rattle.day.specs.Model.{Msg, Item, mark, entry, keep, ofUnit, count, onto, messages, pick}
 
 keep-append : (b : Bool) (m : Msg) (r t : List Msg) → keep b m r ++ t ≡ keep b m (r ++ t)
 keep-append true m r t = refl
@@ -19,10 +16,6 @@ keep-append false m r t = refl
 pub ofUnit-append : (u : ℕ) (a b : List Msg) → ofUnit u (a ++ b) ≡ ofUnit u a ++ ofUnit u b
 ofUnit-append u [] b = refl
 ofUnit-append u (m ∷ a) b = rw (keep-append, ofUnit-append u a b)
-
-keep-length : (b : Bool) (m : Msg) (r : List Msg) → length (keep b m r) ≡ pick b (suc (length r)) (length r)
-keep-length true m r = refl
-keep-length false m r = refl
 
 one : (b : Bool) (m : Msg) (n : ℕ) → n + length (keep b m []) ≡ pick b (suc n) n
 one true m n = omega arith

@@ -1,15 +1,15 @@
 -- A step of document 01 (one message a step, what need not be sent is passed over) is some of the model's; and Replay Complete is sent in the end.
 -- Assumes nothing.
 use mathlib.Core.Path.{_≡_, refl, sym, ap, subst, _∙_}
-use mathlib.Core.Bool.{Bool, true, false, _&&_, _||_, not, true≢false, false≢true}
+use mathlib.Core.Bool.{Bool, true, false}
 use mathlib.Core.List.{List, [], _∷_, _++_, append-nil, append-assoc}
-use Prim.Native.Nat.{ℕ, zero, suc, _+_, _-_, _≤_, _<_}
+use Prim.Native.Nat.{ℕ, zero, suc, _+_, _≤_, _<_}
 use native.Mathlib.Omega.{arith}
-use lib.Dec.{eqb, ltb}
-use lib.ListN.{length, take, getD, replicate}
+use lib.ListN.{length, getD}
 use borrow.Author.Tests.{eq-eqb, ne-eqb, lt-ltb}
-use Rattle.day.specs.Model.{pick, above, none-msg, Msg, Table, Sent, message, complete, Venue, Move, idle, tells, passes, moveOf, move, moved, sends, World, Event, steps, onLine, stepping, apply, run}
+use Rattle.day.specs.Model.{above, none-msg, Table, Sent, message, complete, Venue, Move, idle, tells, passes, move, moved, sends, World, Event, steps, onLine, apply, run}
 
+-- where so many moves of the model lead, and what they put on the line
 abbrev pub movesTo : ℕ → Venue → Venue
 movesTo zero v = v
 movesTo (suc n) v = movesTo n (moved (move v) v)
@@ -18,6 +18,7 @@ abbrev pub movesSend : ℕ → Venue → List Sent
 movesSend zero v = []
 movesSend (suc n) v = sends (v .listed) (move v) ++ movesSend n (moved (move v) v)
 
+-- so many steps of the model's venue, and the world after them
 abbrev pub many : ℕ → List Event
 many zero = []
 many (suc n) = steps ∷ many n
@@ -49,10 +50,12 @@ run-many (suc n) w e =
 
 -- ---- document 01's step: pass over what is not above the listed number, send the first that is, or Replay Complete, or say idle
 
+-- what a step sends, and the venue after it
 pub record Stepped : Type 0 where
   pub sent : List Sent
   pub to : Venue
 
+-- by whether the message that is passed is above the listed number
 abbrev pub docOn : (Venue → Stepped) → Bool → Move → Venue → Stepped
 docOn go a idle v = record { sent = []; to = v }
 docOn go a tells v = record { sent = complete ∷ []; to = moved tells v }
@@ -64,10 +67,12 @@ aboveMove t idle = false
 aboveMove t tells = false
 aboveMove t (passes m) = above t m
 
+-- at most so many messages are looked at; one more than the log has is enough
 abbrev pub docStep : ℕ → Venue → Stepped
 docStep zero v = record { sent = []; to = v }
 docStep (suc n) v = docOn (docStep n) (aboveMove (v .listed) (move v)) (move v) v
 
+-- a step is so many moves
 pub record IsMoves (v : Venue) (s : Stepped) : Type 0 where
   pub count : ℕ
   pub to : s .to ≡ movesTo count v
@@ -87,14 +92,14 @@ doc-is (suc n) v = go (move v) (aboveMove (v .listed) (move v)) refl refl (λ u.
 
 -- ---- Replay Complete is sent
 
-move-at : (v : Venue) → v .told ≡ false → v .at ≡ v .upTo → move v ≡ tells
-move-at v t e = rw (t, eq-eqb (v .at) (v .upTo) e)
+pub move-tells : (v : Venue) → v .told ≡ false → v .at ≡ v .upTo → move v ≡ tells
+move-tells v t e = rw (t, eq-eqb (v .at) (v .upTo) e)
 
-move-under : (v : Venue) → v .told ≡ false → v .at < v .upTo → v .upTo ≤ length (v .log) → move v ≡ passes (getD (v .log) (v .at) none-msg)
-move-under v t l h = rw (t, ne-eqb (v .at) (v .upTo) (λ e. omega arith), lt-ltb (v .at) (length (v .log)) (omega arith))
+pub move-passes : (v : Venue) → v .told ≡ false → v .at < v .upTo → v .upTo ≤ length (v .log) → move v ≡ passes (getD (v .log) (v .at) none-msg)
+move-passes v t l h = rw (t, ne-eqb (v .at) (v .upTo) (λ e. omega arith), lt-ltb (v .at) (length (v .log)) (omega arith))
 
 pub tells-at-last : (d : ℕ) (v : Venue) → v .told ≡ false → v .at + d ≡ v .upTo → v .upTo ≤ length (v .log) → movesTo (suc d) v .told ≡ true
-tells-at-last zero v t e h = rw (move-at v t (omega arith))
+tells-at-last zero v t e h = rw (move-tells v t (omega arith))
 tells-at-last (suc d) v t e h =
     let m = getD (v .log) (v .at) none-msg in
-    subst (λ (x : Move). movesTo (suc d) (moved x v) .told ≡ true) (sym (move-under v t (omega arith) h)) (tells-at-last d (moved (passes m) v) t (omega arith) h)
+    subst (λ (x : Move). movesTo (suc d) (moved x v) .told ≡ true) (sym (move-passes v t (omega arith) h)) (tells-at-last d (moved (passes m) v) t (omega arith) h)

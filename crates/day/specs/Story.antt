@@ -10,34 +10,42 @@ Bytes = List ℕ
 
 -- ---- what the code offers: the functions that its contracts cite
 
+-- a number is the length of the buffer that is lent, and of a restart the bytes that a cut kept
 pub record Code : Type 1 where
-  -- the member
+  -- the member: its state, and of it phase and table; a new one, with a new book
   pub State : Type 0
   pub phase : State → Phase
   pub table : State → Table
   pub new : State
+  -- a login, by what the desk gives it: whether it is written, the state after it, its bytes
   pub Fields : Type 0
   pub writes : Fields → ℕ → State → Bool
   pub login : Fields → ℕ → State → State
   pub loginBytes : Fields → State → Bytes
+  -- the state after it got a message, after it sent an order; whether a message is refused for room
   pub gets : ℕ → Bytes → State → State
   pub sends : ℕ → Bytes → State → State
   pub noRoom : ℕ → Bytes → State → Bool
+  -- the state after a break, and after a cut and its restart
   pub ended : ℕ → State → State
   pub restart : ℕ → State → State
-  -- a venue
+  -- a venue: a new one; whether a session runs; the messages of its log
   pub Ven : Type 0
   pub empty : Ven
   pub running : Ven → Bool
   pub logOf : Ven → List Bytes
+  -- the state after its log was offered a message, and after it heard what a member sends
   pub adds : ℕ → Bytes → Ven → Ven
   pub hears : Bytes → Ven → Ven
+  -- a login: whether it is taken, the state after it, and what is answered
   pub accepts : ℕ → Bytes → Ven → Bool
   pub takesLogin : ℕ → Bytes → Ven → Ven
   pub answers : ℕ → Bytes → Ven → List Bytes
+  -- a step: the state after it, and what it sends; and the state after a break
   pub stepTo : ℕ → Ven → Ven
   pub stepSends : ℕ → Ven → List Bytes
   pub stop : Ven → Ven
+  -- a heartbeat; which bytes are a Logout, and what of them goes on the line
   pub beat : Bytes
   pub isBye : Bytes → Bool
   pub bye : Bytes → Bytes
@@ -84,18 +92,21 @@ pub record Now (C : Code) : Type 0 where
   -- the venue put a Logout on this line
   pub left : Bool
 
+-- is the venue's session on the member's line? what it sends on another is not seen
 abbrev pub putOn : Bool → List Bytes → List Bytes → List Bytes
 putOn true q xs = q ++ xs
 putOn false q xs = q
 
 module _ (C : Code) where
+  -- the member without a line: nothing is under way to it
   abbrev pub noLine : C .State → Now C → Now C
   noLine s w = record { venue = w .venue; member = s; joined = false; asks = false; asking = w .asking; queue = []; refused = w .refused; held = w .held; left = w .left }
 
+  -- the venue after it sent something
   abbrev pub ofVenue : C .Ven → List Bytes → Now C → Now C
   ofVenue v xs w = record { venue = v; member = w .member; joined = w .joined; asks = w .asks; asking = w .asking; queue = putOn (w .joined) (w .queue) xs; refused = w .refused; held = w .held; left = w .left }
 
-  -- closed? is it written?
+  -- closed? is it written? A login that is not written, like one that the venue does not take, is refused, and a refused call changes nothing
   abbrev pub nowLogin : Phase → Bool → C .Fields → ℕ → Now C → Now C
   nowLogin closed true f room w = record { venue = w .venue; member = C .login f room (w .member); joined = false; asks = true; asking = C .loginBytes f (w .member); queue = []; refused = false; held = w .held; left = false }
   nowLogin closed false f room w = w
@@ -103,6 +114,7 @@ module _ (C : Code) where
   nowLogin replaying r f room w = w
   nowLogin live r f room w = w
 
+  -- one side alone
   abbrev pub nowMember : C .State → Now C → Now C
   nowMember s w = record { venue = w .venue; member = s; joined = w .joined; asks = w .asks; asking = w .asking; queue = w .queue; refused = w .refused; held = w .held; left = w .left }
 
@@ -115,6 +127,7 @@ module _ (C : Code) where
   nowTaken true false room w = w
   nowTaken false r room w = w
 
+  -- does a session run?
   abbrev pub nowStep : Bool → ℕ → Now C → Now C
   nowStep true room w = ofVenue (C .stepTo room (w .venue)) (C .stepSends room (w .venue)) w
   nowStep false room w = w
@@ -129,18 +142,22 @@ module _ (C : Code) where
   nowBye true false b w = w
   nowBye false r b w = w
 
+  -- what the line delivers next, if anything stands on it
   abbrev pub nowGets : List Bytes → ℕ → Now C → Now C
   nowGets [] room w = w
   nowGets (x ∷ q) room w = record { venue = w .venue; member = C .gets room x (w .member); joined = w .joined; asks = w .asks; asking = w .asking; queue = q; refused = w .refused || C .noRoom room x (w .member); held = w .held; left = w .left }
 
+  -- does a session run? what it sent stays on the line
   abbrev pub nowDrop : Bool → Now C → Now C
   nowDrop true w = record { venue = C .stop (w .venue); member = w .member; joined = false; asks = w .asks; asking = w .asking; queue = w .queue; refused = w .refused; held = w .held; left = w .left }
   nowDrop false w = w
 
+  -- does the venue take it? its session is on no line of the member's
   abbrev pub nowStray : Bool → ℕ → Bytes → Now C → Now C
   nowStray false room b w = w
   nowStray true room b w = record { venue = C .takesLogin room b (w .venue); member = w .member; joined = false; asks = w .asks; asking = w .asking; queue = w .queue; refused = w .refused; held = w .held; left = w .left }
 
+  -- what each of them does
   abbrev pub next : Happens (C .Fields) → Now C → Now C
   next (theLog room b) w = nowVenue (C .adds room b (w .venue)) w
   next (aLogin f room) w = nowLogin (C .phase (w .member)) (C .writes f room (w .member)) f room w
@@ -156,10 +173,12 @@ module _ (C : Code) where
   next (aStray room b) w = nowStray (C .accepts room b (w .venue)) room b w
   next (aCut k) w = noLine (C .restart k (w .member)) w
 
+  -- one after the other
   abbrev pub story : List (Happens (C .Fields)) → Now C → Now C
   story [] w = w
   story (e ∷ es) w = story es (next e w)
 
+  -- a new book, a new log, no line
   abbrev pub dawn : Now C
   dawn = record { venue = C .empty; member = C .new; joined = false; asks = false; asking = []; queue = []; refused = false; held = []; left = false }
 

@@ -1,14 +1,13 @@
 -- What is under way on a line: a walk over the queue, from the member's state to the state that the venue's session expects.
 -- Assumes nothing.
-use mathlib.Core.Path.{_≡_, refl, sym, ap, subst, _∙_}
+use mathlib.Core.Path.{_≡_, refl, _∙_}
 use mathlib.Core.Bool.{Bool, true, false, _&&_, not}
 use mathlib.Core.List.{List, [], _∷_, _++_}
-use Prim.Native.Nat.{ℕ, zero, suc, _+_, _≤_, _<_, max}
+use Prim.Native.Nat.{ℕ, suc, max}
 use native.Mathlib.Omega.{arith}
-use lib.Dec.{leb, ltb, eqb}
-use lib.ListN.{length, take}
-use borrow.Author.Tests.{eqb-true, eqb-false, eq-eqb, ne-eqb}
-use Rattle.day.specs.Model.{Msg, Table, bump, count, pick, Phase, closed, asked, replaying, live, Sent, response, message, complete, heartbeat, logout, Member, ends, takes, nextNumber, hasRoom, answered, gotIn, fullIn, Venue}
+use lib.ListN.{take}
+use borrow.Author.Tests.{eqb-false}
+use Rattle.day.specs.Model.{Msg, Table, bump, count, Phase, closed, asked, replaying, live, Sent, response, message, complete, heartbeat, logout, Member, takes, nextNumber, hasRoom, answered, gotIn, fullIn, Venue}
 
 -- L is asked of each thing in its state, E of the last state
 abbrev pub walk : {S : Type 0} → (S → Sent → S) → (S → Sent → Type 0) → (S → Type 0) → S → List Sent → Type 0
