@@ -1,19 +1,20 @@
 -- A buffer that is lent for bytes that are kept: the kept bytes stand in its front, and what a call leaves there is kept after it.
 -- Assumes nothing.
-use Prim.Native.Nat.{ℕ, _+_, _-_, _≤_, _<_}
-use mathlib.Core.Logic.{_⊎_, ⊎-elim}
-use mathlib.Core.Path.{_≡_, refl, sym, ap, ap₂, _∙_}
-use mathlib.Core.List.{List, [], _++_, append-assoc, append-nil}
+use Prim.Native.Nat.{ℕ, _+_, _≤_, _<_}
+use mathlib.Core.Logic.{⊎-elim}
+use mathlib.Core.Path.{_≡_, ap, _∙_}
+use mathlib.Core.List.{List, _++_}
 use native.Mathlib.Omega.{arith}
-use lib.ListN.{length, take, drop, length-append, take-append-drop, drop-of-length-le}
-use lib.Seq.{length-take-le, take-length, take-take, take-append-le, take-append-seam, take-append-add}
+use lib.ListN.{length, take, drop, length-append, take-append-drop}
+use lib.Seq.{length-take-le, take-length, take-take, take-append-le, take-append-seam}
 use Rattle.numbers.specs.Numbers.{patched}
 use Rattle.numbers.specs.NumberLaws.{patched-length, patched-take}
 use Rattle.wire.specs.FrameLaws.{lt-or-le}
 use Rattle.fields.specs.Slots.{zeros}
 use Rattle.fields.specs.SlotLaws.{length-zeros}
 
--- a buffer of so many bytes, with the kept bytes in its front as far as it reaches
+-- a buffer of so many bytes, with the kept bytes in its front as far as it reaches, and zeros after them: what stands there plays no part
+-- (session/specs/AnyRest.antt)
 abbrev pub lent : ℕ → List ℕ → List ℕ
 lent room bytes = take room (bytes ++ zeros room)
 

@@ -1,15 +1,14 @@
 -- What a line carries between venue and member: bytes, what each message says, and what a login of ours is. Definitions alone. Assumes nothing.
 use Prim.Native.Nat.{ℕ, _<_}
 use mathlib.Core.Path.{_≡_}
-use mathlib.Core.Bool.{Bool, true, false, cond}
+use mathlib.Core.Bool.{cond}
 use mathlib.Core.List.{List}
 use lib.Dec.{eqb}
-use lib.ListN.{length, getD, take}
+use lib.ListN.{length, getD}
 use Rattle.wire.specs.Header.{typeOf, unitOf, numberOf}
 use Rattle.wire.specs.Frame.{framed}
 use Rattle.table.specs.declared.Table.{Table}
 use Rattle.table.specs.Table.{unitRefusal, lastOf}
-use Rattle.orders.specs.Shapes.{ofVenue}
 use Rattle.fields.specs.Slots.{zeros}
 use Rattle.logins.specs.declared.Record.{Record}
 use Rattle.logins.specs.Sessions as logins

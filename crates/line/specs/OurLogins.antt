@@ -1,13 +1,13 @@
 -- What a login of ours lists: every unit, with the table's number. Assumes nothing.
 use Prim.Native.Nat.{ℕ, zero, suc, _+_, _-_, _*_, _≤_, _<_}
-use mathlib.Core.Path.{_≡_, refl, sym, ap, ap₂, subst, _∙_, fun-ext}
-use mathlib.Core.Bool.{Bool, true, false, cond, _&&_}
+use mathlib.Core.Path.{_≡_, refl, sym, ap, ap₂, _∙_, fun-ext}
+use mathlib.Core.Bool.{Bool, true, false, cond}
 use mathlib.Core.List.{List, [], _∷_, _++_, append-assoc}
 use native.Mathlib.Omega.{arith}
-use lib.Dec.{eqb, ltb, leb}
-use lib.ListN.{length, getD, take, drop, length-append}
+use lib.Dec.{eqb}
+use lib.ListN.{length, getD, length-append}
 use lib.Seq.{getD-at}
-use borrow.Author.Tests.{eq-eqb, ne-eqb, eqb-true, eqb-false, lt-ltb}
+use borrow.Author.Tests.{eqb-true, eqb-false, lt-ltb}
 use Rattle.numbers.specs.Numbers.{numberAt, bytesOf}
 use Rattle.numbers.specs.NumberLaws.{number-back, number-after}
 use Rattle.fields.specs.Slots.{zeros}
@@ -16,16 +16,16 @@ use Rattle.table.specs.declared.Table.{Table}
 use Rattle.table.specs.declared.Entry.{Entry}
 use Rattle.table.specs.Table.{unitRefusal, lastOf}
 use Rattle.table.specs.TableLaws.{unit-in-range, no-entry}
-use Rattle.groups.specs.Values.{pairBytes, pairsBytes, groupBytes}
+use Rattle.groups.specs.Values.{pairsBytes, groupBytes}
 use Rattle.groups.specs.Values.Group.{units}
 use Rattle.groups.specs.FullList.{listed}
 use Rattle.logins.specs.declared.Record.{Record}
 use Rattle.logins.specs.Sessions as logins
 use Rattle.logins.specs.SessionTrip.{read-again}
-use Rattle.login_requests.specs.LoginRequests.{one, bitsPart, saidOf, choiceOf, padded, loginRecord}
+use Rattle.login_requests.specs.LoginRequests.{one, bitsPart, saidOf, choiceOf, loginRecord}
 use Rattle.login_requests.specs.LoginRequestLaws.{default-lists-all, said-most}
 use Rattle.session_fields.specs.declared.ListedField.{ListedField}
-use Rattle.session_fields.specs.SessionFields.{groupIs, groupFrom, requestGroup, listedFrom, listedAt, listedIn, groupListed}
+use Rattle.session_fields.specs.SessionFields.{groupFrom, requestGroup, listedFrom, listedAt, listedIn, groupListed}
 use Rattle.line.specs.Lines.{Fields, wholeTable, loginOfTable, OurLogin, lists}
 
 -- ---- a unit among pairs that begin with unit k, the first of which is pair i and stands at 24 + 5 * i
@@ -82,10 +82,6 @@ module _ (table : Table) (f : Fields) (small : (u : ℕ) → lastOf table u < 42
 
   abbrev tailOf : List ℕ
   tailOf = bitsPart 0x25 (f .acknowledgments) ++ bitsPart 0x2C (f .executions)
-
-  -- names, the number of groups, and the group's head
-  abbrev headOf : List ℕ
-  headOf = f .names ++ (suc more ∷ 165 ∷ 0 ∷ [])
 
   abbrev pad : List ℕ
   pad = zeros (433 - length (f .names ++ ((1 + more) ∷ (groupBytes (units 1 (listed 32 1 (lastOf table))) ++ tailOf))))
