@@ -4,6 +4,7 @@ pub mod SessionLaws
 pub mod OrderLaws
 pub mod SessionSteps
 pub mod Unchanged
+pub mod AnyRest
 pub mod Booked
 pub mod MemberDay
 pub mod MemberKinds

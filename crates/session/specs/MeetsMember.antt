@@ -1,45 +1,42 @@
 -- Our member is one of the day's members: each of its calls does what the abstract day's member does. Assumes nothing.
-use Prim.Native.Nat.{ℕ, zero, suc, _+_, _-_, _≤_, _<_, min}
-use mathlib.Core.Logic.{_⊎_, ⊎-elim}
+use Prim.Native.Nat.{ℕ, _+_, _≤_, _<_}
+use mathlib.Core.Logic.{⊎-elim}
 use mathlib.Core.Path.{_≡_, refl, sym, ap, ap₂, subst, _∙_, fun-ext}
-use mathlib.Core.Bool.{Bool, true, false, cond, true≢false}
-use mathlib.Core.List.{List, [], _∷_, _++_}
+use mathlib.Core.Bool.{Bool, true, false, cond}
+use mathlib.Core.List.{List, []}
 use native.Mathlib.Omega.{arith}
 use lib.Dec.{eqb}
-use lib.ListN.{length, take, drop}
-use lib.Seq.{take-all, take-take, take-append-seam, take-append-le, take-length}
-use borrow.Author.Tests.{eq-eqb, ne-eqb, eqb-true}
+use lib.ListN.{length, take}
+use lib.Seq.{take-all, take-take, take-append-seam, take-length}
+use borrow.Author.Tests.{eqb-true}
 use Rattle.numbers.specs.Numbers.{patched}
 use Rattle.numbers.specs.NumberLaws.{patched-take}
 use Rattle.wire.specs.Frame.{framed}
 use Rattle.wire.specs.Header.{unitOf}
 use Rattle.wire.specs.FrameLaws.{lt-or-le}
 use Rattle.fields.specs.Slots.{zeros}
-use Rattle.fields.specs.SlotLaws.{length-zeros}
 use Rattle.table.specs.declared.OutgoingNumber.{OutgoingNumber}
 use Rattle.table.specs.Table.{lastOf, zeroTable}
 use Rattle.logins.specs.Sessions as logins
 use Rattle.calendar.specs.Calendar.{isDay, dayRefusal}
 use Rattle.book.specs.declared.Book.{Book}
 use Rattle.book.specs.declared.Answer as bookAnswers
-use Rattle.book.specs.Books.{answer, blankBook, openedBook, markBytes, openRefusal, openOf, openBuffer, closeBuffer}
+use Rattle.book.specs.Books.{answer, openedBook, markBytes, openRefusal, openOf, openBuffer}
 use Rattle.restart.specs.Restarts as restarts
-use Rattle.restart.specs.Cut.{Made, opens, books, marks, sound, Cut, cut, cut-22}
+use Rattle.restart.specs.Cut.{Made, opens, books, marks, cut, cut-22}
 use Rattle.restart.specs.Kept.{none-yet, open-holds, ofUnit, counted, messages, count-is}
 use Rattle.restart.specs.Steps.{mark-long}
-use Rattle.day.specs.Model.{Item, mark, Table, Member, Sent, Restart, ends, inPhase, closed, asked, replaying, live, restartOf, restarted, start, short, good}
+use Rattle.day.specs.Model.{Item, Table, Member, Restart, closed, restartOf, restarted, start, short, good}
 use Rattle.day.specs.Model as day
-use Rattle.day.specs.Safe.{Readable}
 use Rattle.day.specs.Halves.{MeetsMember}
-use Rattle.line.specs.Lines.{Fields, Fine, OurLogin, says, lists, ourLine, loginOfTable}
+use Rattle.line.specs.Lines.{Fields, Fine, says, ourLine, loginOfTable}
 use Rattle.line.specs.OurLogins.{our-lists}
-use Rattle.line.specs.Lent.{lent, kept}
+use Rattle.line.specs.Lent.{kept}
 use Rattle.session.specs.declared.Phase.{Phase}
 use Rattle.session.specs.declared.Phase.the-variants.{Closed, Asked, Replaying, Live}
-use Rattle.session.specs.declared.Session.{Session}
-use Rattle.session.specs.Sessions.{closedWith, isClosed, endedBy, brokenBy, brokenBuffer, loginRefusal, loginOf, orderRefusal, orderOf}
+use Rattle.session.specs.Sessions.{closedWith, isClosed, brokenBy, brokenBuffer, loginRefusal, loginOf, orderRefusal, orderOf}
 use Rattle.session.specs.Booked.{items, first-items}
-use Rattle.session.specs.MemberDay.{Desk, after, opened, gets, ended, writes, login, loginBytes, sends, restartedBy, restart, refusedForRoom, phaseOf, ourMember}
+use Rattle.session.specs.MemberDay.{Desk, opened, gets, ended, writes, login, sends, restartedBy, phaseOf, ourMember}
 use Rattle.session.specs.MemberKinds.{kind-of}
 use Rattle.session.specs.MadeItems.{itemsOf, coded, below, made-items, made-restarts}
 use Rattle.session.specs.MemberSteps.{capOf, seen, Good, deskOf, Comes, comes-as, left-alone, as-it-was, ends-as}

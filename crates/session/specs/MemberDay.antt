@@ -1,19 +1,18 @@
 -- The member in the day of demand 3: the session's own calls, with the bytes that its book holds. Definitions alone. Assumes nothing.
 use Prim.Native.Nat.{ℕ, suc, _+_, min}
-use mathlib.Core.Bool.{Bool, true, false, cond, _&&_}
-use mathlib.Core.List.{List, [], _++_}
+use mathlib.Core.Bool.{Bool, true, false, _&&_}
+use mathlib.Core.List.{List, []}
 use lib.Dec.{eqb, ltb}
-use lib.ListN.{length, take, drop}
+use lib.ListN.{length, take}
 use Rattle.wire.specs.Header.{typeOf, unitOf, numberOf}
 use Rattle.fields.specs.Slots.{zeros}
 use Rattle.table.specs.Table.{lastOf}
 use Rattle.orders.specs.Shapes.{ofVenue}
 use Rattle.logins.specs.Sessions as logins
-use Rattle.book.specs.declared.Book.{Book}
 use Rattle.book.specs.declared.Answer.{Answer}
 use Rattle.book.specs.Books.{limit, blankBook, openOf, openBuffer}
 use Rattle.restart.specs.Restarts as restarts
-use Rattle.day.specs.Model.{Table, closed, asked, replaying, live}
+use Rattle.day.specs.Model.{closed, asked, replaying, live}
 use Rattle.day.specs.Model as day
 use Rattle.day.specs.Halves.{MemberCode}
 use Rattle.line.specs.Lines.{Fields, loginOfTable}
@@ -44,7 +43,8 @@ gets room b d = after (receiveOf (d .session) room b .session) room (receiveBuff
 abbrev pub ended : ℕ → Desk → Desk
 ended room d = after (brokenBy (d .session) room) room (brokenBuffer (d .session) (lent room (d .bytes))) (d .bytes)
 
--- a login with the whole table, into a buffer of so many bytes: whether it is written, the state after it, and the bytes that go out
+-- a login with the whole table, into a buffer of so many bytes: whether it is written, the state after it, and the bytes that go out, which are those
+-- that the call leaves in the buffer's front (`login-asks`, SessionSteps.antt)
 abbrev pub writes : Fields → ℕ → Desk → Bool
 writes f room d = eqb (loginRefusal (d .session) (loginOfTable (d .session .book .table) f) room) 0
 
@@ -58,17 +58,19 @@ loginBytes f d = logins.sessionBytes (loginOfTable (d .session .book .table) f)
 abbrev pub sends : ℕ → List ℕ → Desk → Desk
 sends room given d = record { session = orderOf (d .session) given room .session; bytes = d .bytes }
 
--- a cut that keeps the first k bytes, and the restart for the day: accepted, or 22 and the opening; a book that is refused leaves nothing to run
+-- one of two, by a test
 abbrev pub pickDesk : Bool → Desk → Desk → Desk
 pickDesk true a b = a
 pickDesk false a b = b
 
+-- after the restart's answer: accepted, or 22 and the opening; a book that is refused leaves nothing to run
 unfoldable pub restartedBy : ℕ → Answer → List ℕ → Desk
 restartedBy date a bytes =
     pickDesk (eqb (a .refusal) 0) (record { session = closedWith (a .book); bytes = take (a .book .length) bytes })
     (pickDesk (eqb (a .refusal) 22) (opened date)
     (record { session = closedWith blankBook; bytes = [] }))
 
+-- a cut that keeps the first k bytes, and the restart for the day
 abbrev pub restart : ℕ → ℕ → Desk → Desk
 restart date k d = restartedBy date (restarts.restartOf date (take k (d .bytes))) (take k (d .bytes))
 
@@ -81,6 +83,7 @@ refusedForRoom room b d =
     && (eqb (numberOf b) (suc (lastOf (d .session .book .table) (unitOf b)))
     && ltb (min room limit) (length (d .bytes) + length b)))
 
+-- a phase as the day sees it
 abbrev pub phaseOf : Phase → day.Phase
 phaseOf Closed = closed
 phaseOf Asked = asked

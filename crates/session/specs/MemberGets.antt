@@ -1,7 +1,7 @@
 -- What the member does with each message of the line is what the abstract day's member does. Assumes nothing.
-use Prim.Native.Nat.{ℕ, zero, suc, _+_, _≤_, _<_, min}
+use Prim.Native.Nat.{ℕ, suc, _+_, _≤_, min}
 use mathlib.Core.Path.{_≡_, refl, sym, ap, ap₂, subst, _∙_}
-use mathlib.Core.Bool.{Bool, true, false, cond, not, _&&_, true≢false}
+use mathlib.Core.Bool.{Bool, true, false, cond, not, _&&_}
 use mathlib.Core.List.{List, [], _∷_, _++_}
 use native.Mathlib.Omega.{arith}
 use lib.Dec.{eqb, leb, ltb}
@@ -16,21 +16,21 @@ use Rattle.orders.specs.Shapes.{ofVenue}
 use Rattle.messages.specs.Messages.{readRefusal}
 use Rattle.book.specs.declared.Book.{Book}
 use Rattle.book.specs.Books.{limit, roomless, appendRefusal, appendedBy, closeBuffer}
-use Rattle.book.specs.BookLaws.{has-room, next}
+use Rattle.book.specs.BookLaws.{next}
 use Rattle.restart.specs.Cut.{Made, books, appended-has}
 use Rattle.restart.specs.Kept.{table-long}
-use Rattle.day.specs.Model.{Item, entry, size, Table, bump, Sent, response, message, complete, heartbeat, logout, Member, ends, takes, answered, got, full, closed, asked, replaying, live}
+use Rattle.day.specs.Model.{Item, entry, size, Table, bump, Sent, response, message, complete, heartbeat, logout, Member, ends, takes, got, full}
 use Rattle.line.specs.Lines.{msgOf, says, Fine}
 use Rattle.line.specs.Lent.{lent, lent-long}
 use Rattle.session.specs.declared.Phase.{Phase}
 use Rattle.session.specs.declared.Phase.the-variants.{Closed, Asked, Replaying, Live}
 use Rattle.session.specs.declared.Session.{Session}
-use Rattle.session.specs.Sessions.{isClosed, isOpen, passes, endedBy, receiveRefusal, receivedBy, receiveOf, receivedBuffer, receiveBuffer, respondedBy, respondedBuffer, statusIn, receivedIn}
+use Rattle.session.specs.Sessions.{isClosed, isOpen, passes, endedBy, receiveRefusal, receivedBy, receiveOf, receivedBuffer, receiveBuffer, respondedBy, respondedBuffer, receivedIn}
 use Rattle.session.specs.Booked.{items}
-use Rattle.session.specs.MemberDay.{Desk, after, gets, phaseOf, refusedForRoom}
-use Rattle.session.specs.MemberKinds.{Kind, aResponse, aComplete, aLogout, aBeat, anAcknowledgment, anExecution, kind-of, isNext, Application, acknowledgment, execution, not-next, append-is}
+use Rattle.session.specs.MemberDay.{after, gets, phaseOf, refusedForRoom}
+use Rattle.session.specs.MemberKinds.{Kind, aResponse, aComplete, aLogout, aBeat, anAcknowledgment, anExecution, isNext, Application, acknowledgment, execution, not-next, append-is}
 use Rattle.session.specs.MadeItems.{made-items, raised-is}
-use Rattle.session.specs.MemberSteps.{capOf, seen, Good, deskOf, Comes, comes-as, left-alone, as-it-was, at-end, size-is, room-as, ends-as, books-as}
+use Rattle.session.specs.MemberSteps.{capOf, seen, deskOf, Comes, comes-as, left-alone, as-it-was, at-end, size-is, room-as, ends-as, books-as}
 
 -- ---- what bytes of a type say
 

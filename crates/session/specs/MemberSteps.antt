@@ -1,36 +1,29 @@
 -- What each call of the member does to its book, and that the abstract day's member does the same. Assumes nothing.
-use Prim.Native.Nat.{ℕ, zero, suc, _+_, _-_, _≤_, _<_, min}
-use mathlib.Core.Path.{_≡_, refl, sym, ap, ap₂, subst, _∙_, fun-ext}
-use mathlib.Core.Bool.{Bool, true, false, cond, not, _&&_, _||_, true≢false}
+use Prim.Native.Nat.{ℕ, suc, _+_, _-_, _≤_, min}
+use mathlib.Core.Path.{_≡_, refl, sym, ap, ap₂, subst, _∙_}
+use mathlib.Core.Bool.{Bool, true, false, not, true≢false}
 use mathlib.Core.List.{List, [], _∷_, _++_}
 use native.Mathlib.Omega.{arith}
-use lib.Dec.{eqb, leb, ltb}
-use lib.ListN.{length, getD, take, length-append}
-use borrow.Author.Tests.{eq-eqb, ne-eqb, eqb-true, eqb-false}
-use Rattle.numbers.specs.Numbers.{numberAt, patched}
-use Rattle.wire.specs.Header.{typeOf, unitOf, numberOf}
-use Rattle.wire.specs.Frame.{frameRefusal, framed}
+use lib.Dec.{leb}
+use lib.ListN.{length}
+use Rattle.numbers.specs.Numbers.{patched}
+use Rattle.wire.specs.Frame.{framed}
 use Rattle.table.specs.declared.OutgoingNumber.{OutgoingNumber}
-use Rattle.table.specs.Table.{lastOf, raisedTable}
-use Rattle.orders.specs.Shapes.{ofVenue}
-use Rattle.messages.specs.Messages.{readRefusal}
+use Rattle.table.specs.Table.{lastOf}
 use Rattle.book.specs.declared.Book.{Book}
 use Rattle.book.specs.Books.{limit, markBytes, roomless, appendRefusal, appendedBy, marked, closeOf, closeBuffer}
 use Rattle.book.specs.BookLaws.{has-room}
 use Rattle.restart.specs.Steps.{mark-long}
-use Rattle.restart.specs.Cut.{Made, books, marks, sound}
-use Rattle.day.specs.Model.{Msg, Item, mark, entry, size, itemSize, fits, pick, Table, bump, messages, Sent, response, message, complete, heartbeat, logout, Member, withMark, ends, takes, nextNumber, hasRoom, got, gotIn, closed, asked, replaying, live}
-use Rattle.line.specs.Lines.{msgOf, says, Fine}
+use Rattle.restart.specs.Cut.{Made, marks, sound}
+use Rattle.day.specs.Model.{Item, mark, size, messages, Member, withMark, ends, closed}
 use Rattle.line.specs.Lent.{lent, kept, lent-long, kept-same, kept-more}
 use Rattle.session.specs.declared.Phase.{Phase}
-use Rattle.session.specs.declared.Phase.the-variants.{Closed, Asked, Replaying, Live}
-use Rattle.session.specs.declared.Session.{Session}
-use Rattle.session.specs.declared.Answer.{Answer}
-use Rattle.session.specs.Sessions.{pickSession, isClosed, isOpen, passes, endedBy, receiveRefusal, receivedBy, receiveOf, receivedBuffer, receiveBuffer, respondedBy, respondedBuffer, statusIn, receivedIn}
+use Rattle.session.specs.declared.Phase.the-variants.{Closed}
+use Rattle.session.specs.Sessions.{endedBy}
 use Rattle.session.specs.Booked.{items}
-use Rattle.session.specs.MemberDay.{Desk, after, gets, phaseOf}
-use Rattle.session.specs.MemberKinds.{Kind, isNext, fitsIn, Application, not-next, append-is, room-is}
-use Rattle.session.specs.MadeItems.{itemsOf, below, made-items, made-reads, made-counts, made-size}
+use Rattle.session.specs.MemberDay.{Desk, after, phaseOf}
+use Rattle.session.specs.MemberKinds.{room-is}
+use Rattle.session.specs.MadeItems.{below, made-items, made-counts, made-size}
 
 -- how much of a lent buffer a book may use
 abbrev pub capOf : ℕ → ℕ

@@ -23,10 +23,12 @@ use Rattle.session.specs.declared.Phase.the-variants.{Closed, Asked, Rep
 use Rattle.session.specs.declared.Session.{Session}
 use Rattle.session.specs.declared.Answer.{Answer}
 
+-- one of two, by a test
 abbrev pub pickSession : Bool → Session → Session → Session
 pickSession true a b = a
 pickSession false a b = b
 
+-- what a call answers
 abbrev pub answer : ℕ → Session → Answer
 answer n s = record { refusal = n; session = s }
 
@@ -38,6 +40,7 @@ answered n after before = answer n (pickSession (eqb n 0) after before)
 abbrev pub closedWith : Book → Session
 closedWith b = record { phase = Closed; outgoing = record { 0 = 0 }; book = b }
 
+-- the same session in another phase, and with another book
 abbrev pub inPhase : Phase → Session → Session
 inPhase p s = record { phase = p; outgoing = s .outgoing; book = s .book }
 
@@ -46,6 +49,7 @@ withBook s b = record { phase = s .phase; outgoing = s .outgoing; book = b }
 
 -- ---- the phases
 
+-- no session; a login that is not yet answered; a replay that is complete
 abbrev pub isClosed : Phase → Bool
 isClosed Closed = true
 isClosed Asked = false
@@ -71,7 +75,8 @@ isOpen Asked = false
 isOpen Replaying = true
 isOpen Live = true
 
--- 01, Session and replay: what passes in a phase. A Logout passes in every phase but closed.
+-- 01, Session and replay: what passes in a phase. Application messages (25, 2C) and heartbeats (09) while replaying or live; a Login Response (24) while
+-- asked; Replay Complete (13) while replaying; a Logout (08) in every phase but closed.
 unfoldable pub passes : Phase → ℕ → Bool
 passes Closed message = false
 passes Asked message = eqb message 0x24 || eqb message 0x08
@@ -80,14 +85,15 @@ passes Live message = orderTypes.ofVenue message || (eqb message 0x09 || eqb mes
 
 -- ---- the session's end
 
--- closed, with a mark in the book if there is room for it
+-- 01, The day book: closed, with a mark in the book if there is room for it
 unfoldable pub endedBy : Session → ℕ → Session
 endedBy s room = record { phase = Closed; outgoing = s .outgoing; book = closeOf (s .book) room }
 
--- a break: while closed it changes nothing
+-- a break: it ends the session; while closed it changes nothing
 unfoldable pub brokenBy : Session → ℕ → Session
 brokenBy s room = pickSession (isClosed (s .phase)) s (endedBy s room)
 
+-- the book's buffer after it
 unfoldable pub brokenBuffer : Session → List ℕ → List ℕ
 brokenBuffer s xs = cond (isClosed (s .phase)) xs (closeBuffer (s .book) xs)
 
@@ -97,10 +103,11 @@ unfoldable pub respondedBy : Session → ℕ → ℕ → ℕ → Session
 respondedBy s status received room =
     pickSession (eqb status 65) (record { phase = Replaying; outgoing = record { 0 = received }; book = s .book }) (endedBy s room)
 
+-- the book's buffer after it
 unfoldable pub respondedBuffer : Session → ℕ → List ℕ → List ℕ
 respondedBuffer s status xs = cond (eqb status 65) xs (closeBuffer (s .book) xs)
 
--- 16 unless asked
+-- 01, Session and replay: 16 unless asked
 abbrev pub responseRefusal : Session → ℕ
 responseRefusal s = cond (isAsked (s .phase)) 0 outOfPhase
 
@@ -110,7 +117,7 @@ responseOf s status received room = answered (responseRefusal s) (respondedBy s 
 unfoldable pub responseBuffer : Session → ℕ → List ℕ → List ℕ
 responseBuffer s status xs = cond (isAsked (s .phase)) (respondedBuffer s status xs) xs
 
--- where they stand in a Login Response
+-- 000, Login Response: where status and last received number stand
 abbrev pub statusIn : List ℕ → ℕ
 statusIn m = getD m 10 0
 
@@ -122,6 +129,7 @@ receivedIn m = numberAt 4 72 m
 unfoldable pub messageRefusal : Session → ℕ → List ℕ → ℕ
 messageRefusal s room bytes = cond (isOpen (s .phase)) (appendRefusal (s .book) room bytes) outOfPhase
 
+-- the state after it, and the book's buffer
 unfoldable pub messageOf : Session → ℕ → List ℕ → Answer
 messageOf s room bytes = answered (messageRefusal s room bytes) (withBook s (appendedBy (s .book) (framed bytes))) s
 
@@ -149,6 +157,7 @@ receivedBy s room m =
     (pickSession (eqb (typeOf m) 0x09) s
     (withBook s (appendedBy (s .book) m)))))
 
+-- what is answered: the state after it, or the refusal and the state as it was
 unfoldable pub receiveOf : Session → ℕ → List ℕ → Answer
 receiveOf s room bytes = answered (receiveRefusal s room bytes) (receivedBy s room (framed bytes)) s
 
@@ -170,13 +179,14 @@ receiveBuffer s xs bytes = cond (eqb (receiveRefusal s (length xs) bytes) 0) (re
 unfoldable pub loginRefusal : Session → sessionRecords.Record → ℕ → ℕ
 loginRefusal s r room = cond (isClosed (s .phase)) (logins.recordRefusal r room) outOfPhase
 
+-- written, it leads from closed to asked; and the buffer that it is written into
 unfoldable pub loginOf : Session → sessionRecords.Record → ℕ → Answer
 loginOf s r room = answered (loginRefusal s r room) (inPhase Asked s) s
 
 unfoldable pub loginOut : Session → sessionRecords.Record → List ℕ → List ℕ
 loginOut s r out = cond (isClosed (s .phase)) (logins.recordBuffer r out) out
 
--- a heartbeat: 16 unless replaying or live, then the writer's
+-- a heartbeat: 16 unless replaying or live, then the writer's; it changes no state
 abbrev pub heartbeatRecord : sessionRecords.Record
 heartbeatRecord = record { message = 0x03; unit = 0; number = 0; body = zeros 433 }
 
@@ -202,10 +212,11 @@ numbered given n =
       slots = recordAt given .slots;
     }
 
+-- the number after the last that went out
 abbrev pub nextOutgoing : Session → ℕ
 nextOutgoing s = s .outgoing .0 + 1
 
--- 16 unless live; 20; 13 if the record is under 235 bytes; 4 if it is not an order's; then the writer's
+-- 01, going out: 16 unless live; 20; 13 if the record is under 235 bytes; 4 if it is not an order's; then the writer's
 unfoldable pub orderRefusal : Session → List ℕ → ℕ → ℕ
 orderRefusal s given room =
     cond (isLive (s .phase))
@@ -220,5 +231,6 @@ unfoldable pub orderOf : Session → List ℕ → ℕ → Answer
 orderOf s given room =
     answered (orderRefusal s given room) (record { phase = s .phase; outgoing = record { 0 = nextOutgoing s }; book = s .book }) s
 
+-- the buffer that it is written into
 unfoldable pub orderOut : Session → List ℕ → List ℕ → List ℕ
 orderOut s given out = cond (eqb (orderRefusal s given (length out)) 0) (patched out 0 (orders.orderBytes (numbered given (nextOutgoing s)))) out
