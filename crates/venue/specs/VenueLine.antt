@@ -4,12 +4,13 @@ use native.Mathlib.Omega.{arith}
 use mathlib.Core.Logic.{_⊎_, inl, inr, ⊎-elim}
 use mathlib.Core.Path.{_≡_, refl, sym, ap, _∙_}
 use mathlib.Core.List.{[], append-nil}
-use mathlib.Core.Bool.{Bool, true, false, cond, _&&_, _||_, false≢true}
+use mathlib.Core.Bool.{Bool, true, false, cond, _||_, false≢true}
 use lib.Dec.{eqb}
 use borrow.Author.Tests.{eqb-true, eqb-false}
 use Rattle.wire.specs.Header.{typeOf, lengthOf, numberOf, totalOf}
 use Rattle.wire.specs.Frame.{notBA, startsBad, lengthBad, cutShort, frameRefusal, framed}
 use Rattle.wire.specs.FrameLaws.{framed-accepted, framed-again}
+use Rattle.fields.specs.SlotLaws.{both-true}
 use Rattle.orders.specs.Shapes.{ofVenue}
 use Rattle.orders.specs.Orders as orders
 use Rattle.logins.specs.Sessions as sessions
@@ -94,10 +95,6 @@ beat-says = refl
 
 -- ---- a Logout
 
-both-of : (a b : Bool) → (a && b) ≡ true → (a ≡ true) × (b ≡ true)
-both-of true b h = (refl, h)
-both-of false b h = absurd (false≢true h)
-
 -- what is read is framed
 pub read-frames : (direction : ℕ) (b : Bytes) → readRefusal direction b ≡ 0 → frameRefusal b ≡ 0
 unfolding readRefusal
@@ -118,10 +115,10 @@ framed-fine b z =
     record { reads = r ∙ z; whole = a }
 
 pub bye-fine : (b : Bytes) → isBye b ≡ true → Fine (framed b)
-bye-fine b h = framed-fine b (eqb-true _ _ (both-of (eqb (readRefusal 1 b) 0) (eqb (typeOf (framed b)) 0x08) h .0))
+bye-fine b h = framed-fine b (eqb-true _ _ (both-true (eqb (readRefusal 1 b) 0) (eqb (typeOf (framed b)) 0x08) h .0))
 
 pub bye-says : (b : Bytes) → isBye b ≡ true → says (framed b) ≡ logout
 unfolding says
 bye-says b h =
-    let t : typeOf (framed b) ≡ 0x08 = eqb-true _ _ (both-of (eqb (readRefusal 1 b) 0) (eqb (typeOf (framed b)) 0x08) h .1) in
+    let t : typeOf (framed b) ≡ 0x08 = eqb-true _ _ (both-true (eqb (readRefusal 1 b) 0) (eqb (typeOf (framed b)) 0x08) h .1) in
     rw t

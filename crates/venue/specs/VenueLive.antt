@@ -8,9 +8,9 @@ use mathlib.Core.List.{[], _∷_, map}
 use mathlib.Core.Bool.{Bool, true, false}
 use lib.ListN.{length, getD}
 use lib.Dec.{eqb}
-use borrow.Author.Tests.{eqb-true, eqb-false, eq-eqb, ne-eqb, lt-ltb}
-use Rattle.day.specs.Model.{Msg, none-msg, above, complete, Venue, tells, passes, move, moved}
-use Rattle.day.specs.Steps.{Stepped, docStep}
+use borrow.Author.Tests.{eqb-true, eqb-false}
+use Rattle.day.specs.Model.{Msg, none-msg, above, complete, Venue, passes, moved}
+use Rattle.day.specs.Steps.{Stepped, docStep, move-tells, move-passes}
 use Rattle.day.specs.Story.{Bytes}
 use Rattle.day.specs.Halves.{Line, VenueCode, MeetsVenue}
 use Rattle.line.specs.Lines.{ourLine, msgOf}
@@ -36,12 +36,6 @@ pub record Tells (s : Stepped) : Type 0 where
 
 abbrev pub at-message : Venue → Msg
 at-message v = getD (v .log) (v .at) none-msg
-
-pub move-tells : (v : Venue) → v .told ≡ false → v .at ≡ v .upTo → move v ≡ tells
-move-tells v t e = rw (t, eq-eqb (v .at) (v .upTo) e)
-
-pub move-passes : (v : Venue) → v .told ≡ false → v .at < v .upTo → v .upTo ≤ length (v .log) → move v ≡ passes (at-message v)
-move-passes v t l h = rw (t, ne-eqb (v .at) (v .upTo) (λ e. omega arith), lt-ltb (v .at) (length (v .log)) (omega arith))
 
 -- past the message at the place
 abbrev pub past : Venue → Venue

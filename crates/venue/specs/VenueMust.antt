@@ -24,7 +24,7 @@ use Rattle.logins.specs.declared.Record.{Record}
 use Rattle.logins.specs.Sessions as logins
 use Rattle.session_fields.specs.SessionFields.{groupFlag, groupListed}
 use Rattle.day.specs.Model.{Msg, keep, ofUnit, count, above, Sent, Venue, passes, move, logged, nextInLog}
-use Rattle.day.specs.Steps.{Stepped, docStep}
+use Rattle.day.specs.Steps.{Stepped, docStep, move-tells, move-passes}
 use Rattle.day.specs.Story.{Bytes}
 use Rattle.line.specs.Lines.{msgOf, says}
 use Rattle.venue.specs.Venues.{logBook, unitsAt, thresholdOf}
@@ -36,7 +36,7 @@ use Rattle.venue.specs.VenueCalls.{view-is}
 use Rattle.venue.specs.VenueAdds.{adds-is, alone-is}
 use Rattle.venue.specs.VenueSent.{steps-as-told}
 use Rattle.venue.specs.VenueLogin.{strays-is, threshold-at}
-use Rattle.venue.specs.VenueLive.{at-message, past, move-tells, move-passes}
+use Rattle.venue.specs.VenueLive.{at-message, past}
 
 -- ---- the log
 
