@@ -66,8 +66,8 @@ uint8_t boe_table_step(uint8_t *table, size_t table_len, uint8_t unit, uint32_t 
  *     136      4   where its last mark starts
  *     140      4   its messages
  *
- * Any 144 bytes are taken as a state: a length, or a place of the last mark, past the buffer or past 16,777,216 is no room. A state's buffer
- * may be longer; its bytes past 144 are not touched. State, buffer and bytes of one call do not overlap. */
+ * Any 144 bytes are taken as a state: a length past the buffer or past 16,777,216, a last mark past the length, or 16,777,216 messages or more
+ * are no room. A state's buffer may be longer; its bytes past 144 are not touched. State, buffer and bytes of one call do not overlap. */
 #define BOE_BOOK_BYTES 144
 #define BOE_BOOK_TABLE_AT 0
 #define BOE_BOOK_DATE_AT 128
