@@ -1,12 +1,11 @@
 -- A day that computes: three messages are logged; the line breaks during one replay and again during the next; the book is cut in the middle of a
 -- message; the third replay completes, and the book holds all that the log held. Assumes nothing.
 use mathlib.Core.Path.{_≡_, refl}
-use mathlib.Core.Bool.{Bool, true, false}
+use mathlib.Core.Bool.{false}
 use mathlib.Core.List.{List, [], _∷_, _++_}
 use Prim.Native.Nat.{ℕ}
-use lib.ListN.{length}
 use Rattle.numbers.specs.Numbers.{patched}
-use Rattle.wire.specs.Header.{headerBytes, lengthOf, totalOf, typeOf, numberOf}
+use Rattle.wire.specs.Header.{headerBytes, lengthOf, totalOf, numberOf}
 use Rattle.wire.specs.Frame.{notBA, startsBad, lengthBad, cutShort, frameRefusal, framed}
 use Rattle.table.specs.Table.{unitRefusal, entryRefusal, entryOf, raisedTable, stepRefusal}
 use Rattle.dictionary.specs.Dictionary as dictionary
@@ -25,14 +24,13 @@ use Rattle.book.specs.Books.{markBytes, openRefusal, openOf, openBuffer, roomle
 use Rattle.restart.specs.Restarts.{frontZero, torn, markNext, inLimit, found, nextBook, run, firstMark, restartOf}
 use Rattle.day.specs.Story.{theLog, aLogin, aTaking, aStep, aDelivery, aBreak, aDrop, aCut}
 use Rattle.line.specs.Lines.{Fields}
-use Rattle.session.specs.declared.Phase.{Phase}
-use Rattle.session.specs.declared.Phase.the-variants.{Replaying, Live}
+use Rattle.session.specs.declared.Phase.the-variants.{Live}
 use Rattle.session.specs.Sessions.{passes, endedBy, brokenBy, brokenBuffer, respondedBy, respondedBuffer, receiveRefusal, receivedBy, receiveOf, receivedBuffer, receiveBuffer, loginRefusal, loginOf}
 use Rattle.session.specs.Booked.{itemOf, itemLength, itemsFrom}
 use Rattle.session.specs.MemberDay.{restartedBy, refusedForRoom}
 use Rattle.venue.specs.Venues as venue
 use Rattle.venue.specs.VenueDay.{split, ourVenue}
-use Rattle.world.specs.Words.{Bytes, inBook, ofUnit}
+use Rattle.world.specs.Words.{Bytes, inBook}
 use Rattle.world.specs.Demand3.{Event, Moment, after, book}
 
 -- an Order Acknowledgment of a unit, with a number under 256 and no bitfields: 48 bytes

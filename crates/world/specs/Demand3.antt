@@ -1,16 +1,15 @@
 -- Demand 3: the statements alone. Each stands below the words that it answers; specs/Proved.antt proves them. The model of the day (events, line,
--- queue) is day/specs/Story.antt; the member's calls in it are session/specs/MemberDay.antt, the bench venue's venue/specs/VenueDay.antt, and what a
--- line carries is line/specs/Lines.antt. Assumes nothing.
-use Prim.Native.Nat.{ℕ, _≤_, _<_}
+-- queue) is day/specs/Story.antt; what a venue must be is `MeetsVenue` in day/specs/Halves.antt; the member's calls are session/specs/MemberDay.antt, the
+-- bench venue's venue/specs/VenueDay.antt, and what a line carries is line/specs/Lines.antt. Assumes nothing.
+use Prim.Native.Nat.{ℕ, _≤_}
 use mathlib.Core.Logic.{_⊎_}
 use mathlib.Core.Path.{_≡_}
-use mathlib.Core.Bool.{Bool, true, false}
-use mathlib.Core.List.{List, [], _∷_}
+use mathlib.Core.Bool.{true, false}
+use mathlib.Core.List.{List, _∷_}
 use lib.ListN.{length, take}
 use Rattle.wire.specs.Header.{typeOf}
 use Rattle.table.specs.Table.{lastOf}
 use Rattle.logins.specs.Sessions.{namesGood}
-use Rattle.login_requests.specs.declared.Bitfields.{Bitfields}
 use Rattle.login_requests.specs.LoginRequestLaws.{BitsInOrder}
 use Rattle.calendar.specs.Calendar.{isDay}
 use Rattle.book.specs.Books.{answer, blankBook, openOf}
@@ -19,7 +18,7 @@ use Rattle.day.specs.Story.{Code, Happens, aLogin, aTaking, aDelivery, aCut, No
 use Rattle.day.specs.Halves.{VenueCode, MeetsVenue, code}
 use Rattle.line.specs.Lines.{Fields, ourLine}
 use Rattle.session.specs.declared.Phase.the-variants.{Closed, Asked, Replaying, Live}
-use Rattle.session.specs.MemberDay.{Desk, opened, loginBytes, ourMember}
+use Rattle.session.specs.MemberDay.{opened, loginBytes, ourMember}
 use Rattle.venue.specs.VenueDay.{ourVenue}
 use Rattle.world.specs.Words.{Bytes, inBook, ofUnit, wholeIn}
 
@@ -106,6 +105,7 @@ pub record Valid (f : Fields) : Type 0 where
   pub acknowledgments : f .acknowledgments .given ≡ true → BitsInOrder (f .acknowledgments)
   pub executions : f .executions .given ≡ true → BitsInOrder (f .executions)
 
+-- the session has asked, and the login stands on a new line
 pub record Asks (date : ℕ) (X : VenueCode) (f : Fields) (w v : Moment date X) : Type 0 where
   pub phase : v .member .session .phase ≡ Asked
   pub asks : v .asks ≡ true
@@ -118,6 +118,7 @@ ALoginIsWritten =
     → Valid f → 234 ≤ room → after date X es .member .session .phase ≡ Closed
     → Asks date X f (after date X es) (then date X (after date X es) (aLogin f room))
 
+-- a session runs on the line of that login, and what the log held is kept for 3
 pub record Taken (date : ℕ) (X : VenueCode) (w v : Moment date X) : Type 0 where
   pub running : X .running (v .venue) ≡ true
   pub joined : v .joined ≡ true

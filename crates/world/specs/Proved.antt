@@ -1,14 +1,14 @@
 -- Demand 3, proved: what specs/Demand3.antt states. Assumes nothing.
 use Prim.Native.Nat.{ℕ, _-_, _≤_, _<_}
-use mathlib.Core.Logic.{_⊎_, inl, inr, ⊎-elim}
+use mathlib.Core.Logic.{inl, inr, ⊎-elim}
 use mathlib.Core.Path.{_≡_, refl, sym, ap, ap₂, subst, _∙_}
-use mathlib.Core.Bool.{Bool, true, false, cond}
+use mathlib.Core.Bool.{Bool, true, false}
 use mathlib.Core.List.{List, [], _∷_, map}
 use native.Mathlib.Omega.{arith}
 use lib.Dec.{eqb}
 use lib.ListN.{length, take, length-append}
 use lib.Seq.{take-all, take-length, take-take, take-append-seam}
-use borrow.Author.Tests.{eq-eqb, lt-leb}
+use borrow.Author.Tests.{lt-leb}
 use Rattle.wire.specs.Header.{typeOf}
 use Rattle.wire.specs.FrameLaws.{lt-or-le}
 use Rattle.table.specs.Table.{lastOf}
@@ -20,29 +20,28 @@ use Rattle.calendar.specs.Calendar.{isDay}
 use Rattle.calendar.specs.CalendarLaws.{day-in-range}
 use Rattle.book.specs.declared.Answer as bookAnswers
 use Rattle.book.specs.declared.Book.{Book}
-use Rattle.book.specs.Books.{answer, blankBook, markBytes, openOf}
+use Rattle.book.specs.Books.{answer, markBytes}
 use Rattle.restart.specs.Restarts.{restartOf}
 use Rattle.restart.specs.Steps.{mark-long}
 use Rattle.restart.specs.Cut.{Made, sound, Cut, cut, cut-22}
-use Rattle.day.specs.Model.{Msg, Item, mark, size, Phase, closed, asked, replaying, live, messages, complete, took}
+use Rattle.day.specs.Model.{Msg, Item, mark, size, Phase, closed, messages}
 use Rattle.day.specs.Model as day
 use Rattle.day.specs.Story.{aLogin, aTaking, aDelivery, aCut, nowLogin, nowTaken}
 use Rattle.day.specs.Generic.{Meets, holds, at-every-moment, when-a-replay-completes, replay-completes, CompletesAt}
-use Rattle.day.specs.Halves.{VenueCode, MeetsVenue, code, both}
+use Rattle.day.specs.Halves.{VenueCode, both}
 use Rattle.line.specs.Lines.{Fields, ourLine, loginOfTable, wholeTable}
 use Rattle.session.specs.declared.Phase as phases
 use Rattle.session.specs.declared.Phase.the-variants.{Closed, Asked, Replaying, Live}
 use Rattle.session.specs.declared.Session.{Session}
 use Rattle.session.specs.Sessions.{loginRefusal}
-use Rattle.session.specs.MemberDay.{Desk, opened, restartedBy, phaseOf, writes, login, ourMember}
+use Rattle.session.specs.MemberDay.{Desk, opened, restartedBy, phaseOf, writes, ourMember}
 use Rattle.session.specs.Booked.{items}
-use Rattle.session.specs.MadeItems.{itemsOf, made-items, made-headed, made-size}
+use Rattle.session.specs.MadeItems.{made-items, made-headed, made-size}
 use Rattle.session.specs.MemberSteps.{Good}
 use Rattle.session.specs.MemberGets.{says-complete}
 use Rattle.session.specs.MeetsMember.{opens-well, opened-empty, entries-fit, logged, our-member-meets}
-use Rattle.venue.specs.VenueDay.{ourVenue}
 use Rattle.venue.specs.MeetsVenue.{meets}
-use Rattle.world.specs.Words.{Bytes, inBook, ofUnit, keepItem, within, wholeIn}
+use Rattle.world.specs.Words.{Bytes, inBook, ofUnit, keepItem, within}
 use Rattle.world.specs.WordLaws.{unit-bodies, take-bodies, bodies-long, booked-unit, within-all, cut-keeps}
 use Rattle.world.specs.Demand3.{SuchAVenue, dayOf, Event, Moment, after, then, book, HoldsFirsts, AtEveryMoment, Restarts, EachRestart, Completes, WhenAReplayCompletes, Valid, Asks, ALoginIsWritten, Taken, AVenueTakesIt, TheReplayCompletes, TheBenchIsSuchAVenue}
 

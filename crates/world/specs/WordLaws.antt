@@ -1,13 +1,13 @@
 -- Laws about those words: from the abstract day's messages to bytes. Assumes nothing.
-use Prim.Native.Nat.{ℕ, zero, suc, _+_, _-_, _≤_, _<_}
+use Prim.Native.Nat.{ℕ, zero, suc, _-_, _≤_, _<_}
 use mathlib.Core.Logic.{_⊎_, inl, inr, ⊎-elim}
-use mathlib.Core.Path.{_≡_, refl, sym, ap, ap₂, subst, _∙_}
-use mathlib.Core.Bool.{Bool, true, false, cond}
+use mathlib.Core.Path.{_≡_, refl, sym, ap, subst, _∙_}
+use mathlib.Core.Bool.{Bool, true, false}
 use mathlib.Core.List.{List, [], _∷_, _++_, map, append-nil, append-assoc}
 use native.Mathlib.Omega.{arith}
-use lib.Dec.{eqb, leb}
+use lib.Dec.{eqb}
 use lib.ListN.{length, take, drop, length-append}
-use lib.Seq.{take-length, take-append-seam}
+use lib.Seq.{take-length}
 use borrow.Author.Tests.{le-leb, lt-leb}
 use Rattle.wire.specs.Header.{unitOf}
 use Rattle.wire.specs.Frame.{framed}
@@ -18,7 +18,7 @@ use Rattle.day.specs.Model as day
 use Rattle.line.specs.Lines.{msgOf}
 use Rattle.session.specs.Booked.{itemOf, itemLength, isMark, itemsFrom, items, unless, first-items}
 use Rattle.session.specs.MadeItems.{itemsOf, coded, made-items, made-size}
-use Rattle.world.specs.Words.{Bytes, inBook, keep, ofUnit, keepItem, within, wholeIn}
+use Rattle.world.specs.Words.{Bytes, inBook, keep, ofUnit, keepItem, within}
 
 -- ---- messages as bytes
 

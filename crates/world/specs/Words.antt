@@ -15,6 +15,7 @@ Bytes = List ℕ
 abbrev pub inBook : Bytes → List Bytes
 inBook bytes = map (λ (m : Msg). m .body) (messages (items bytes))
 
+-- is it one of these?
 abbrev pub keep : Bool → Bytes → List Bytes → List Bytes
 keep true b r = b ∷ r
 keep false b r = r
