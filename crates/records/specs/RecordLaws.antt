@@ -1,12 +1,16 @@
--- What is true of a record's bytes as they are stored: the head, and the parts that make up a record. Assumes nothing.
-use mathlib.Core.Path.{_≡_, ap₂, _∙_}
+-- What is true of a record's bytes as they are stored: the head, the parts that make up a record, and a record loaded from any bytes or stored in any
+-- buffer. Assumes nothing.
+use mathlib.Core.Path.{_≡_, refl, ap₂, _∙_}
 use mathlib.Core.List.{List, [], _∷_}
-use Prim.Native.Nat.{ℕ, _≤_}
+use Prim.Native.Nat.{ℕ, _≤_, _<_}
 use native.Mathlib.Omega.{arith}
 use lib.ListN.{length, getD, take, drop, set}
 use Rattle.numbers.specs.Numbers.{numberAt, bytesOf, patched, putBuffer}
 use Rattle.numbers.specs.NumberLaws.{put-stores}
-use Rattle.records.specs.Records.{recordAt}
+use borrow.Author.Tests.{lt-ltb, le-ltb}
+use Rattle.orders.specs.declared.Record.{Record}
+use Rattle.orders.specs.Orders.{blank}
+use Rattle.records.specs.Records.{recordBytes, recordAt, loadOf, storeRefusal, storeBuffer}
 
 -- the first two bytes stored and the number put after them
 pub head-put : (out out′ : List ℕ) (m u n : ℕ) → 6 ≤ length out → out′ ≡ putBuffer (set (set out 0 m) 1 u) 2 (bytesOf 4 n) → out′ ≡ patched out 0 (m ∷ u ∷ bytesOf 4 n)
@@ -22,3 +26,25 @@ unfolding recordAt
 record-is s {n} {f} {b} {v} p q t u =
     ap₂ (λ (x : ℕ) (y : List ℕ). record { message = getD s 0 0; unit = getD s 1 0; number = x; fixed = y; count = getD s 65 0; bits = b; slots = v }) p q
     ∙ ap₂ (λ (x y : List ℕ). record { message = getD s 0 0; unit = getD s 1 0; number = numberAt 4 2 s; fixed = take 59 (drop 6 s); count = getD s 65 0; bits = x; slots = y }) t u
+
+pub load-short : (s : List ℕ) → length s < 235 → {r : Record} → r ≡ blank → r ≡ loadOf s
+unfolding loadOf
+load-short s h e = rw (lt-ltb (length s) 235 h) e
+
+pub load-whole : (s : List ℕ) → 235 ≤ length s → {r : Record} → r ≡ recordAt s → r ≡ loadOf s
+unfolding loadOf
+load-whole s h e = rw (le-ltb (length s) 235 h) e
+
+pub store-short : (r : Record) (out : List ℕ) → length out < 235 → (13 ≡ storeRefusal (length out)) × (out ≡ storeBuffer r out)
+unfolding storeRefusal storeBuffer
+store-short r out h =
+    let a : 13 ≡ storeRefusal (length out) = rw (lt-ltb (length out) 235 h) in
+    let b : out ≡ storeBuffer r out = rw (lt-ltb (length out) 235 h) in
+    (a, b)
+
+pub store-whole : (r : Record) (out : List ℕ) → 235 ≤ length out → {out′ : List ℕ} → out′ ≡ patched out 0 (recordBytes r) → (0 ≡ storeRefusal (length out)) × (out′ ≡ storeBuffer r out)
+unfolding storeRefusal storeBuffer
+store-whole r out h {out′} e =
+    let a : 0 ≡ storeRefusal (length out) = rw (le-ltb (length out) 235 h) in
+    let b : out′ ≡ storeBuffer r out = rw (le-ltb (length out) 235 h) e in
+    (a, b)

@@ -4,7 +4,7 @@ ghost use mathlib.Core.List.{_∷_, _++_};
 ghost use Prim.Native.Nat.{_≤_};
 ghost use lib.ListN.{length};
 ghost use Rattle.numbers.specs.Numbers.{bytesOf, patched};
-ghost use Rattle.records.specs.Records.{recordBytes, recordAt};
+ghost use Rattle.records.specs.Records.{recordBytes, recordAt, loadOf, storeRefusal, storeBuffer};
 use orders::Record;
 
 // The bitfields, and the layout after them, into the front of a lent tail.
@@ -102,4 +102,25 @@ pub fn unpack(s: &[u8]) -> Record
         bits: bits,
         slots: slots,
     }
+}
+
+// The record of the first 235 of any bytes, or the blank one where there are fewer.
+pub fn load(s: &[u8]) -> Record
+    ensures { λ r. ⌜ r ≡ loadOf (now (s .entry)) ⌝ }
+{
+    if s.len() < 235 {
+        return orders::blank_record();
+    }
+    unpack(s)
+}
+
+// A record into the front of any buffer: 0, and its 235 bytes stand there; or 13 for a buffer under 235 bytes, which is as it was.
+pub fn store(r: Record, out: &mut [u8]) -> u8
+    ensures { λ n. ⌜ (n ≡ storeRefusal (length (now (out .entry)))) × (now (out .exit) ≡ storeBuffer r (now (out .entry))) ⌝ }
+{
+    if out.len() < 235 {
+        return refusals::NO_ROOM;
+    }
+    pack(r, out);
+    0
 }

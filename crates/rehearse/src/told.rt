@@ -8,7 +8,7 @@ use orders::Record;
 pub fn record_of(bytes: &[u8]) -> Record {
     let mut record = [0u8; 235];
     order_reader::read_order(wire::frame(bytes), &mut record);
-    records::unpack(&record)
+    records::load(&record)
 }
 
 // What an acknowledgment says.

@@ -29,7 +29,7 @@ fn started(message: u8, unit: u8, number: u32) -> Record {
 // Writes a record's message.
 fn write(r: Record, out: &mut [u8]) {
     let mut given = [0u8; 235];
-    records::pack(r, &mut given);
+    records::store(r, &mut given);
     order_writer::write_order(&given, out);
 }
 
