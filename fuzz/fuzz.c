@@ -1,0 +1,579 @@
+/* Puts an input's call to the C entry points and looks at every buffer that they were lent. See fuzz.h and README.md. */
+#define _DEFAULT_SOURCE
+#include "fuzz.h"
+#include "boe.h"
+#include <stdio.h>
+#include <stdlib.h>
+#include <string.h>
+#include <sys/mman.h>
+
+enum {
+    LONGEST = 8000,             /* the most characters of a question */
+    BENCH_BYTES = 16384,        /* the book's buffer in a script */
+    MOST_BUFFER = BENCH_BYTES,  /* of any buffer here */
+    FRONT = 64,                 /* the bytes looked at before a buffer */
+    MOST_TEXT = 1 << 17,
+    FILL = 0x5A
+};
+
+/* ---- the question and the answer */
+
+struct text {
+    size_t len;
+    char at[MOST_TEXT];
+};
+
+static struct text question, proved;
+
+static void put_text(struct text *text, const char *from, size_t n) {
+    if (text->len + n >= MOST_TEXT) abort();
+    memcpy(text->at + text->len, from, n);
+    text->len += n;
+    text->at[text->len] = 0;
+}
+
+/* A word; a space stands before it unless it is its line's first. */
+static void word(struct text *text, const char *from, size_t n) {
+    if (text->len > 0 && text->at[text->len - 1] != '\n') put_text(text, " ", 1);
+    put_text(text, from, n);
+}
+
+static void name(struct text *text, const char *from) { word(text, from, strlen(from)); }
+
+static void number(struct text *text, uint64_t value) {
+    char digits[24];
+    word(text, digits, (size_t)sprintf(digits, "%llu", (unsigned long long)value));
+}
+
+static void hex(struct text *text, const uint8_t *bytes, size_t n) {
+    static const char digits[] = "0123456789ABCDEF";
+    static char out[2 * MOST_BUFFER];
+    for (size_t i = 0; i < n; i++) {
+        out[2 * i] = digits[bytes[i] / 16];
+        out[2 * i + 1] = digits[bytes[i] % 16];
+    }
+    if (n == 0) name(text, "-");
+    else word(text, out, 2 * n);
+}
+
+static void end_line(struct text *text) { put_text(text, "\n", 1); }
+
+/* Hands on the questions and the answers; a line that is too long for the format is not asked. */
+static void ask(void) {
+    size_t line = 0;
+    end_line(&question);
+    end_line(&proved);
+    for (size_t i = 0; i < question.len; i++) {
+        line = question.at[i] == '\n' ? 0 : line + 1;
+        if (line > LONGEST) return;
+    }
+    compare(question.at, proved.at);
+}
+
+/* What must hold whatever the second program answers. */
+static void must(int holds, const char *what) {
+    if (holds) return;
+    fprintf(stderr, "fuzz: WRONG: %s\nquestion: %s\nproved:   %s\n", what, question.at, proved.at);
+    abort();
+}
+
+/* ---- the buffers */
+
+/* A buffer that ends where a page starts that may not be touched, with what it and the bytes before it held when it was lent. */
+struct buffer {
+    uint8_t *end, *at;
+    size_t len;
+    uint8_t was[MOST_BUFFER];
+};
+
+static struct buffer bytes, record, out, state, other, more;
+
+static uint8_t *room(struct buffer *buffer, size_t len) {
+    enum { PAGE = 65536 };
+    if (!buffer->end) {
+        uint8_t *pages = mmap(NULL, 2 * PAGE, PROT_READ | PROT_WRITE, MAP_PRIVATE | MAP_ANONYMOUS, -1, 0);
+        if (pages == MAP_FAILED || mprotect(pages + PAGE, PAGE, PROT_NONE) != 0) {
+            perror("fuzz");
+            exit(2);
+        }
+        buffer->end = pages + PAGE;
+    }
+    if (len > MOST_BUFFER) abort();
+    buffer->at = buffer->end - len;
+    buffer->len = len;
+    memset(buffer->at - FRONT, FILL, FRONT);
+    return buffer->at;
+}
+
+static void lend(struct buffer *buffer, const uint8_t *from, size_t len) {
+    room(buffer, len);
+    if (len == 0) return;
+    memcpy(buffer->at, from, len);
+    memcpy(buffer->was, from, len);
+}
+
+static void lend_filled(struct buffer *buffer, uint8_t fill, size_t len) {
+    memset(room(buffer, len), fill, len);
+    memset(buffer->was, fill, len);
+}
+
+/* Whether the bytes from a place on, and those before the buffer, are as they were. */
+static int stayed_from(const struct buffer *buffer, size_t from) {
+    for (size_t i = 1; i <= FRONT; i++)
+        if (*(buffer->at - i) != FILL) return 0;
+    return from >= buffer->len || memcmp(buffer->at + from, buffer->was + from, buffer->len - from) == 0;
+}
+
+static int stayed(const struct buffer *buffer) { return stayed_from(buffer, 0); }
+
+static uint32_t number_at(const uint8_t *at) { return at[0] | (uint32_t)at[1] << 8 | (uint32_t)at[2] << 16 | (uint32_t)at[3] << 24; }
+
+static void put_number(uint8_t *at, uint32_t value) {
+    for (int i = 0; i < 4; i++) at[i] = (uint8_t)(value >> 8 * i);
+}
+
+/* A buffer's length by a byte of the input: what is enough and up to three bytes more, or less. */
+static size_t room_by(uint8_t choice, size_t enough) { return choice < 192 ? enough + choice % 4 : (choice - 192) * enough / 64; }
+
+/* ---- framing, the table, reading and writing */
+
+static void try_frame(const uint8_t *data, size_t n) {
+    lend(&bytes, data, n);
+    unsigned refusal = boe_frame_refusal(bytes.at, n);
+    size_t total = boe_frame_length(bytes.at, n);
+    name(&question, "frame");
+    hex(&question, data, n);
+    number(&proved, refusal);
+    must(stayed(&bytes), "framing has stored");
+    must((total == 0) == (refusal != 0) && total <= n, "the length of a whole message alone");
+    if (refusal == 0) {
+        number(&proved, total);
+        number(&proved, data[4]);
+        number(&proved, data[5]);
+        number(&proved, number_at(data + 6));
+    }
+    ask();
+}
+
+static void try_step(uint8_t unit, uint32_t value, const uint8_t *data, size_t n) {
+    lend(&bytes, data, n);
+    unsigned refusal = boe_table_step(bytes.at, n, unit, value);
+    name(&question, "step");
+    hex(&question, data, n);
+    number(&question, unit);
+    number(&question, value);
+    number(&proved, refusal);
+    hex(&proved, bytes.at, n);
+    must(stayed_from(&bytes, refusal ? 0 : BOE_TABLE_BYTES), "a step has stored past its table, or a refused one at all");
+    ask();
+}
+
+/* The bytes of a record of a type. */
+static size_t record_len(uint8_t type) {
+    return type == BOE_NEW_ORDER || type == BOE_CANCEL_ORDER || type == BOE_ACKNOWLEDGMENT || type == BOE_EXECUTION ? BOE_ORDER_RECORD_LEN : BOE_RECORD_LEN;
+}
+
+static void try_read(uint8_t direction, uint8_t choice, const uint8_t *data, size_t n) {
+    lend(&bytes, data, n);
+    lend_filled(&record, FILL, BOE_RECORD_LEN + 1);
+    unsigned refusal = boe_read(direction, bytes.at, n, record.at, record.len);
+    size_t own = refusal ? 0 : record_len(record.at[BOE_RECORD_TYPE_AT]);
+    name(&question, "read");
+    number(&question, direction);
+    hex(&question, data, n);
+    number(&proved, refusal);
+    if (refusal == 0) hex(&proved, record.at, own);
+    must(stayed(&bytes), "reading has stored into the message");
+    must(stayed_from(&record, own), "reading has stored past the record");
+
+    /* the same with another buffer, which may be too short */
+    lend_filled(&other, (uint8_t)~FILL, room_by(choice, BOE_RECORD_LEN));
+    unsigned again = boe_read(direction, bytes.at, n, other.at, other.len);
+    if (other.len < BOE_RECORD_LEN && refusal == 0) {
+        must(again == BOE_NO_ROOM && stayed(&other), "13 for a short record, and nothing stored");
+    } else {
+        must(again == refusal && stayed_from(&other, own), "the buffer changes the answer");
+        must(memcmp(other.at, record.at, own) == 0, "the buffer changes the record");
+    }
+
+    /* what was read is written again */
+    if (refusal == 0) {
+        size_t total = boe_frame_length(bytes.at, n);
+        lend_filled(&out, FILL, total);
+        must(boe_write(direction, record.at, record.len, out.at, total) == 0, "a record that was read is written");
+        must(memcmp(out.at, data, total) == 0 && stayed_from(&out, total), "it is written as it was read");
+        lend_filled(&out, FILL, total - 1);
+        must(boe_write(direction, record.at, record.len, out.at, total - 1) == BOE_NO_ROOM, "13 a byte short");
+        must(stayed(&out), "a write without room has stored");
+    }
+    ask();
+}
+
+static void try_write(uint8_t direction, uint8_t form, uint16_t out_len, const uint8_t *data, size_t n) {
+    if (form & 1 && n < BOE_RECORD_LEN) {
+        lend_filled(&record, 0, BOE_RECORD_LEN);
+        if (n > 0) memcpy(record.at, data, n);
+        memcpy(record.was, record.at, BOE_RECORD_LEN);
+    } else {
+        lend(&record, data, n);
+    }
+    lend_filled(&out, form, out_len % 512);
+    name(&question, "write");
+    number(&question, direction);
+    hex(&question, record.at, record.len);
+    hex(&question, out.at, out.len);
+    unsigned refusal = boe_write(direction, record.at, record.len, out.at, out.len);
+    size_t total = refusal ? 0 : 2u + out.at[2] + 256u * out.at[3];
+    number(&proved, refusal);
+    hex(&proved, out.at, out.len);
+    must(stayed(&record), "writing has stored into the record");
+    must(stayed_from(&out, total), "writing has stored past its message");
+
+    /* what was written is read again */
+    if (refusal == 0) {
+        lend_filled(&other, FILL, BOE_RECORD_LEN);
+        must(boe_read(direction, out.at, out.len, other.at, other.len) == 0, "a message that was written is read");
+        size_t own = record_len(other.at[BOE_RECORD_TYPE_AT]);
+        must(memcmp(other.at, record.at, own) == 0 && stayed_from(&other, own), "it is read as it was written");
+    }
+    ask();
+}
+
+/* ---- the day book */
+
+/* The state is that of restarting from the book in the first bytes of a buffer. */
+static void must_be_state_of(uint32_t date, const uint8_t *book, size_t length) {
+    lend(&more, book, length);
+    lend_filled(&other, FILL, BOE_BOOK_BYTES);
+    must(boe_restart(date, more.at, length, other.at, other.len) == 0, "the book is restarted");
+    must(memcmp(other.at, state.at, BOE_BOOK_BYTES) == 0, "its state is the one that the call left");
+}
+
+static void try_open(uint8_t choice, uint32_t date, const uint8_t *data, size_t n) {
+    lend(&out, data, n);
+    lend_filled(&state, FILL, BOE_BOOK_BYTES + 1);
+    unsigned refusal = boe_book_open(date, out.at, n, state.at, state.len);
+    name(&question, "open");
+    number(&question, date);
+    hex(&question, data, n);
+    number(&proved, refusal);
+    hex(&proved, out.at, n);
+    must(stayed_from(&out, refusal ? 0 : BOE_MARK_BYTES), "opening has stored past the mark");
+    must(stayed_from(&state, refusal ? 0 : BOE_BOOK_BYTES), "opening has stored past the state");
+    if (refusal == 0) must_be_state_of(date, out.at, BOE_MARK_BYTES);
+
+    /* with another state's buffer, which may be too short */
+    lend(&out, data, n);
+    lend_filled(&other, FILL, room_by(choice, BOE_BOOK_BYTES));
+    unsigned again = boe_book_open(date, out.at, n, other.at, other.len);
+    if (other.len < BOE_BOOK_BYTES && refusal == 0)
+        must(again == BOE_NO_ROOM && stayed(&out) && stayed(&other), "13 for a short state, and nothing stored");
+    else
+        must(again == refusal, "the state's buffer changes the answer");
+    ask();
+}
+
+static void try_restart(uint8_t choice, uint32_t date, const uint8_t *data, size_t n) {
+    lend(&bytes, data, n);
+    lend_filled(&state, FILL, BOE_BOOK_BYTES + 1);
+    unsigned refusal = boe_restart(date, bytes.at, n, state.at, state.len);
+    name(&question, "restart");
+    number(&question, date);
+    hex(&question, data, n);
+    number(&proved, refusal);
+    must(stayed(&bytes), "restart has stored into the book");
+    must(stayed_from(&state, refusal ? 0 : BOE_BOOK_BYTES), "restart has stored past the state, or a refused one at all");
+    if (refusal == 0) {
+        number(&proved, number_at(state.at + BOE_BOOK_LENGTH_AT));
+        number(&proved, number_at(state.at + BOE_BOOK_LAST_MARK_AT));
+        number(&proved, number_at(state.at + BOE_BOOK_MESSAGES_AT));
+        hex(&proved, state.at, BOE_TABLE_BYTES);
+        must(number_at(state.at + BOE_BOOK_DATE_AT) == date, "the date of the state");
+        must_be_state_of(date, bytes.at, number_at(state.at + BOE_BOOK_LENGTH_AT));
+    }
+
+    lend_filled(&other, FILL, room_by(choice, BOE_BOOK_BYTES));
+    unsigned again = boe_restart(date, bytes.at, n, other.at, other.len);
+    if (other.len < BOE_BOOK_BYTES && refusal == 0)
+        must(again == BOE_NO_ROOM && stayed(&other), "13 for a short state, and nothing stored");
+    else
+        must(again == refusal && stayed_from(&other, refusal ? 0 : BOE_BOOK_BYTES), "the state's buffer changes the answer");
+    ask();
+}
+
+/* Restarts from a book that stands in the front of a buffer, with some bytes FF after it. */
+static unsigned restarted(uint32_t date, const uint8_t *book, size_t n, size_t after) {
+    lend_filled(&out, 0xFF, n + after);
+    if (n > 0) memcpy(out.at, book, n);
+    memcpy(out.was, out.at, out.len);
+    lend_filled(&state, FILL, BOE_BOOK_BYTES + 1);
+    unsigned refusal = boe_restart(date, out.at, n, state.at, state.len);
+    must(stayed(&out), "restart has stored into the book");
+    memcpy(state.was, state.at, state.len);
+    return refusal;
+}
+
+static void try_append(uint32_t date, uint16_t after, const uint8_t *message, size_t k, const uint8_t *book, size_t n) {
+    after %= 2101;
+    name(&question, "append");
+    number(&question, date);
+    hex(&question, book, n);
+    number(&question, after);
+    hex(&question, message, k);
+    unsigned refusal = restarted(date, book, n, after);
+    number(&proved, refusal);
+    if (refusal == 0) {
+        size_t at = number_at(state.at + BOE_BOOK_LENGTH_AT);
+        lend(&bytes, message, k);
+        refusal = boe_book_append(state.at, state.len, bytes.at, k, out.at, out.len);
+        size_t length = number_at(state.at + BOE_BOOK_LENGTH_AT);
+        number(&proved, refusal);
+        number(&proved, length);
+        hex(&proved, out.at, out.len);
+        must(stayed(&bytes), "appending has stored into the message");
+        must(stayed_from(&state, refusal ? 0 : BOE_BOOK_BYTES), "appending has stored past the state, or a refused one at all");
+        must(memcmp(out.at, out.was, at) == 0 && stayed_from(&out, refusal ? 0 : length), "appending has stored elsewhere");
+        if (refusal == 0) must_be_state_of(date, out.at, length);
+    }
+    ask();
+}
+
+static void try_close(uint32_t date, uint16_t after, const uint8_t *book, size_t n) {
+    after %= 2101;
+    name(&question, "close");
+    number(&question, date);
+    hex(&question, book, n);
+    number(&question, after);
+    unsigned refusal = restarted(date, book, n, after);
+    if (refusal != 0) {
+        number(&proved, refusal);
+    } else {
+        size_t at = number_at(state.at + BOE_BOOK_LENGTH_AT);
+        number(&proved, boe_book_close(state.at, state.len, out.at, out.len));
+        size_t length = number_at(state.at + BOE_BOOK_LENGTH_AT);
+        number(&proved, length);
+        hex(&proved, out.at, out.len);
+        must(stayed_from(&state, BOE_BOOK_BYTES), "closing has stored past the state");
+        must(memcmp(out.at, out.was, at) == 0 && stayed_from(&out, length == at ? 0 : length), "closing has stored elsewhere");
+        must_be_state_of(date, out.at, length);
+    }
+    ask();
+}
+
+/* ---- the day book with any 144 bytes as its state: asked as steps of a script, of a live member whose buffer holds FF */
+
+static void state_words(struct text *text) {
+    number(text, number_at(state.at + BOE_BOOK_DATE_AT));
+    number(text, number_at(state.at + BOE_BOOK_LENGTH_AT));
+    number(text, number_at(state.at + BOE_BOOK_LAST_MARK_AT));
+    number(text, number_at(state.at + BOE_BOOK_MESSAGES_AT));
+}
+
+static void member_words(unsigned phase) {
+    uint64_t sum = 0;
+    for (size_t i = 0; i < BOE_TABLE_BYTES; i += 4) sum += number_at(state.at + i);
+    number(&proved, phase);
+    number(&proved, 0);
+    state_words(&proved);
+    number(&proved, sum);
+}
+
+/* The member gets the state. */
+static void ask_state(void) {
+    name(&question, "new");
+    end_line(&question);
+    name(&question, "m-state");
+    number(&question, 3);
+    number(&question, 0);
+    state_words(&question);
+    hex(&question, state.at, BOE_TABLE_BYTES);
+    end_line(&question);
+    number(&proved, 0);
+    end_line(&proved);
+    member_words(3);
+    end_line(&proved);
+}
+
+/* The book's bytes and table after the call; the script's buffer goes on with FF where the lent one ends. */
+static void ask_book(void) {
+    static uint8_t book[BENCH_BYTES];
+    size_t length = number_at(state.at + BOE_BOOK_LENGTH_AT);
+    memset(book, 0xFF, sizeof book);
+    if (out.len > 0) memcpy(book, out.at, out.len);
+    end_line(&question);
+    end_line(&proved);
+    name(&question, "m-book");
+    hex(&proved, book, length < sizeof book ? length : sizeof book);
+    hex(&proved, state.at, BOE_TABLE_BYTES);
+}
+
+static void lend_state(const uint8_t *data, size_t n, size_t len) {
+    lend_filled(&state, 0, len);
+    memcpy(state.at, data, n < len ? n : len);
+    memcpy(state.was, state.at, len);
+}
+
+static void try_append_on(uint8_t choice, uint16_t out_len, const uint8_t *data, size_t n) {
+    static const uint8_t mark[BOE_MARK_BYTES] = {0, 0, 0, 0, 0xC3, 0, 0x35, 1};
+    size_t given = n < BOE_BOOK_BYTES ? n : BOE_BOOK_BYTES, k = n - given;
+    const uint8_t *message = data + given;
+    lend_state(data, given, room_by(choice, BOE_BOOK_BYTES));
+    lend_filled(&out, 0xFF, out_len % (BENCH_BYTES + 1));
+    lend(&bytes, message, k);
+    if (state.len < BOE_BOOK_BYTES) {
+        must(boe_book_append(state.at, state.len, bytes.at, k, out.at, out.len) == BOE_NO_ROOM, "13 for a short state");
+        must(stayed(&state) && stayed(&out) && stayed(&bytes), "appending with a short state has stored");
+        return;
+    }
+    int booked = k < 5 || message[4] == BOE_ACKNOWLEDGMENT || message[4] == BOE_EXECUTION;
+    if (booked) ask_state();
+    unsigned refusal = boe_book_append(state.at, state.len, bytes.at, k, out.at, out.len);
+    size_t length = number_at(state.at + BOE_BOOK_LENGTH_AT), total = refusal ? 0 : boe_frame_length(bytes.at, k);
+    must(stayed(&bytes), "appending has stored into the message");
+    must(stayed_from(&state, refusal ? 0 : BOE_BOOK_BYTES), "appending has stored past the state, or a refused one at all");
+    must(stayed_from(&out, refusal ? 0 : length), "appending has stored past its message, or a refused one at all");
+    if (booked) {
+        name(&question, "m-get");
+        hex(&question, message, k);
+        number(&question, out.len);
+        number(&proved, refusal);
+        member_words(3);
+        if (refusal == 0) {
+            must(length <= out.len && total <= length && memcmp(out.at, out.was, length - total) == 0, "appending has stored elsewhere");
+            ask_book();
+        }
+    } else {
+        /* a session takes other types too, a book none, whatever its state: asked of a fresh one */
+        name(&question, "append 20250819");
+        hex(&question, mark, sizeof mark);
+        number(&question, 0);
+        hex(&question, message, k);
+        number(&proved, 0);
+        number(&proved, refusal);
+        number(&proved, sizeof mark);
+        hex(&proved, mark, sizeof mark);
+    }
+    ask();
+}
+
+static void try_close_on(uint8_t choice, uint16_t out_len, const uint8_t *data, size_t n) {
+    lend_state(data, n < BOE_BOOK_BYTES ? n : BOE_BOOK_BYTES, room_by(choice, BOE_BOOK_BYTES));
+    lend_filled(&out, 0xFF, out_len % (BENCH_BYTES + 1));
+    if (state.len < BOE_BOOK_BYTES) {
+        must(boe_book_close(state.at, state.len, out.at, out.len) == BOE_NO_ROOM, "13 for a short state");
+        must(stayed(&state) && stayed(&out), "closing with a short state has stored");
+        return;
+    }
+    ask_state();
+    unsigned refusal = boe_book_close(state.at, state.len, out.at, out.len);
+    must(refusal == 0, "closing a book with a state is not refused");
+    must(stayed_from(&state, BOE_BOOK_BYTES), "closing has stored past the state");
+    name(&question, "m-break");
+    number(&question, out.len);
+    member_words(0);
+    if (stayed(&state)) {
+        must(stayed(&out), "a mark without room has stored");
+    } else {
+        size_t length = number_at(state.at + BOE_BOOK_LENGTH_AT);
+        must(length >= BOE_MARK_BYTES && stayed_from(&out, length), "closing has stored past the mark");
+        ask_book();
+    }
+    ask();
+}
+
+/* ---- an input */
+
+static uint16_t short_at(const uint8_t *at) { return (uint16_t)(at[0] | at[1] << 8); }
+
+/* The bytes of a call's arguments that come before the last. */
+static const size_t before[CALLS] = {
+    [FRAME] = 0, [STEP] = 5, [READ] = 2, [WRITE] = 4, [OPEN] = 5, [RESTART] = 5, [APPEND] = 8, [CLOSE] = 6, [APPEND_ON] = 3, [CLOSE_ON] = 3,
+};
+
+/* The bytes of an append's message among those that follow its numbers. */
+static size_t message_len(const uint8_t *args, size_t n) { return short_at(args + 6) % (n + 1); }
+
+void try_input(const uint8_t *data, size_t size) {
+    if (size < 1 || size > MOST_INPUT) return;
+    enum call call = data[0] % CALLS;
+    if (size - 1 < before[call]) return;
+    const uint8_t *args = data + 1, *rest = args + before[call];
+    size_t n = size - 1 - before[call], k;
+    question.len = proved.len = 0;
+    question.at[0] = proved.at[0] = 0;
+    switch (call) {
+    case FRAME: try_frame(rest, n); break;
+    case STEP: try_step(args[0], number_at(args + 1), rest, n); break;
+    case READ: try_read(args[0], args[1], rest, n); break;
+    case WRITE: try_write(args[0], args[1], short_at(args + 2), rest, n); break;
+    case OPEN: try_open(args[0], number_at(args + 1), rest, n); break;
+    case RESTART: try_restart(args[0], number_at(args + 1), rest, n); break;
+    case APPEND:
+        k = message_len(args, n);
+        try_append(number_at(args), short_at(args + 4), rest, k, rest + k, n - k);
+        break;
+    case CLOSE: try_close(number_at(args), short_at(args + 4), rest, n); break;
+    case APPEND_ON: try_append_on(args[0], short_at(args + 1), rest, n); break;
+    case CLOSE_ON: try_close_on(args[0], short_at(args + 1), rest, n); break;
+    case CALLS: break;
+    }
+}
+
+/* ---- mending */
+
+static void mend_message(uint8_t *message, size_t n) {
+    if (n < 10 || n > 2048) return;
+    message[0] = message[1] = 0xBA;
+    message[2] = (uint8_t)((n - 2) % 256);
+    message[3] = (uint8_t)((n - 2) / 256);
+}
+
+/* Marks get the date and what goes before them, messages their unit's next number; the numbers reached are left in `reached`. */
+static void mend_book(uint32_t date, uint8_t *book, size_t n, uint32_t *reached) {
+    size_t at = 0, last = 0, total;
+    uint32_t messages = 0;
+    while (n - at >= BOE_MARK_BYTES) {
+        if (at == 0 || number_at(book + at) == 0) {
+            put_number(book + at, 0);
+            put_number(book + at + 4, date);
+            put_number(book + at + 8, messages);
+            put_number(book + at + 12, (uint32_t)(at - last));
+            last = at;
+            at += BOE_MARK_BYTES;
+        } else if ((total = boe_frame_length(book + at, n - at)) != 0) {
+            put_number(book + at + 6, ++reached[book[at + 5]]);
+            messages++;
+            at += total;
+        } else {
+            return;
+        }
+    }
+}
+
+void mend(uint8_t *data, size_t size) {
+    uint32_t reached[256] = {0};
+    if (size < 1) return;
+    enum call call = data[0] % CALLS;
+    if (size - 1 < before[call]) return;
+    uint8_t *args = data + 1, *rest = args + before[call];
+    size_t n = size - 1 - before[call], k;
+    switch (call) {
+    case FRAME:
+    case READ: mend_message(rest, n); break;
+    case RESTART: mend_book(number_at(args + 1), rest, n, reached); break;
+    case CLOSE: mend_book(number_at(args), rest, n, reached); break;
+    case APPEND:
+        k = message_len(args, n);
+        mend_book(number_at(args), rest + k, n - k, reached);
+        mend_message(rest, k);
+        if (k >= 10) put_number(rest + 6, reached[rest[5]] + 1);
+        break;
+    case APPEND_ON:
+        if (n < BOE_BOOK_BYTES + 10) break;
+        mend_message(rest + BOE_BOOK_BYTES, n - BOE_BOOK_BYTES);
+        k = (rest[BOE_BOOK_BYTES + 5] - 1u) % 32;
+        put_number(rest + BOE_BOOK_BYTES + 6, number_at(rest + 4 * k) + 1);
+        break;
+    default: break;
+    }
+}
