@@ -24,6 +24,7 @@ pub fn answers(input: &[u8]) -> String {
 }
 
 /// The answer to one line, without its LF, on a bench as at the start.
+#[cfg(test)]
 pub fn answer(line: &[u8]) -> String {
     answer_on(&mut Bench::new(), line)
 }

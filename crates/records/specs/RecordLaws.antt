@@ -27,13 +27,13 @@ record-is s {n} {f} {b} {v} p q t u =
     ap₂ (λ (x : ℕ) (y : List ℕ). record { message = getD s 0 0; unit = getD s 1 0; number = x; fixed = y; count = getD s 65 0; bits = b; slots = v }) p q
     ∙ ap₂ (λ (x y : List ℕ). record { message = getD s 0 0; unit = getD s 1 0; number = numberAt 4 2 s; fixed = take 59 (drop 6 s); count = getD s 65 0; bits = x; slots = y }) t u
 
-pub load-short : (s : List ℕ) → length s < 235 → {r : Record} → r ≡ blank → r ≡ loadOf s
+pub load-short : (s : List ℕ) → length s < 235 → loadOf s ≡ blank
 unfolding loadOf
-load-short s h e = rw (lt-ltb (length s) 235 h) e
+load-short s h = rw (lt-ltb (length s) 235 h)
 
-pub load-whole : (s : List ℕ) → 235 ≤ length s → {r : Record} → r ≡ recordAt s → r ≡ loadOf s
+pub load-whole : (s : List ℕ) → 235 ≤ length s → loadOf s ≡ recordAt s
 unfolding loadOf
-load-whole s h e = rw (le-ltb (length s) 235 h) e
+load-whole s h = rw (le-ltb (length s) 235 h)
 
 pub store-short : (r : Record) (out : List ℕ) → length out < 235 → (13 ≡ storeRefusal (length out)) × (out ≡ storeBuffer r out)
 unfolding storeRefusal storeBuffer

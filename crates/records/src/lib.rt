@@ -63,7 +63,7 @@ pub fn pack_parts(
 }
 
 // A record into the front of a buffer that has room for it.
-pub fn pack(r: Record, out: &mut [u8])
+fn pack(r: Record, out: &mut [u8])
     requires { ⌜ 235 ≤ length (now out) ⌝ }
     ensures { λ _. ⌜ now (out .exit) ≡ patched (now (out .entry)) 0 (recordBytes r) ⌝ }
 {
@@ -83,7 +83,7 @@ pub fn pack(r: Record, out: &mut [u8])
 }
 
 // The record of the first 235 bytes.
-pub fn unpack(s: &[u8]) -> Record
+fn unpack(s: &[u8]) -> Record
     requires { ⌜ 235 ≤ length (now s) ⌝ }
     ensures { λ r. ⌜ r ≡ recordAt (now (s .entry)) ⌝ }
 {
