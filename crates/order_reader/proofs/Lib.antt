@@ -1,4 +1,4 @@
-pub mod Zeroed
 pub mod Judging
 pub mod Heads
 pub mod Readings
+pub mod InPlace

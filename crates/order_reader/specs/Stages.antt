@@ -1,19 +1,18 @@
 -- The stages of the reader, as its functions have them. Definitions alone. Assumes nothing.
-use mathlib.Core.Path.{_≡_}
-use Prim.Native.Nat.{ℕ, _+_, _≤_}
+use Prim.Native.Nat.{ℕ, _+_, _-_}
 use mathlib.Core.Bool.{cond, not, _&&_}
-use mathlib.Core.List.{List}
+use mathlib.Core.List.{List, _++_}
 use lib.Dec.{ltb, eqb}
-use lib.ListN.{length, getD}
+use lib.ListN.{length, getD, take, drop}
 use Rattle.numbers.specs.Numbers.{patched}
 use Rattle.refusals.specs.Names.{wrongTotal, tooManyBitfields, unlistedBit, notSelected, badValue}
 use Rattle.wire.specs.Header.{typeOf, unitOf, numberOf}
 use Rattle.fields.specs.Places.{hasRequired}
 use Rattle.spread.specs.declared.Taken.{Taken}
 use Rattle.orders.specs.Shapes.{countAt, mostOf, fixedGood}
-use Rattle.orders.specs.Orders.{countOf, bitsOf, fixedOf, blockRefusal, layoutOf, readRefusal, recordOf}
+use Rattle.fields.specs.Slots.{zeros}
+use Rattle.orders.specs.Orders.{blockRefusal, layoutOf, readRefusal, recordOf}
 use Rattle.records.specs.Records.{recordBytes}
-use Rattle.order_reader.specs.declared.Parts.{Parts}
 
 -- 7; 6 if the bitfields do not fit, where the count byte stands at `at`
 unfoldable pub countRefusal : ℕ → ℕ → List ℕ → ℕ
@@ -31,32 +30,28 @@ judgedOf message count bits fixed t have =
     (cond (not (fixedGood message fixed && eqb (t .wrong) 0)) badValue
     0)))
 
--- the parts of a message as the reader holds them, and that they lie within it
-pub record Parted (m : List ℕ) (p : Parts) : Type 0 where
-  pub count-is : p .count ≡ countOf m
-  pub bits-is : p .bits ≡ bitsOf m
-  pub fixed-is : p .fixed ≡ fixedOf m
-  pub start-is : p .start ≡ countAt (typeOf m) + 1 + countOf m
-  pub within : p .start ≤ length m
-  pub few : p .count ≤ 15
-  pub bits-long : length (p .bits) ≡ 15
-  pub fixed-long : length (p .fixed) ≡ 59
-
--- the record's buffer after the body of a message whose head is good
-unfoldable pub bodyRecord : List ℕ → ℕ → List ℕ → List ℕ → List ℕ → List ℕ → List ℕ
-bodyRecord m count bits fixed optional buffer =
-    cond (eqb (blockRefusal (typeOf m) count bits fixed optional) 0)
-    (patched buffer 0
-    (recordBytes
+-- the bytes of a message's record: its type, unit and number, its fixed part, its count and bitfields, each as it stands in the message with
+-- zeros after it, and the layout of its optional fields
+unfoldable pub thereBytes : List ℕ → ℕ → ℕ → List ℕ → List ℕ → List ℕ
+thereBytes m message count bits slots =
+    recordBytes
     (record {
-      message = typeOf m;
+      message = message;
       unit = unitOf m;
       number = numberOf m;
-      fixed = fixed;
+      fixed = take (countAt message - 10) (drop 10 m) ++ zeros (69 - countAt message);
       count = count;
-      bits = bits;
-      slots = layoutOf (typeOf m) count bits optional;
-    })))
+      bits = bits ++ zeros (15 - length bits);
+      slots = slots;
+    })
+
+-- the record's buffer after the body of a message whose head is good and whose count stands at `at`
+unfoldable pub bodyRecord : List ℕ → ℕ → ℕ → ℕ → List ℕ → List ℕ
+bodyRecord m message at count buffer =
+    cond
+    (eqb (blockRefusal message count (take count (drop (at + 1) m)) (drop 10 m) (drop (at + 1 + count) m)) 0)
+    (patched buffer 0
+    (thereBytes m message count (take count (drop (at + 1) m)) (layoutOf message count (take count (drop (at + 1) m)) (drop (at + 1 + count) m))))
     buffer
 
 -- the record's buffer after a message: the record's bytes at its front, or as it was where the message is refused

@@ -1,32 +1,15 @@
 // The reader of a message with bitfields: from a whole message to its record, or the number of the refusal.
 ghost use mathlib.Core.Path.{_≡_};
-ghost use mathlib.Core.List.{_++_};
+ghost use mathlib.Core.List.{_∷_, _++_};
 ghost use Prim.Native.Nat.{_+_, _-_, _≤_, _<_};
 ghost use lib.ListN.{length, take, drop};
+ghost use Rattle.numbers.specs.Numbers.{patched};
 ghost use Rattle.wire.specs.Header.{typeOf};
 ghost use Rattle.fields.specs.Slots.{zeros};
 ghost use Rattle.orders.specs.Shapes.{countAt};
 ghost use Rattle.orders.specs.Orders.{headRefusal, blockRefusal, layoutOf, readRefusal};
-ghost use Rattle.order_reader.specs.Stages.{countRefusal, judgedOf, Parted, bodyRecord, readRecord};
+ghost use Rattle.order_reader.specs.Stages.{countRefusal, judgedOf, thereBytes, bodyRecord, readRecord};
 use spread::Taken;
-
-// The bitfields of a message, with zeros after them.
-struct Bitfields {
-    bits: [u8; 15],
-}
-
-// The fixed part of a message, with zeros after it.
-struct Fixed {
-    bytes: [u8; 59],
-}
-
-// A message's count, its bitfields and its fixed part, and where its optional bytes start.
-struct Parts {
-    count: u8,
-    bits: [u8; 15],
-    fixed: [u8; 59],
-    start: usize,
-}
 
 // 4; 5; 6 if the message ends before its count byte is whole; 7; 6 if the bitfields do not fit.
 fn head_refusal(m: &[u8]) -> u8
@@ -63,50 +46,15 @@ fn count_refusal(m: &[u8], message: u8, at: usize) -> u8
     0
 }
 
-// The bitfields of a message whose head is good.
-fn bits_of(m: &[u8], at: usize, count: u8) -> Bitfields
-    requires { ⌜ (at + 1 + count ≤ length (now m)) × (count ≤ 15) ⌝ }
-    ensures { λ r. ⌜ r .bits ≡ take count (drop (at + 1) (now (m .entry))) ++ zeros (15 - count) ⌝ }
-{
-    let start = at + 1;
-    let end = start + (count as usize);
-    let mut bits = [0u8; 15];
-    fields::copy(&m[start..end], &mut bits);
-    Bitfields { bits: bits }
-}
-
-// The fixed part of a message up to a place.
-fn fixed_up_to(m: &[u8], at: usize) -> Fixed
-    requires { ⌜ (at ≤ length (now m)) × (10 ≤ at) × (at ≤ 69) ⌝ }
-    ensures { λ r. ⌜ r .bytes ≡ take (at - 10) (drop 10 (now (m .entry))) ++ zeros (69 - at) ⌝ }
-{
-    let mut bytes = [0u8; 59];
-    fields::copy(&m[10..at], &mut bytes);
-    Fixed { bytes: bytes }
-}
-
-// The fixed part of a message whose head is good; its length is a literal, so that the copy is a few moves.
-fn fixed_part(m: &[u8], message: u8) -> Fixed
-    requires { ⌜ countAt message ≤ length (now m) ⌝ }
-    ensures { λ r. ⌜ r .bytes ≡ take (countAt message - 10) (drop 10 (now (m .entry))) ++ zeros (69 - countAt message) ⌝ }
-{
-    match message {
-        0x38 => fixed_up_to(m, 35),
-        0x39 => fixed_up_to(m, 30),
-        0x25 => fixed_up_to(m, 47),
-        _ => fixed_up_to(m, 69),
-    }
-}
-
-// The refusals of the optional block, once its bytes are taken: 8, 9, 6, 10.
-fn judged(message: u8, bits: &[u8; 15], count: u8, fixed: &[u8], t: Taken, have: usize) -> u8
-    requires { ⌜ 59 ≤ length (now fixed) ⌝ }
+// The refusals of the optional block, once its bytes are judged: 8, 9, 6, 10.
+fn judged(message: u8, bits: &[u8], count: u8, fixed: &[u8], t: Taken, have: usize) -> u8
+    requires { ⌜ (length (now bits) ≡ count) × (countAt message ≤ length (now fixed) + 10) ⌝ }
     ensures { λ r. ⌜ r ≡ judgedOf message count (now (bits .entry)) (now (fixed .entry)) t have ⌝ }
 {
     if t.bad != 0 {
         return refusals::UNLISTED_BIT;
     }
-    if !fields::has_required(message, bits, count) {
+    if !judge::has_required(message, bits, count) {
         return refusals::NOT_SELECTED;
     }
     if t.at != have {
@@ -121,67 +69,140 @@ fn judged(message: u8, bits: &[u8; 15], count: u8, fixed: &[u8], t: Taken, have:
     0
 }
 
+// The refusal of a block of which each part is lent where it stands.
+fn block_refusal(message: u8, bits: &[u8], count: u8, fixed: &[u8], optional: &[u8]) -> u8
+    requires { ⌜ (length (now bits) ≡ count) × (count ≤ 15) × (countAt message ≤ length (now fixed) + 10) ⌝ }
+    ensures { λ r. ⌜ r ≡ blockRefusal message count (now (bits .entry)) (now (fixed .entry)) (now (optional .entry)) ⌝ }
+{
+    let t = judge::judge_all(message, bits, count, optional);
+    judged(message, bits, count, fixed, t, optional.len())
+}
+
+// The refusal of a body whose count stands at a place. Nothing is copied.
+fn body_refusal(m: &[u8], message: u8, at: usize, count: u8) -> u8
+    requires { ⌜ (30 ≤ at) × (at + 1 + count ≤ length (now m)) × (count ≤ 15) × (at ≡ countAt message) ⌝ }
+    ensures { λ r. ⌜ r ≡ blockRefusal message count (take count (drop (at + 1) (now (m .entry)))) (drop 10 (now (m .entry))) (drop (at + 1 + count) (now (m .entry))) ⌝ }
+{
+    let start = at + 1;
+    let end = start + (count as usize);
+    block_refusal(message, &m[start..end], count, &m[10..], &m[end..])
+}
+
+// The refusal of a whole message alone, 4 to 10, or 0: for callers that want no record.
+pub fn order_refusal(m: &[u8]) -> u8
+    ensures { λ r. ⌜ r ≡ readRefusal (now (m .entry)) ⌝ }
+{
+    let refusal = head_refusal(m);
+    if refusal != 0 {
+        return refusal;
+    }
+    let message = wire::header::type_of(m);
+    let at = orders::count_at(message);
+    let count = numbers::byte_at(m, at);
+    body_refusal(m, message, at, count)
+}
+
 // The optional block, whose bytes are handed on to the field reader: its refusal, or 0 and the full layout in a lent array of zeros.
 fn block_of(
     message: u8,
-    bits: &[u8; 15],
+    bits: &[u8],
     count: u8,
     fixed: &[u8],
     optional: &[u8],
     slots: &mut [u8],
 ) -> u8
-    requires { ⌜ (59 ≤ length (now fixed)) × (count ≤ 15) × (now slots ≡ zeros 154) ⌝ }
+    requires { ⌜ (length (now bits) ≡ count) × (count ≤ 15) × (countAt message ≤ length (now fixed) + 10) × (now slots ≡ zeros 154) ⌝ }
     ensures { λ r. ⌜ (r ≡ blockRefusal message count (now (bits .entry)) (now (fixed .entry)) (now (optional .entry))) × (r ≡ 0 → now (slots .exit) ≡ layoutOf message count (now (bits .entry)) (now (optional .entry))) ⌝ }
 {
     let t = spread::take_all(message, bits, count, optional, slots);
     judged(message, bits, count, fixed, t, optional.len())
 }
 
-// The body of a message whose head is good: its bitfields and fixed part are at hand, and its optional bytes start at a place.
-fn body(m: &[u8], count: u8, bits: &[u8; 15], fixed: &[u8], start: usize, buffer: &mut [u8]) -> u8
-    requires { ⌜ (start ≤ length (now m)) × (count ≤ 15) × (length (now bits) ≡ 15) × (length (now fixed) ≡ 59) × (235 ≤ length (now buffer)) ⌝ }
-    ensures { λ r. ⌜ (r ≡ blockRefusal (typeOf (now (m .entry))) count (now (bits .entry)) (now (fixed .entry)) (drop start (now (m .entry)))) × (now (buffer .exit) ≡ bodyRecord (now (m .entry)) count (now (bits .entry)) (now (fixed .entry)) (drop start (now (m .entry))) (now (buffer .entry))) ⌝ }
+// The bitfields into the front of a lent tail, with zeros after them.
+fn put_bits(bits: &[u8], tail: &mut [u8])
+    requires { ⌜ (length (now bits) ≤ 15) × (15 ≤ length (now tail)) ⌝ }
+    ensures { λ _. ⌜ now (tail .exit) ≡ patched (now (tail .entry)) 0 (now (bits .entry) ++ zeros (15 - length (now (bits .entry)))) ⌝ }
 {
-    let message = wire::header::type_of(m);
+    fields::clear(15, tail);
+    fields::copy(bits, tail);
+}
+
+// These, and the layout after them.
+fn put_fields(bits: &[u8], slots: &[u8], tail: &mut [u8])
+    requires { ⌜ (length (now bits) ≤ 15) × (length (now slots) ≡ 154) × (169 ≤ length (now tail)) ⌝ }
+    ensures { λ _. ⌜ now (tail .exit) ≡ patched (now (tail .entry)) 0 ((now (bits .entry) ++ zeros (15 - length (now (bits .entry)))) ++ now (slots .entry)) ⌝ }
+{
+    put_bits(bits, tail);
+    fields::copy_layout(slots, &mut tail[15..]);
+}
+
+// The count, and these after it.
+fn put_block(count: u8, bits: &[u8], slots: &[u8], tail: &mut [u8])
+    requires { ⌜ (length (now bits) ≤ 15) × (length (now slots) ≡ 154) × (170 ≤ length (now tail)) ⌝ }
+    ensures { λ _. ⌜ now (tail .exit) ≡ patched (now (tail .entry)) 0 (count ∷ ((now (bits .entry) ++ zeros (15 - length (now (bits .entry)))) ++ now (slots .entry))) ⌝ }
+{
+    tail[0] = count;
+    put_fields(bits, slots, &mut tail[1..]);
+}
+
+// The fixed part of a message up to a place into the front of a lent tail, with zeros after it.
+fn put_up_to(m: &[u8], at: usize, tail: &mut [u8])
+    requires { ⌜ (at ≤ length (now m)) × (10 ≤ at) × (at ≤ 69) × (59 ≤ length (now tail)) ⌝ }
+    ensures { λ _. ⌜ now (tail .exit) ≡ patched (now (tail .entry)) 0 (take (at - 10) (drop 10 (now (m .entry))) ++ zeros (69 - at)) ⌝ }
+{
+    let n = at - 10;
+    fields::move_field(&m[10..at], tail);
+    fields::clear(69 - at, &mut tail[n..]);
+}
+
+// The same; its length is a literal, so that the copy is a few moves.
+fn put_fixed(m: &[u8], message: u8, tail: &mut [u8])
+    requires { ⌜ (countAt message ≤ length (now m)) × (59 ≤ length (now tail)) ⌝ }
+    ensures { λ _. ⌜ now (tail .exit) ≡ patched (now (tail .entry)) 0 (take (countAt message - 10) (drop 10 (now (m .entry))) ++ zeros (69 - countAt message)) ⌝ }
+{
+    match message {
+        0x38 => put_up_to(m, 35, tail),
+        0x39 => put_up_to(m, 30, tail),
+        0x25 => put_up_to(m, 47, tail),
+        _ => put_up_to(m, 69, tail),
+    }
+}
+
+// The fixed part, and the block after it.
+fn put_body(m: &[u8], message: u8, count: u8, bits: &[u8], slots: &[u8], tail: &mut [u8])
+    requires { ⌜ (countAt message ≤ length (now m)) × (length (now bits) ≤ 15) × (length (now slots) ≡ 154) × (229 ≤ length (now tail)) ⌝ }
+    ensures { λ _. ⌜ now (tail .exit) ≡ patched (now (tail .entry)) 0 ((take (countAt message - 10) (drop 10 (now (m .entry))) ++ zeros (69 - countAt message)) ++ (count ∷ ((now (bits .entry) ++ zeros (15 - length (now (bits .entry)))) ++ now (slots .entry)))) ⌝ }
+{
+    put_fixed(m, message, tail);
+    put_block(count, bits, slots, &mut tail[59..]);
+}
+
+// A message's record, straight from the message, with the layout of its optional fields.
+fn put_record(m: &[u8], message: u8, count: u8, bits: &[u8], slots: &[u8], buffer: &mut [u8])
+    requires { ⌜ (message ≡ typeOf (now m)) × (countAt message ≤ length (now m)) × (length (now bits) ≤ 15) × (length (now slots) ≡ 154) × (235 ≤ length (now buffer)) ⌝ }
+    ensures { λ _. ⌜ now (buffer .exit) ≡ patched (now (buffer .entry)) 0 (thereBytes (now (m .entry)) message count (now (bits .entry)) (now (slots .entry))) ⌝ }
+{
+    let unit = wire::header::unit_of(m);
+    let number = wire::header::number_of(m);
+    records::put_head(message, unit, number, buffer);
+    put_body(m, message, count, bits, slots, &mut buffer[6..]);
+}
+
+// The body of a message whose head is good: nothing but the optional fields is copied before it is judged.
+fn body(m: &[u8], message: u8, at: usize, count: u8, buffer: &mut [u8]) -> u8
+    requires { ⌜ (30 ≤ at) × (at + 1 + count ≤ length (now m)) × (count ≤ 15) × (at ≡ countAt message) × (message ≡ typeOf (now m)) × (235 ≤ length (now buffer)) ⌝ }
+    ensures { λ r. ⌜ (r ≡ blockRefusal message count (take count (drop (at + 1) (now (m .entry)))) (drop 10 (now (m .entry))) (drop (at + 1 + count) (now (m .entry)))) × (now (buffer .exit) ≡ bodyRecord (now (m .entry)) message at count (now (buffer .entry))) ⌝ }
+{
+    let start = at + 1;
+    let end = start + (count as usize);
+    let bits = &m[start..end];
     let mut slots = [0u8; 154];
-    let refusal = block_of(message, bits, count, fixed, &m[start..], &mut slots);
+    let refusal = block_of(message, bits, count, &m[10..], &m[end..], &mut slots);
     if refusal != 0 {
         return refusal;
     }
-    let unit = wire::header::unit_of(m);
-    let number = wire::header::number_of(m);
-    records::pack_parts(message, unit, number, fixed, count, bits, &slots, buffer);
+    put_record(m, message, count, bits, &slots, buffer);
     0
-}
-
-// The refusal of such a body alone.
-fn body_refusal(m: &[u8], count: u8, bits: &[u8; 15], fixed: &[u8], start: usize) -> u8
-    requires { ⌜ (start ≤ length (now m)) × (count ≤ 15) × (length (now fixed) ≡ 59) ⌝ }
-    ensures { λ r. ⌜ r ≡ blockRefusal (typeOf (now (m .entry))) count (now (bits .entry)) (now (fixed .entry)) (drop start (now (m .entry))) ⌝ }
-{
-    let message = wire::header::type_of(m);
-    let mut slots = [0u8; 154];
-    block_of(message, bits, count, fixed, &m[start..], &mut slots)
-}
-
-// The parts of a message whose head is good.
-fn parts_of(m: &[u8]) -> Parts
-    requires { ⌜ headRefusal (now m) ≡ 0 ⌝ }
-    ensures { λ r. ⌜ Parted (now (m .entry)) r ⌝ }
-{
-    let message = wire::header::type_of(m);
-    let at = orders::count_at(message);
-    let count = numbers::byte_at(m, at);
-    let b = bits_of(m, at, count);
-    let f = fixed_part(m, message);
-    let bits = b.bits;
-    let fixed = f.bytes;
-    Parts {
-        count: count,
-        bits: bits,
-        fixed: fixed,
-        start: at + 1 + (count as usize),
-    }
 }
 
 // Reads a whole message, as framing answers it, into a buffer that has room for its record: 0, and the record's bytes stand in the front of
@@ -194,22 +215,8 @@ pub fn read_order(m: &[u8], buffer: &mut [u8]) -> u8
     if refusal != 0 {
         return refusal;
     }
-    let p = parts_of(m);
-    let bits = p.bits;
-    let fixed = p.fixed;
-    body(m, p.count, &bits, &fixed, p.start, buffer)
-}
-
-// The refusal of a whole message alone, 4 to 10, or 0: for callers that want no record.
-pub fn order_refusal(m: &[u8]) -> u8
-    ensures { λ r. ⌜ r ≡ readRefusal (now (m .entry)) ⌝ }
-{
-    let refusal = head_refusal(m);
-    if refusal != 0 {
-        return refusal;
-    }
-    let p = parts_of(m);
-    let bits = p.bits;
-    let fixed = p.fixed;
-    body_refusal(m, p.count, &bits, &fixed, p.start)
+    let message = wire::header::type_of(m);
+    let at = orders::count_at(message);
+    let count = numbers::byte_at(m, at);
+    body(m, message, at, count, buffer)
 }

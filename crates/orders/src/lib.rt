@@ -1,7 +1,7 @@
 // Messages with bitfields: New Order, Cancel Order, Order Acknowledgment and Order Execution, as records.
 ghost use mathlib.Core.Path.{_≡_};
 ghost use mathlib.Core.Bool.{_||_};
-ghost use Prim.Native.Nat.{_≤_};
+ghost use Prim.Native.Nat.{_+_, _≤_};
 ghost use lib.ListN.{length};
 ghost use Rattle.orders.specs.Shapes.{ofMember, ofVenue, countAt, mostOf, unitGood, newOrderGood, cancelOrderGood, acknowledgmentGood, executionGood, fixedGood};
 ghost use Rattle.orders.specs.Orders.{blank};
@@ -130,9 +130,9 @@ fn execution_good(f: &[u8]) -> bool
     false
 }
 
-// Whether the values of a fixed part agree with their kinds and range.
+// Whether the values of a fixed part agree with their kinds and range. More bytes may follow it.
 pub fn fixed_good(message: u8, f: &[u8]) -> bool
-    requires { ⌜ 59 ≤ length (now f) ⌝ }
+    requires { ⌜ countAt message ≤ length (now f) + 10 ⌝ }
     ensures { λ r. ⌜ r ≡ fixedGood message (now (f .entry)) ⌝ }
 {
     match message {

@@ -88,7 +88,7 @@ fn take_bit(message: u8, byte: u8, bit: u8, x: u8, msg: &[u8], t: Taken, layout:
 // unrolls the loop and folds the dictionary away.
 fn take_bits(
     message: u8,
-    bits: &[u8; 15],
+    bits: &[u8],
     count: u8,
     j: u8,
     end: u8,
@@ -114,7 +114,7 @@ fn take_bits(
 
 // The same for New Order, whose bytes 1, 2, 3, 6 and 10 have listed bits.
 fn take_new_order(
-    bits: &[u8; 15],
+    bits: &[u8],
     count: u8,
     j: u8,
     value: u8,
@@ -137,7 +137,7 @@ fn take_new_order(
 
 // The same for Order Acknowledgment: bytes 1, 2, 3 and 5.
 fn take_acknowledgment(
-    bits: &[u8; 15],
+    bits: &[u8],
     count: u8,
     j: u8,
     value: u8,
@@ -159,7 +159,7 @@ fn take_acknowledgment(
 
 // The same for Order Execution: bytes 1, 2 and 3.
 fn take_execution(
-    bits: &[u8; 15],
+    bits: &[u8],
     count: u8,
     j: u8,
     value: u8,
@@ -181,7 +181,7 @@ fn take_execution(
 // The fields of bitfield byte j of any message.
 fn take_byte(
     message: u8,
-    bits: &[u8; 15],
+    bits: &[u8],
     count: u8,
     j: u8,
     value: u8,
@@ -204,8 +204,8 @@ fn take_byte(
 }
 
 // All fields that the first `count` bitfield bytes select, into a layout.
-pub fn take_all(message: u8, bits: &[u8; 15], count: u8, msg: &[u8], layout: &mut [u8]) -> Taken
-    requires { ⌜ (length (now layout) ≡ 154) × (count ≤ 15) ⌝ }
+pub fn take_all(message: u8, bits: &[u8], count: u8, msg: &[u8], layout: &mut [u8]) -> Taken
+    requires { ⌜ (length (now layout) ≡ 154) × (count ≤ 15) × (length (now bits) ≡ count) ⌝ }
     ensures { λ r. ⌜ taking r (now (layout .exit)) ≡ takeWalk message count (now (bits .entry)) (now (msg .entry)) 120 0 (start (now (layout .entry))) ⌝ }
 {
     let mut j: u8 = 0;

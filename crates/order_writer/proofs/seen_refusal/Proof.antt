@@ -1,4 +1,6 @@
 -- `order_writer::seen_refusal` meets its contract. Assumes nothing.
+use native.Mathlib.Omega.{arith}
+use Rattle.orders.specs.OrderLaws.{count-bounds}
 use borrow.Author.Tests.{eq-eqb, ne-eqb, not-true, not-false}
 use mathlib.Core.Path.{sym, _∙_}
 use Rattle.order_writer.specs.Stages.{seenRefusal}
@@ -18,7 +20,7 @@ unfolding seenRefusal
 returns-2 c = rw (eq-eqb _ 0 (c .before .before .if1 .left), sym (c .before .has-required .ensures) ∙ not-true _ (c .if2 .taken))
 
 fixed-good-requires : tie.Need-fixed-good-requires
-fixed-good-requires c κs = search needs
+fixed-good-requires c κs = omega (arith, count-bounds (c .before .before .before .before .before .before .args .message) .high)
 
 returns-3 : tie.Need-returns-3
 unfolding seenRefusal

@@ -18,21 +18,21 @@ abbrev μ-loop : tie.MeasureT-loop
 μ-loop message bits count msg layout₀ j₀ r₀ layout j r = count - j
 
 loop-holds : tie.Need-loop-holds Inv-loop μ-loop
-loop-holds c = (omega arith, c .before .before .pre .0, refl)
+loop-holds c = (omega arith, c .before .before .before .pre .0, refl)
 
 cast-value : tie.Need-cast-value Inv-loop μ-loop
 cast-value c = omega arith
 
-element-copy-out-value : tie.Need-element-copy-out-value Inv-loop μ-loop
-element-copy-out-value c = omega (arith, c .before .before .before .before .pre .1)
+shared-slice-read-value : tie.Need-shared-slice-read-value Inv-loop μ-loop
+shared-slice-read-value c = omega (arith, c .before .before .before .before .before .before .pre .2)
 
 take-byte-requires : tie.Need-take-byte-requires Inv-loop μ-loop
 take-byte-requires c κs =
     let in-loop = c .before .before in
-    (in-loop .before .loop .inv .1, in-loop .loop-test .taken, in-loop .before .before .before .before .pre .1, refl)
+    (in-loop .before .loop .inv .1, in-loop .loop-test .taken, in-loop .before .before .before .before .before .pre .1, refl)
 
 add-j : tie.Need-add-j Inv-loop μ-loop
-add-j c = omega (arith, c .before .before .before .before .before .before .before .before .before .pre .1)
+add-j c = omega (arith, c .before .before .before .before .before .before .before .before .before .before .pre .1)
 
 loop-less : tie.Need-loop-less Inv-loop μ-loop
 loop-less c = omega arith
@@ -41,7 +41,7 @@ loop-again : tie.Need-loop-again Inv-loop μ-loop
 loop-again c =
     let in-loop = c .before .before .before .before .before in
     let at-loop = in-loop .before in
-    let start = at-loop .before .before .before in
+    let start = at-loop .before .before .before .before in
     let a = start .args in
     let inv = at-loop .loop .inv in
     let taken = c .before .before .take-byte in (
@@ -51,12 +51,12 @@ loop-again c =
     )
 
 same-length : tie.Need-same-length Inv-loop μ-loop
-same-length c = c .before .loop .inv .1 ∙ sym (c .before .before .before .before .pre .0)
+same-length c = c .before .loop .inv .1 ∙ sym (c .before .before .before .before .before .pre .0)
 
 returns : tie.Need-returns Inv-loop μ-loop
 returns c =
     let at-loop = c .before in
-    let a = at-loop .before .before .before .args in
+    let a = at-loop .before .before .before .before .args in
     bytes-end (takeEntry (now (a .msg))) (a .message) (a .count) (now (a .bits)) (at-loop .loop .j) (taking (at-loop .loop .r) (at-loop .loop .layout)) _ (c .loop-test .left) (at-loop .loop .inv .2)
 
 pub take-all-spec : {M : Type 1} → statement M
@@ -67,7 +67,7 @@ take-all-spec =
     μ-loop
     loop-holds
     cast-value
-    element-copy-out-value
+    shared-slice-read-value
     take-byte-requires
     add-j
     loop-less

@@ -22,15 +22,15 @@ mul-n : tie.Need-mul-n Inv-loop μ-loop
 mul-n c = omega arith
 
 sub-n : tie.Need-sub-n Inv-loop μ-loop
-sub-n c = omega (arith, c .before .before .pre .4)
+sub-n c = omega (arith, c .before .before .before .pre .4)
 
 -- the loop's length is eight
 a-bit : (c : tie.In-loop Inv-loop μ-loop) → c .before .loop .bit < 8
-a-bit c = omega (arith, c .loop-test .taken, c .before .before .before .before .pre .4)
+a-bit c = omega (arith, c .loop-test .taken, c .before .before .before .before .before .pre .4)
 
 loop-holds : tie.Need-loop-holds Inv-loop μ-loop
 loop-holds c =
-    let start = c .before .before in
+    let start = c .before .before .before in
     let a = start .args in
     (omega arith, first-bit (a .value), start .pre .0, ap (λ (k : ℕ). takeWalk (a .message) (a .count) (now (a .bits)) (now (a .msg)) 8 k (taking (a .t) (now (a .layout)))) (add-zero (8 * a .j)))
 
@@ -50,7 +50,7 @@ loop-again : tie.Need-loop-again Inv-loop μ-loop
 loop-again c =
     let in-loop = c .before .before .before .before in
     let at-loop = in-loop .before in
-    let start = at-loop .before .before .before in
+    let start = at-loop .before .before .before .before in
     let a = start .args in
     let inv = at-loop .loop .inv in
     let taken = c .before .before .take-bit in (
@@ -62,12 +62,12 @@ loop-again c =
     )
 
 same-length : tie.Need-same-length Inv-loop μ-loop
-same-length c = c .before .loop .inv .2 ∙ sym (c .before .before .before .before .pre .0)
+same-length c = c .before .loop .inv .2 ∙ sym (c .before .before .before .before .before .pre .0)
 
 returns : tie.Need-returns Inv-loop μ-loop
 returns c =
     let at-loop = c .before in
-    let start = at-loop .before .before .before in
+    let start = at-loop .before .before .before .before in
     let a = start .args in
     bits-all (takeEntry (now (a .msg))) (a .message) (a .count) (now (a .bits)) (a .j) (at-loop .loop .bit) (taking (at-loop .loop .r) (at-loop .loop .layout)) _
     (omega (arith, c .loop-test .left, start .pre .4)) (at-loop .loop .inv .3)

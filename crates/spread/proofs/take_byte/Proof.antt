@@ -12,7 +12,7 @@ use Rattle.spread.proofs.take_byte.Tie as tie
 
 returns : tie.Need-returns
 returns c =
-    let start = c .before .before .before in
+    let start = c .before .before .before .before in
     let a = start .args in
     byte-clear (takeEntry (now (a .msg))) (a .message) (a .count) (now (a .bits)) (a .j) (a .value) (taking (a .t) (now (a .layout))) (start .pre .1) (start .pre .3) (c .if1 .taken)
 
@@ -40,7 +40,7 @@ same-length c = search needs
 returns-2 : tie.Need-returns-2
 returns-2 c =
     let taken = c .before .before in
-    let a = taken .before .before .before .before .before .before .args in
+    let a = taken .before .before .before .before .before .before .before .args in
     taken .take-new-order .ensures ∙ ap (λ (m : ℕ). takeWalk m (a .count) (now (a .bits)) (now (a .msg)) 8 (8 * a .j) (taking (a .t) (now (a .layout)))) (sym (taken .before .before .match .keys1))
 
 same-length-2 : tie.Need-same-length-2
@@ -49,7 +49,7 @@ same-length-2 c = search needs
 returns-3 : tie.Need-returns-3
 returns-3 c =
     let taken = c .before .before in
-    let a = taken .before .before .before .before .before .before .args in
+    let a = taken .before .before .before .before .before .before .before .args in
     taken .take-acknowledgment .ensures ∙ ap (λ (m : ℕ). takeWalk m (a .count) (now (a .bits)) (now (a .msg)) 8 (8 * a .j) (taking (a .t) (now (a .layout)))) (sym (taken .before .before .match .keys2))
 
 same-length-3 : tie.Need-same-length-3
@@ -58,7 +58,7 @@ same-length-3 c = search needs
 returns-4 : tie.Need-returns-4
 returns-4 c =
     let taken = c .before .before in
-    let a = taken .before .before .before .before .before .before .args in
+    let a = taken .before .before .before .before .before .before .before .args in
     taken .take-execution .ensures ∙ ap (λ (m : ℕ). takeWalk m (a .count) (now (a .bits)) (now (a .msg)) 8 (8 * a .j) (taking (a .t) (now (a .layout)))) (sym (taken .before .before .match .keys3))
 
 same-length-4 : tie.Need-same-length-4

@@ -1,0 +1,208 @@
+-- A block judged where it stands: the bitfields without the zeros after them, and the fixed part with the rest of the message after it, are
+-- judged as those of the record. Assumes nothing.
+use mathlib.Core.Path.{_≡_, refl, sym, ap, ap₂, _∙_}
+use mathlib.Core.Bool.{Bool, true, false, cond, not, _&&_}
+use mathlib.Core.List.{List, [], _∷_, _++_, append-assoc}
+use Prim.Native.Nat.{ℕ, zero, suc, _+_, _*_, _-_, _/_, _%_, _≤_, _<_}
+use native.Mathlib.Nat.{zero-add}
+use native.Mathlib.Omega.{arith}
+use lib.Dec.{ltb, eqb, leb}
+use lib.ListN.{length, getD, take, drop, length-append, length-drop, take-append-drop, List·getD-append}
+use lib.Seq.{length-take-le, take-append-le, drop-append-le, getD-take}
+use borrow.Author.Tests.{eq-eqb, ne-eqb}
+use Rattle.numbers.specs.Numbers.{numberAt, patched}
+use Rattle.numbers.proofs.Tail.{tail-is}
+use Rattle.wire.specs.Header.{typeOf, unitOf, numberOf}
+use Rattle.dictionary.specs.declared.Entry.{Entry}
+use Rattle.fields.specs.Slots.{zeros, Slot, slot, width, sum, spread}
+use Rattle.fields.specs.SlotLaws.{length-zeros, drop-zeros}
+use Rattle.fields.specs.Places.{bitSet, selectedAt, entryAt, slotsFrom, slotsOf, hasRequired}
+use Rattle.orders.specs.Shapes.{countAt, newOrderGood, cancelOrderGood, acknowledgmentGood, executionGood, fixedGood}
+use Rattle.orders.specs.declared.Record.{Record}
+use Rattle.orders.specs.Orders.{countOf, bitsOf, fixedOf, optionalOf, headRefusal, blockRefusal, readRefusal, layoutOf, recordOf}
+use Rattle.records.specs.Records.{recordBytes}
+use Rattle.order_reader.specs.Stages.{thereBytes, bodyRecord, readRecord}
+use Rattle.order_reader.proofs.Heads.{good-head}
+
+-- ---- bitfields with zeros after them
+
+nul : (z j : ℕ) → getD (zeros z) j 0 ≡ 0
+nul zero j = refl
+nul (suc z) zero = refl
+nul (suc z) (suc j) = nul z j
+
+padded : (bs : List ℕ) (z j : ℕ) → getD (bs ++ zeros z) j 0 ≡ getD bs j 0
+padded [] z j = nul z j
+padded (b ∷ bs) z zero = refl
+padded (b ∷ bs) z (suc j) = padded bs z j
+
+module _ (count : ℕ) (bs : List ℕ) (z : ℕ) where
+  selected-padded : (k : ℕ) → selectedAt count (bs ++ zeros z) k ≡ selectedAt count bs k
+  unfolding selectedAt
+  selected-padded k = ap (λ (x : ℕ). ltb (k / 8) count && bitSet x (k % 8)) (padded bs z (k / 8))
+
+  required-padded : (message : ℕ) → hasRequired message count (bs ++ zeros z) ≡ hasRequired message count bs
+  unfolding hasRequired
+  required-padded message = rw (selected-padded 8, selected-padded 14, selected-padded 2, selected-padded 4)
+
+  from-padded : (entry : ℕ → Entry) (n k : ℕ) → slotsFrom (selectedAt count (bs ++ zeros z)) entry n k ≡ slotsFrom (selectedAt count bs) entry n k
+  unfolding slotsFrom
+  from-padded entry zero k = refl
+  from-padded entry (suc n) k = ap₂ (λ (b : Bool) (ss : List Slot). slot b (entry k) ∷ ss) (selected-padded k) (from-padded entry n (suc k))
+
+  slots-padded : (message : ℕ) → slotsOf message count (bs ++ zeros z) ≡ slotsOf message count bs
+  slots-padded message = from-padded (entryAt message) 120 0
+
+-- ---- a fixed part with anything after it
+
+part-of : (p y : List ℕ) (a w : ℕ) → a + w ≤ length p → take w (drop a (p ++ y)) ≡ take w (drop a p)
+part-of p y a w h =
+    let d : length (drop a p) ≡ length p - a = length-drop a p in
+    ap (take w) (drop-append-le a p y (omega arith)) ∙ take-append-le w (drop a p) y (omega arith)
+
+module _ (x z : List ℕ) (n : ℕ) (h : n ≤ length x) where
+  long : length (take n x) ≡ n
+  long = length-take-le n x h
+
+  part-front : (a w : ℕ) → a + w ≤ n → take w (drop a (take n x ++ z)) ≡ take w (drop a x)
+  part-front a w l =
+      part-of (take n x) z a w (omega (arith, long))
+      ∙ sym (part-of (take n x) (drop n x) a w (omega (arith, long)))
+      ∙ ap (λ (s : List ℕ). take w (drop a s)) (take-append-drop n x)
+
+  byte-front : (j : ℕ) → j < n → getD (take n x ++ z) j 0 ≡ getD x j 0
+  byte-front j l = List·getD-append (take n x) z 0 j (omega (arith, long)) ∙ getD-take n x j 0 l
+
+  number-front : (k i : ℕ) → i + k ≤ n → numberAt k i (take n x ++ z) ≡ numberAt k i x
+  number-front zero i l = refl
+  number-front (suc k) i l = ap₂ (λ (a b : ℕ). a + 256 * b) (byte-front i (omega arith)) (number-front k (i + 1) (omega arith))
+
+  good-by : Bool → Bool → Bool → List ℕ → Bool
+  good-by a b c f = cond a (newOrderGood f) (cond b (cancelOrderGood f) (cond c (acknowledgmentGood f) (executionGood f)))
+
+  by-type : (a b c : Bool) → n ≡ cond a 35 (cond b 30 (cond c 47 69)) - 10 → good-by a b c (take n x ++ z) ≡ good-by a b c x
+  unfolding good-by
+  by-type true b c e = rw (part-front 0 20 (omega arith), part-front 20 1 (omega arith), number-front 4 21 (omega arith))
+  by-type false true c e = rw (part-front 0 20 (omega arith))
+  by-type false false true e = rw (part-front 8 20 (omega arith))
+  by-type false false false e = rw (part-front 8 20 (omega arith), part-front 52 1 (omega arith), part-front 53 1 (omega arith), part-front 54 4 (omega arith))
+
+  pub fixed-front : (message : ℕ) → n ≡ countAt message - 10 → fixedGood message (take n x ++ z) ≡ fixedGood message x
+  unfolding fixedGood countAt good-by
+  fixed-front message e = by-type (eqb message 0x38) (eqb message 0x39) (eqb message 0x25) e
+
+-- ---- the whole message
+
+module _ (m : List ℕ) (ok : headRefusal m ≡ 0) where
+  there : blockRefusal (typeOf m) (countOf m) (take (countOf m) (drop (countAt (typeOf m) + 1) m)) (drop 10 m) (drop (countAt (typeOf m) + 1 + countOf m) m) ≡ readRefusal m
+  unfolding readRefusal bitsOf fixedOf optionalOf blockRefusal
+  there =
+      let g = good-head m (typeOf m) (countAt (typeOf m)) (countOf m) ok refl refl refl in
+      let d : length (drop 10 m) ≡ length m - 10 = length-drop 10 m in
+      let bs : List ℕ = take (countOf m) (drop (countAt (typeOf m) + 1) m) in
+      sym
+      (rw (
+        eq-eqb (headRefusal m) 0 ok,
+        slots-padded (countOf m) bs (15 - countOf m) (typeOf m),
+        required-padded (countOf m) bs (15 - countOf m) (typeOf m),
+        fixed-front (drop 10 m) (zeros (69 - countAt (typeOf m))) (countAt (typeOf m) - 10) (omega (arith, d, g .fits, g .at-least)) (typeOf m) refl,
+      ))
+
+  pub in-place : (message at count : ℕ) → message ≡ typeOf m → at ≡ countAt message → count ≡ getD m at 0
+      → {r : ℕ} → r ≡ blockRefusal message count (take count (drop (at + 1) m)) (drop 10 m) (drop (at + 1 + count) m) → r ≡ readRefusal m
+  in-place message at count e f g q =
+      let i : at ≡ countAt (typeOf m) = f ∙ ap countAt e in
+      let n : count ≡ countOf m = g ∙ ap (λ (j : ℕ). getD m j 0) i in
+      q
+      ∙ ap (λ (x : ℕ). blockRefusal x count (take count (drop (at + 1) m)) (drop 10 m) (drop (at + 1 + count) m)) e
+      ∙ ap₂ (λ (k j : ℕ). blockRefusal (typeOf m) k (take k (drop (j + 1) m)) (drop 10 m) (drop (j + 1 + k) m)) n i
+      ∙ there
+
+  -- the bytes of the record
+  bits-long : length (take (countOf m) (drop (countAt (typeOf m) + 1) m)) ≡ countOf m
+  bits-long =
+      let g = good-head m (typeOf m) (countAt (typeOf m)) (countOf m) ok refl refl refl in
+      let d : length (drop (countAt (typeOf m) + 1) m) ≡ length m - (countAt (typeOf m) + 1) = length-drop (countAt (typeOf m) + 1) m in
+      length-take-le (countOf m) (drop (countAt (typeOf m) + 1) m) (omega (arith, d, g .fits))
+
+  layout-there : (bs o : List ℕ) (z : ℕ) → layoutOf (typeOf m) (countOf m) bs o ≡ layoutOf (typeOf m) (countOf m) (bs ++ zeros z) o
+  unfolding layoutOf
+  layout-there bs o z = ap (λ (ss : List Slot). spread ss o ++ zeros (154 - sum width ss)) (sym (slots-padded (countOf m) bs z (typeOf m)))
+
+  -- a record with these bitfields and this layout
+  abbrev with : List ℕ → List ℕ → Record
+  with bits slots = record { message = typeOf m; unit = unitOf m; number = numberOf m; fixed = fixedOf m; count = countOf m; bits = bits; slots = slots }
+
+  bytes-there : thereBytes m (typeOf m) (countOf m) (take (countOf m) (drop (countAt (typeOf m) + 1) m)) (layoutOf (typeOf m) (countOf m) (take (countOf m) (drop (countAt (typeOf m) + 1) m)) (drop (countAt (typeOf m) + 1 + countOf m) m)) ≡ recordBytes (recordOf m)
+  unfolding thereBytes recordOf bitsOf fixedOf optionalOf
+  bytes-there =
+      ap₂ (λ (i : ℕ) (l : List ℕ). recordBytes (with (take (countOf m) (drop (countAt (typeOf m) + 1) m) ++ zeros (15 - i)) l)) bits-long
+      (layout-there (take (countOf m) (drop (countAt (typeOf m) + 1) m)) (drop (countAt (typeOf m) + 1 + countOf m) m) (15 - countOf m))
+
+  record-there : (buffer : List ℕ) → bodyRecord m (typeOf m) (countAt (typeOf m)) (countOf m) buffer ≡ readRecord m buffer
+  unfolding bodyRecord readRecord
+  record-there buffer = ap₂ (λ (n : ℕ) (bs : List ℕ). cond (eqb n 0) (patched buffer 0 bs) buffer) there bytes-there
+
+  -- the refusal and the record of the body are the message's
+  pub read-is : (message at count : ℕ) → message ≡ typeOf m → at ≡ countAt message → count ≡ getD m at 0 → (buffer : List ℕ) {r : ℕ} {out : List ℕ}
+      → (r ≡ blockRefusal message count (take count (drop (at + 1) m)) (drop 10 m) (drop (at + 1 + count) m)) × (out ≡ bodyRecord m message at count buffer)
+      → (r ≡ readRefusal m) × (out ≡ readRecord m buffer)
+  read-is message at count e f g buffer q =
+      let i : at ≡ countAt (typeOf m) = f ∙ ap countAt e in
+      let n : count ≡ countOf m = g ∙ ap (λ (j : ℕ). getD m j 0) i in (
+        in-place message at count e f g (q .0),
+        q .1
+            ∙ ap (λ (x : ℕ). bodyRecord m x at count buffer) e
+            ∙ ap₂ (λ (k j : ℕ). bodyRecord m (typeOf m) j k buffer) n i
+            ∙ record-there buffer,
+      )
+
+-- the parts as they are lent
+pub lent-there : (m : List ℕ) (message at count : ℕ) → at + 1 + count ≤ length m → 30 ≤ at
+    → {r : ℕ} → r ≡ blockRefusal message count (take (at + 1 + count - (at + 1)) (drop (at + 1) m)) (take (length m - 10) (drop 10 m)) (take (length m - (at + 1 + count)) (drop (at + 1 + count) m))
+    → r ≡ blockRefusal message count (take count (drop (at + 1) m)) (drop 10 m) (drop (at + 1 + count) m)
+lent-there m message at count h l e =
+    let n : at + 1 + count - (at + 1) ≡ count = omega arith in
+    e
+    ∙ ap (λ (i : ℕ). blockRefusal message count (take i (drop (at + 1) m)) (take (length m - 10) (drop 10 m)) (take (length m - (at + 1 + count)) (drop (at + 1 + count) m))) n
+    ∙ ap₂ (λ (f o : List ℕ). blockRefusal message count (take count (drop (at + 1) m)) f o) (tail-is m 10 (omega arith)) (tail-is m (at + 1 + count) h)
+
+-- the body's record, by whether the block is refused; its parts as they are lent
+module _ (m : List ℕ) (message at count : ℕ) (h : at + 1 + count ≤ length m) (l : 30 ≤ at) (r : ℕ)
+    (e : r ≡ blockRefusal message count (take (at + 1 + count - (at + 1)) (drop (at + 1) m)) (take (length m - 10) (drop 10 m)) (take (length m - (at + 1 + count)) (drop (at + 1 + count) m)))
+    (buffer : List ℕ) where
+  pub body-refused : (r ≡ 0 → ⊥) → buffer ≡ bodyRecord m message at count buffer
+  unfolding bodyRecord
+  body-refused n = rw (ne-eqb (blockRefusal message count (take count (drop (at + 1) m)) (drop 10 m) (drop (at + 1 + count) m)) 0 (λ z. n (lent-there m message at count h l e ∙ z)))
+
+  pub body-read : r ≡ 0 → (slots : List ℕ) → slots ≡ layoutOf message count (take (at + 1 + count - (at + 1)) (drop (at + 1) m)) (take (length m - (at + 1 + count)) (drop (at + 1 + count) m))
+      → {out : List ℕ} → out ≡ patched buffer 0 (thereBytes m message count (take (at + 1 + count - (at + 1)) (drop (at + 1) m)) slots) → out ≡ bodyRecord m message at count buffer
+  unfolding bodyRecord
+  body-read z slots s o =
+      let n : at + 1 + count - (at + 1) ≡ count = omega arith in
+      o
+      ∙ ap (λ (x : List ℕ). patched buffer 0 (thereBytes m message count (take (at + 1 + count - (at + 1)) (drop (at + 1) m)) x)) s
+      ∙ ap₂ (λ (i : ℕ) (x : List ℕ). patched buffer 0 (thereBytes m message count (take i (drop (at + 1) m)) (layoutOf message count (take i (drop (at + 1) m)) x))) n (tail-is m (at + 1 + count) h)
+      ∙ rw (eq-eqb (blockRefusal message count (take count (drop (at + 1) m)) (drop 10 m) (drop (at + 1 + count) m)) 0 (sym (lent-there m message at count h l e) ∙ z))
+
+-- bytes copied into the front of zeros that were put there
+pub put-over : (t b t₁ t₂ : List ℕ) (n : ℕ) → length b ≤ n → n ≤ length t → t₁ ≡ patched t 0 (zeros n) → t₂ ≡ patched t₁ 0 b → t₂ ≡ patched t 0 (b ++ zeros (n - length b))
+unfolding patched
+put-over t b t₁ t₂ n h k p q =
+    let z : length (zeros n) ≡ n = length-zeros n in
+    let w : length (b ++ zeros (n - length b)) ≡ length (zeros n) = length-append b (zeros (n - length b)) ∙ omega (arith, length-zeros (n - length b), z) in
+    q
+    ∙ ap (λ (x : List ℕ). take 0 x ++ (b ++ drop (0 + length b) x)) p
+    ∙ ap (λ (x : List ℕ). b ++ x) (drop-append-le (0 + length b) (zeros n) (drop (0 + length (zeros n)) t) (omega (arith, z)) ∙ ap (λ (x : List ℕ). x ++ drop (0 + length (zeros n)) t) (ap (λ (i : ℕ). drop i (zeros n)) (zero-add (length b)) ∙ drop-zeros (length b) n))
+    ∙ sym (append-assoc b (zeros (n - length b)) (drop (0 + length (zeros n)) t))
+    ∙ ap (λ (i : ℕ). (b ++ zeros (n - length b)) ++ drop (0 + i) t) (sym w)
+
+-- the lent bitfields are as many as the count, and the lent rest has the fixed part
+pub lent-fits : (m : List ℕ) (at count : ℕ) → at + 1 + count ≤ length m → 30 ≤ at
+    → (length (take (at + 1 + count - (at + 1)) (drop (at + 1) m)) ≡ count) × (at ≤ length (take (length m - 10) (drop 10 m)) + 10)
+lent-fits m at count h l =
+    let d : length (drop (at + 1) m) ≡ length m - (at + 1) = length-drop (at + 1) m in
+    let e : length (drop 10 m) ≡ length m - 10 = length-drop 10 m in (
+      length-take-le (at + 1 + count - (at + 1)) (drop (at + 1) m) (omega arith) ∙ omega arith,
+      omega (arith, length-take-le (length m - 10) (drop 10 m) (omega arith)),
+    )
