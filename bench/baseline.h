@@ -1,5 +1,5 @@
 /* The plain C reader, writer and restart. The arguments, the answers and the order of refusal are those of boe_read, boe_write and
- * boe_restart, save that to the reader and the writer a session message is of an unknown type. */
+ * boe_restart, save that records and states are plain bytes, and that to the reader and the writer a session message is of an unknown type. */
 #ifndef BASELINE_H
 #define BASELINE_H
 

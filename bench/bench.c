@@ -1,16 +1,18 @@
 /* Counts the instructions of a call of the proved reader, writer and restart, and of the plain C ones, on messages and on books.
  *
- * usage: bench [bits | KIBIBYTES]
+ * usage: bench [bits | times | KIBIBYTES]
  *
  * It prints lines of WORKLOAD CALL SIDE COUNT. Before it counts it compares both sides on each message, on each with a byte changed or
  * with bytes cut off, and on a small book in the same way; it says what differs and ends with status 1. With `bits` it counts messages
- * with more and more of their listed bits, in lines of MESSAGE BITS CALL SIDE COUNT. With a size it counts nothing: it makes a book of that
- * size, restarts it once by each side, for a counter outside, and prints its bytes and messages alone. */
+ * with more and more of their listed bits, in lines of MESSAGE BITS CALL SIDE COUNT. With `times` it counts nothing and takes the calls'
+ * times (times.h). With a size it counts nothing: it makes a book of that size, restarts it once by each side, for a counter outside, and
+ * prints its bytes and messages alone. */
 #include "baseline.h"
 #include "bits.h"
 #include "books.h"
 #include "compare.h"
 #include "count.h"
+#include "times.h"
 
 static void tell(const char *name, const char *call_and_side, uint64_t number) {
     say(1, name);
@@ -73,7 +75,7 @@ static void count_book(const char *name, size_t kibibytes) {
     tell(name, " restart baseline ", count_restart((counted *)base_restart, b.length));
 }
 
-/* ---- the three runs */
+/* ---- the runs */
 
 static void count_all(void) {
     for (size_t i = 0; i < WORKLOADS; i++) {
@@ -101,7 +103,7 @@ static void restart_once(const char *digits) {
     for (; *digits >= '0' && *digits <= '9'; digits++)
         kibibytes = 10 * kibibytes + (size_t)(*digits - '0');
     if (kibibytes == 0 || kibibytes > BOE_BOOK_MOST_BYTES / 1024) {
-        say(2, "usage: bench [bits | KIBIBYTES]\n");
+        say(2, "usage: bench [bits | times | KIBIBYTES]\n");
         end(2);
     }
     ask_book("the sides differ on a counted book", DATE, tell_size("book", kibibytes).length, STATE);
@@ -116,6 +118,8 @@ void begin(const long *words) {
         count_all();
     else if (*word == 'b')
         count_all_bits();
+    else if (*word == 't')
+        time_all();
     else
         restart_once(word);
     end(0);

@@ -51,7 +51,7 @@ void with_bits(const struct bits *of, size_t set, struct workload *some) {
     some->name = name_of(of, set);
     for (size_t i = set; i < of->listed; i++)
         leave_out(of, of->order ? of->order[i] : i, some->record);
-    if (boe_write(some->direction, some->record, RECORD, some->message, LONGEST) != 0)
+    if (proved_write(some->direction, some->record, RECORD, some->message, LONGEST) != 0)
         differ(some, "the proved writer refuses the record with fewer bits");
     some->total = 2 + (size_t)some->message[2] + 256 * (size_t)some->message[3];
     compare_good(some);

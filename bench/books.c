@@ -78,7 +78,7 @@ void ask_book(const char *what, uint32_t date, size_t len, size_t state_len) {
     uint8_t one[STATE + 8], other[STATE + 8];
     memset(one, FILLING, sizeof one);
     memset(other, FILLING, sizeof other);
-    if (boe_restart(date, book, len, one, state_len) != base_restart(date, book, len, other, state_len))
+    if (boe_restart(date, book, len, (struct boe_state *)one, state_len) != base_restart(date, book, len, other, state_len))
         books_differ(what);
     if (memcmp(one, other, sizeof one) != 0)
         books_differ(what);

@@ -4,7 +4,7 @@
 
 #include "messages.h"
 
-enum { DATE = 20250819, STATE = BOE_BOOK_BYTES, MARK_EVERY = 200 };
+enum { DATE = 20250819, STATE = BOE_STATE_BYTES, MARK_EVERY = 200 };
 
 extern uint8_t book[BOE_BOOK_MOST_BYTES];
 

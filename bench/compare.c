@@ -10,6 +10,14 @@ enum { TYPE_AT = 4 };
 
 typedef uint8_t call(uint8_t direction, const uint8_t *from, size_t from_len, uint8_t *to, size_t to_len);
 
+uint8_t proved_read(uint8_t direction, const uint8_t *bytes, size_t len, uint8_t *record, size_t record_len) {
+    return boe_read(direction, bytes, len, (struct boe_record *)record, record_len);
+}
+
+uint8_t proved_write(uint8_t direction, const uint8_t *record, size_t record_len, uint8_t *out, size_t out_len) {
+    return boe_write(direction, (const struct boe_record *)record, record_len, out, out_len);
+}
+
 void differ(const struct workload *w, const char *what) {
     say(2, "bench: workload ");
     say(2, w->name);
@@ -37,14 +45,14 @@ void compare_good(struct workload *w) {
     uint8_t made[LONGEST];
     memset(w->record, FILLING, RECORD);
     memset(made, FILLING, sizeof made);
-    if (boe_read(w->direction, w->message, w->total, w->record, RECORD) != 0)
+    if (proved_read(w->direction, w->message, w->total, w->record, RECORD) != 0)
         differ(w, "the proved reader refuses the message");
     if (base_read(w->direction, w->message, w->total, made, RECORD) != 0)
         differ(w, "the baseline's reader refuses the message");
     if (memcmp(w->record, made, RECORD) != 0)
         differ(w, "the readers answer different records");
     memset(made, FILLING, sizeof made);
-    if (boe_write(w->direction, w->record, RECORD, made, w->total) != 0)
+    if (proved_write(w->direction, w->record, RECORD, made, w->total) != 0)
         differ(w, "the proved writer refuses the record");
     if (memcmp(made, w->message, w->total) != 0 || made[w->total] != FILLING)
         differ(w, "the proved writer does not write the message back");
@@ -66,36 +74,36 @@ void compare_damaged(const struct workload *w) {
     uint8_t bytes[LONGEST];
     memcpy(bytes, w->message, w->total);
     for (size_t len = 0; len <= w->total; len++)
-        ask(w, "the readers differ on a cut message", boe_read, base_read, w->direction, bytes, len, RECORD);
+        ask(w, "the readers differ on a cut message", proved_read, base_read, w->direction, bytes, len, RECORD);
     for (unsigned direction = 0; direction < 256; direction++) {
-        ask(w, "the readers differ on a direction", boe_read, base_read, (uint8_t)direction, bytes, w->total, RECORD);
-        ask(w, "the writers differ on a direction", boe_write, base_write, (uint8_t)direction, w->record, RECORD, LONGEST);
+        ask(w, "the readers differ on a direction", proved_read, base_read, (uint8_t)direction, bytes, w->total, RECORD);
+        ask(w, "the writers differ on a direction", proved_write, base_write, (uint8_t)direction, w->record, RECORD, LONGEST);
     }
     for (size_t len = 0; len <= RECORD; len++)
-        ask(w, "the readers differ on a short record", boe_read, base_read, w->direction, bytes, w->total, len);
+        ask(w, "the readers differ on a short record", proved_read, base_read, w->direction, bytes, w->total, len);
     for (size_t at = 0; at < w->total; at++) {
         uint8_t kept = bytes[at];
         for (unsigned other = 0; other < 256; other++) {
             if (at == TYPE_AT && is_session(w->direction, (uint8_t)other))
                 continue;
             bytes[at] = (uint8_t)other;
-            ask(w, "the readers differ on a damaged message", boe_read, base_read, w->direction, bytes, w->total, RECORD);
+            ask(w, "the readers differ on a damaged message", proved_read, base_read, w->direction, bytes, w->total, RECORD);
         }
         bytes[at] = kept;
     }
 
     memcpy(bytes, w->record, RECORD);
     for (size_t len = 0; len <= RECORD; len++)
-        ask(w, "the writers differ on a cut record", boe_write, base_write, w->direction, bytes, len, LONGEST);
+        ask(w, "the writers differ on a cut record", proved_write, base_write, w->direction, bytes, len, LONGEST);
     for (size_t len = 0; len <= w->total; len++)
-        ask(w, "the writers differ on a short buffer", boe_write, base_write, w->direction, bytes, RECORD, len);
+        ask(w, "the writers differ on a short buffer", proved_write, base_write, w->direction, bytes, RECORD, len);
     for (size_t at = 0; at < RECORD; at++) {
         uint8_t kept = bytes[at];
         for (unsigned other = 0; other < 256; other++) {
             if (at == BOE_RECORD_TYPE_AT && is_session(w->direction, (uint8_t)other))
                 continue;
             bytes[at] = (uint8_t)other;
-            ask(w, "the writers differ on a damaged record", boe_write, base_write, w->direction, bytes, RECORD, LONGEST);
+            ask(w, "the writers differ on a damaged record", proved_write, base_write, w->direction, bytes, RECORD, LONGEST);
         }
         bytes[at] = kept;
     }

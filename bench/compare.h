@@ -4,6 +4,10 @@
 
 #include "messages.h"
 
+/* The proved reader and writer with a record as plain bytes, as the baseline's are called. */
+uint8_t proved_read(uint8_t direction, const uint8_t *bytes, size_t len, uint8_t *record, size_t record_len);
+uint8_t proved_write(uint8_t direction, const uint8_t *record, size_t record_len, uint8_t *out, size_t out_len);
+
 /* Says what differs, and ends. */
 void differ(const struct workload *w, const char *what);
 

@@ -32,6 +32,17 @@ void say_number(int file, uint64_t number) {
     say(file, digits + at);
 }
 
+uint64_t nanoseconds(void) {
+    struct {
+        uint64_t seconds, nanoseconds;
+    } now;
+    if (syscall4(228, 1, (long)&now, 0, 0) != 0) {
+        say(2, "bench: no clock\n");
+        end(1);
+    }
+    return 1000000000 * now.seconds + now.nanoseconds;
+}
+
 /* Makes a call with the trap flag set. `nothing` is a call that returns at once. */
 uint8_t stepped(counted *function, const struct arguments *arguments);
 counted nothing;

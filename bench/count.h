@@ -20,6 +20,9 @@ void end(int status);
 void say(int file, const char *text);
 void say_number(int file, uint64_t number);
 
+/* The system's clock that only goes forward (clock_gettime, CLOCK_MONOTONIC). */
+uint64_t nanoseconds(void);
+
 /* To be called once, before anything is counted. */
 void count_traps(void);
 

@@ -1,59 +1,84 @@
 /* A small gateway over the C entry points. It restarts from its day book, reads the venue's bytes in whatever pieces they come, books each
  * message that is the next of its unit, and keeps the book in a file that a restart takes after any kill.
  *
- * usage: gateway DATE BOOKFILE [LOGIN] < STREAM    DATE as YYYYMMDD; LOGIN gets the bytes of the login, which a gateway sends on its line
- *        gateway --messages DATE BOOKFILE          writes the book's messages to standard output, in order and without the marks
+ * usage: gateway DATE BOOKFILE [LOGIN] < LINE    DATE as YYYYMMDD; LINE is what the venue sends on one line, from the Login Response on;
+ *                                                LOGIN, a new file, gets the bytes of the login, which a gateway sends on that line
+ *        gateway --messages DATE BOOKFILE        writes the book's messages to standard output, in order and without the marks
+ *        gateway --help
  *
- * At the end of a session it prints one line: the book's messages, its length, and how many messages were refused, in all and by number. */
+ * Standard output is the desk: it gets a line for each message of the book, first those of earlier starts, and each new one when the file
+ * has it; and at the session's end one line more: the book's messages, its length, and how many messages were refused, in all and by number.
+ * Standard error tells what is wrong. */
 #define _XOPEN_SOURCE 700
 #include "boe.h"
 
 #include <errno.h>
 #include <fcntl.h>
+#include <signal.h>
 #include <stdbool.h>
 #include <stdio.h>
 #include <stdlib.h>
 #include <string.h>
+#include <sys/stat.h>
 #include <unistd.h>
 
-/* The exit status is 0, the refusal that ended the program (1 to 22), or one of these. */
-enum { SYSTEM_FAILED = 100, WRONG_USAGE = 101 };
+/* The exit status: 0 where the venue has logged us out; the refusal that leaves nothing to do today with this book or date (13, 17, 18, 19);
+ * or one of these. After LOG_IN_AGAIN the book is good, and the program is to be started again, with a new line and its login. */
+enum { SYSTEM_FAILED = 100, WRONG_USAGE = 101, LOG_IN_AGAIN = 102, LOGIN_REJECTED = 103 };
 
-enum { UNITS = 32, REFUSALS = 23, LONGEST_MESSAGE = 2048, LONGEST_LOGIN = 512 };
+/* What stands in the place of an exit status while the session goes on. */
+enum { GOES_ON = -1 };
 
 /* The book's bytes and its state. What stands in the file is what stands here. The buffer has one byte more than a book may have: a longer
  * file is then longer here too, and restart refuses it. */
 static uint8_t book[BOE_BOOK_MOST_BYTES + 1];
-static uint8_t state[BOE_BOOK_BYTES];
+static struct boe_state state;
 static int file;
 
-/* How many messages were refused, by the number of refusal. */
-static unsigned long refused[REFUSALS];
+/* Whether a Login Response of status A has come on this line. */
+static bool accepted;
 
-/* A system call has failed. The program ends without a mark: what the file holds then is a book or a torn one, and the next start restarts
- * from it. */
-static _Noreturn void fail(const char *what) {
-    fprintf(stderr, "gateway: %s: %s\n", what, strerror(errno));
+/* How many messages were refused, by the number of refusal. */
+static unsigned long refused[BOE_REFUSALS + 1];
+
+/* A system call has failed, or a file is not what it must be. The program ends without a mark: what the file holds then is a book or a torn
+ * one, and the next start restarts from it. */
+static _Noreturn void fail_as(const char *what, const char *why) {
+    fprintf(stderr, "gateway: %s: %s\n", what, why);
     exit(SYSTEM_FAILED);
 }
+
+static _Noreturn void fail(const char *what) { fail_as(what, strerror(errno)); }
 
 static uint32_t number_at(const uint8_t *p) {
     return p[0] | (uint32_t)p[1] << 8 | (uint32_t)p[2] << 16 | (uint32_t)p[3] << 24;
 }
 
-static size_t book_length(void) { return number_at(state + BOE_BOOK_LENGTH_AT); }
+static size_t book_length(void) { return number_at(state.bytes + BOE_STATE_LENGTH_AT); }
 
 /* ---- the file */
 
-/* Writes the book's bytes from a place to its end into the file, at the same place. */
+/* Sees that 0, 1 and 2 are standard streams, also where the caller has closed one: a file that is opened later would get its number, and what
+ * is told would go over the book. A stream that was closed fails when it is used. A pipe that nobody reads is an error, and no signal. */
+static void keep_standard_streams(void) {
+    for (int stream = STDIN_FILENO; stream <= STDERR_FILENO; stream++) {
+        if (fcntl(stream, F_GETFD) != -1) continue;
+        if (open("/dev/null", stream == STDIN_FILENO ? O_WRONLY : O_RDONLY) != stream) _exit(SYSTEM_FAILED);
+    }
+    signal(SIGPIPE, SIG_IGN);
+}
+
+/* Writes the book's bytes from a place to its end into the file, at the same place, and has them flushed to the disk. */
 static void store(size_t from) {
     size_t end = book_length();
+    if (from == end) return;
     while (from < end) {
         ssize_t n = pwrite(file, book + from, end - from, (off_t)from);
         if (n < 0 && errno == EINTR) continue;
         if (n <= 0) fail("writing the book");
         from += (size_t)n;
     }
+    if (fsync(file) != 0) fail("flushing the book");
 }
 
 /* Loads the file into the buffer, as far as that goes, and answers how many bytes it was. */
@@ -69,12 +94,58 @@ static size_t load(void) {
     return held;
 }
 
+/* Flushes the directory in which the file stands: a new file is not there after a loss of power until that is done. An earlier start may
+ * have been killed before it, so each does it. */
+static void flush_directory(const char *path) {
+    char *real = realpath(path, NULL);
+    if (!real) fail(path);
+    strrchr(real, '/')[1] = 0;
+    int directory = open(real, O_RDONLY | O_DIRECTORY);
+    if (directory < 0 || fsync(directory) != 0 || close(directory) != 0) fail(real);
+    free(real);
+}
+
 /* Opens the book's file, for reading alone or as its only writer: two writers would each go on from a state that the other's messages have
- * made wrong. The lock goes with the process, so a kill leaves none. */
+ * made wrong. The lock goes with the process, so a kill leaves none. What is no plain file is no book, and nor is what a standard stream
+ * reads or writes. */
 static void open_file(const char *path, bool to_write) {
-    file = to_write ? open(path, O_RDWR | O_CREAT, 0644) : open(path, O_RDONLY);
-    if (file < 0) fail(path);
-    if (to_write && lockf(file, F_TLOCK, 0) != 0) fail("another gateway has the book");
+    struct stat own, other;
+    file = to_write ? open(path, O_RDWR | O_CREAT | O_NONBLOCK, 0644) : open(path, O_RDONLY | O_NONBLOCK);
+    if (file < 0 || fstat(file, &own) != 0) fail(path);
+    if (!S_ISREG(own.st_mode)) fail_as(path, "not a plain file");
+    for (int stream = STDERR_FILENO; stream >= STDIN_FILENO; stream--) {
+        if (fstat(stream, &other) != 0 || other.st_dev != own.st_dev || other.st_ino != own.st_ino) continue;
+        if (stream == STDERR_FILENO) _exit(SYSTEM_FAILED); /* what would be told would stand in the book */
+        fail_as(path, "a standard stream has this file");
+    }
+    if (!to_write || lockf(file, F_TLOCK, 0) == 0) return;
+    if (errno == EACCES || errno == EAGAIN) fail_as(path, "another gateway has the book");
+    fail("locking the book");
+}
+
+/* ---- the book's messages */
+
+/* The next message of the book from a place on: its length, or 0 at the book's end. The place becomes that of the message. Up to the good
+ * length every byte belongs to a whole message or a mark, and what framing does not take is a mark. */
+static size_t next_message(size_t *at) {
+    size_t end = book_length();
+    for (; *at < end; *at += BOE_MARK_BYTES) {
+        size_t length = boe_frame_length(book + *at, end - *at);
+        if (length) return length;
+    }
+    return 0;
+}
+
+/* Hands the messages from a place on to the desk: a line each with type, unit and number. They are in the book, and the file is flushed. */
+static void hand_on(size_t at) {
+    for (size_t length; (length = next_message(&at)) != 0; at += length)
+        printf("%02X %u %lu\n", book[at + 4], book[at + 5], (unsigned long)number_at(book + at + 6));
+    if (fflush(stdout) != 0) fail("standard output");
+}
+
+static void write_messages(void) {
+    size_t at = 0;
+    for (size_t length; (length = next_message(&at)) != 0; at += length) fwrite(book + at, 1, length, stdout);
 }
 
 /* ---- the start */
@@ -82,47 +153,49 @@ static void open_file(const char *path, bool to_write) {
 /* Takes up the book of a date: restarts from what the file holds and cuts its torn tail off, or opens a new book where not even the first
  * mark is whole. The tail must go, and not only be written over: the next thing at its place may be shorter, and what then stuck out behind
  * it would make the next restart 18. Every other refusal is the caller's to end on: after a 17 the table would be last night's. */
-static unsigned take_up(uint32_t date) {
+static unsigned take_up(uint32_t date, const char *path) {
     size_t held = load();
-    unsigned refusal = boe_restart(date, book, held, state, sizeof state);
+    unsigned refusal = boe_restart(date, book, held, &state, sizeof state);
     if (refusal == BOE_NO_FIRST_MARK) {
-        refusal = boe_book_open(date, book, BOE_BOOK_MOST_BYTES, state, sizeof state);
+        refusal = boe_book_open(date, book, BOE_BOOK_MOST_BYTES, &state, sizeof state);
         if (refusal == 0) store(0);
-    } else if (refusal == 0 && book_length() < held) {
-        if (ftruncate(file, (off_t)book_length()) != 0) fail("cutting the book");
     }
-    if (refusal == 0 && fsync(file) != 0) fail("flushing the book");
-    return refusal;
+    if (refusal) return refusal;
+    if (book_length() < held && ftruncate(file, (off_t)book_length()) != 0) fail("cutting the book");
+    if (fsync(file) != 0) fail("flushing the book");
+    flush_directory(path);
+    return 0;
 }
 
 /* Writes the login of the table: all units with flag 1 and the last number of each, so that the venue replays what the book does not hold,
  * and nothing else. The names are those of the protocol's example. */
 static unsigned write_login(uint8_t *out, size_t out_len) {
-    uint8_t record[BOE_RECORD_LEN] = {0};
-    record[BOE_RECORD_TYPE_AT] = BOE_LOGIN_REQUEST;
-    memcpy(record + BOE_LOGIN_REQUEST_SESSION_SUB_ID_AT, "0001", 4);
-    memcpy(record + BOE_LOGIN_REQUEST_USERNAME_AT, "TEST", 4);
-    memcpy(record + BOE_LOGIN_REQUEST_PASSWORD_AT, "TESTING", 7);
-    record[BOE_LOGIN_REQUEST_NUMBER_OF_GROUPS_AT] = 1;
-    uint8_t *group = record + BOE_LOGIN_REQUEST_GROUPS_AT;
-    group[BOE_UNITS_GROUP_LENGTH_AT] = BOE_UNITS_GROUP_PAIRS_AT + UNITS * BOE_PAIR_LEN;
+    struct boe_record record = {{0}};
+    record.bytes[BOE_RECORD_TYPE_AT] = BOE_LOGIN_REQUEST;
+    memcpy(record.bytes + BOE_LOGIN_REQUEST_SESSION_SUB_ID_AT, "0001", 4);
+    memcpy(record.bytes + BOE_LOGIN_REQUEST_USERNAME_AT, "TEST", 4);
+    memcpy(record.bytes + BOE_LOGIN_REQUEST_PASSWORD_AT, "TESTING", 7);
+    record.bytes[BOE_LOGIN_REQUEST_NUMBER_OF_GROUPS_AT] = 1;
+    uint8_t *group = record.bytes + BOE_LOGIN_REQUEST_GROUPS_AT;
+    group[BOE_UNITS_GROUP_LENGTH_AT] = BOE_UNITS_GROUP_PAIRS_AT + BOE_UNITS * BOE_PAIR_LEN;
     group[BOE_UNITS_GROUP_TYPE_AT] = BOE_UNITS_GROUP;
     group[BOE_UNITS_GROUP_FLAG_AT] = 1;
-    group[BOE_UNITS_GROUP_NUMBER_OF_UNITS_AT] = UNITS;
-    for (unsigned i = 0; i < UNITS; i++) {
+    group[BOE_UNITS_GROUP_NUMBER_OF_UNITS_AT] = BOE_UNITS;
+    for (unsigned i = 0; i < BOE_UNITS; i++) {
         uint8_t *pair = group + BOE_UNITS_GROUP_PAIRS_AT + i * BOE_PAIR_LEN;
         pair[0] = (uint8_t)(i + 1);
-        memcpy(pair + 1, state + BOE_BOOK_TABLE_AT + 4 * i, 4);
+        memcpy(pair + 1, state.bytes + BOE_STATE_TABLE_AT + 4 * i, 4);
     }
-    return boe_write(BOE_FROM_MEMBER, record, sizeof record, out, out_len);
+    return boe_write(BOE_FROM_MEMBER, &record, sizeof record, out, out_len);
 }
 
+/* The login goes to a new file and to no other: what is there already, the book by another name say, is not written over. */
 static unsigned send_login(const char *path) {
-    uint8_t login[LONGEST_LOGIN];
+    uint8_t login[BOE_LOGIN_MOST_BYTES];
     unsigned refusal = write_login(login, sizeof login);
     if (refusal) return refusal;
     size_t length = boe_frame_length(login, sizeof login);
-    FILE *line = fopen(path, "wb");
+    FILE *line = fopen(path, "wbx");
     if (!line) fail(path);
     if (fwrite(login, 1, length, line) != length || fclose(line) != 0) fail("sending the login");
     return 0;
@@ -130,115 +203,158 @@ static unsigned send_login(const char *path) {
 
 /* ---- a session */
 
-/* What a whole message from the venue does: its refusal, or 0 where it is booked or passed over; `over` where it ends the session. A
- * message counts as taken once the file has it: what a gateway does with an execution comes after `store`. */
-static unsigned receive(const uint8_t *message, size_t length, bool *over) {
-    uint8_t record[BOE_RECORD_LEN];
-    unsigned refusal = boe_read(BOE_FROM_VENUE, message, length, record, sizeof record);
+/* Tells a status or reason of the venue's, which may be any byte, and its text. */
+static void tell_text(const char *what, uint8_t code, const uint8_t *text, int most) {
+    fprintf(stderr, "gateway: %s: %c: %.*s\n", what, code > ' ' && code <= '~' ? code : '?', most, (const char *)text);
+}
+
+/* A Login Response: the first alone is in phase. Only status A lets messages be booked; any other ends the session. */
+static unsigned respond(const struct boe_record *record, int *status) {
+    uint8_t answer = record->bytes[BOE_LOGIN_RESPONSE_STATUS_AT];
+    if (accepted) return BOE_OUT_OF_PHASE;
+    accepted = answer == 'A';
+    if (accepted) return 0;
+    tell_text("the venue rejects the login", answer, record->bytes + BOE_LOGIN_RESPONSE_TEXT_AT, BOE_LOGIN_RESPONSE_TEXT_LEN);
+    *status = LOGIN_REJECTED;
+    return 0;
+}
+
+/* What a whole message from the venue does: its refusal, or 0 where it is booked or passed over; the status where it ends the session. */
+static unsigned receive(const uint8_t *message, size_t length, int *status) {
+    struct boe_record record;
+    unsigned refusal = boe_read(BOE_FROM_VENUE, message, length, &record, sizeof record);
     if (refusal) return refusal;
-    switch (record[BOE_RECORD_TYPE_AT]) {
-    case BOE_ACKNOWLEDGMENT:
-    case BOE_EXECUTION: {
-        size_t from = book_length();
-        refusal = boe_book_append(state, sizeof state, message, length, book, BOE_BOOK_MOST_BYTES);
-        if (refusal == 0) store(from);
-        return refusal;
-    }
+    switch (record.bytes[BOE_RECORD_TYPE_AT]) {
     case BOE_LOGIN_RESPONSE:
-        *over = record[BOE_LOGIN_RESPONSE_STATUS_AT] != 'A';
-        return 0;
+        return respond(&record, status);
     case BOE_LOGOUT:
-        *over = true;
+        tell_text("Logout", record.bytes[BOE_LOGOUT_REASON_AT], record.bytes + BOE_LOGOUT_TEXT_AT, BOE_LOGOUT_TEXT_LEN);
+        *status = accepted ? 0 : LOG_IN_AGAIN;
         return 0;
+    case BOE_ACKNOWLEDGMENT:
+    case BOE_EXECUTION:
+        if (!accepted) return BOE_OUT_OF_PHASE;
+        return boe_book_append(message, length, book, BOE_BOOK_MOST_BYTES, &state, sizeof state);
     default: /* Replay Complete and heartbeats */
-        return 0;
+        return accepted ? 0 : BOE_OUT_OF_PHASE;
     }
 }
 
-/* Reads the venue's bytes until the session is over, by a Logout, a refused login or the end of the bytes. Answers 0, or the refusal after
- * which the line is of no use: 1 or 2, since the next message's start is not known, and 13, since every later message of the unit is a gap.
- * Other refusals are counted and passed over: a 14 is a message that is sent again, a 15 waits for a login that asks for what is missing. */
-static unsigned follow(void) {
-    uint8_t line[2 * LONGEST_MESSAGE];
+/* What is done about a refusal. A 14 is a message that is sent again, and passed over. Any other is told with its bytes, which the venue will
+ * ask for. After 1 and 2 the next message's start is not known, after 15 the replay of a new login brings what is missing: the line is
+ * broken. After 13 every later message of the unit is a gap, and no login helps. */
+static void judge(unsigned refusal, const uint8_t *bytes, size_t length, int *status) {
+    refused[refusal]++;
+    if (refusal == BOE_ALREADY_TAKEN) return;
+    fprintf(stderr, "gateway: refused: %u: ", refusal);
+    for (size_t i = 0; i < length; i++) fprintf(stderr, "%02X", bytes[i]);
+    fprintf(stderr, "\n");
+    if (refusal == BOE_BAD_START || refusal == BOE_BAD_LENGTH || refusal == BOE_GAP) *status = LOG_IN_AGAIN;
+    if (refusal == BOE_NO_ROOM) *status = BOE_NO_ROOM;
+}
+
+/* Works off the whole messages of what is held of the line, until one ends the session, and answers how many bytes they were. */
+static size_t work_off(const uint8_t *line, size_t held, int *status) {
+    size_t at = 0;
+    unsigned refusal = 0;
+    while (*status == GOES_ON && (refusal = boe_frame_refusal(line + at, held - at)) == 0) {
+        size_t length = boe_frame_length(line + at, held - at);
+        refusal = receive(line + at, length, status);
+        if (refusal) judge(refusal, line + at, length, status);
+        at += length;
+    }
+    if (*status == GOES_ON && refusal != BOE_INCOMPLETE) judge(refusal, line + at, held - at, status);
+    return at;
+}
+
+/* Follows the line until the session is over, and answers the exit status. What was booked is stored and flushed, then handed on. */
+static int follow(void) {
+    uint8_t line[2 * BOE_MESSAGE_MOST_BYTES];
     size_t held = 0;
-    for (;;) {
+    int status = GOES_ON;
+    while (status == GOES_ON) {
         ssize_t n = read(STDIN_FILENO, line + held, sizeof line - held);
         if (n < 0 && errno == EINTR) continue;
-        if (n < 0) fprintf(stderr, "gateway: the line has broken: %s\n", strerror(errno));
-        if (n <= 0) return 0;
+        if (n <= 0) {
+            fprintf(stderr, "gateway: the line has ended without a Logout%s%s\n", n < 0 ? ": " : "", n < 0 ? strerror(errno) : "");
+            return LOG_IN_AGAIN;
+        }
         held += (size_t)n;
-
-        size_t at = 0;
-        unsigned refusal;
-        while ((refusal = boe_frame_refusal(line + at, held - at)) == 0) {
-            size_t length = boe_frame_length(line + at, held - at);
-            bool over = false;
-            refusal = receive(line + at, length, &over);
-            if (refusal) refused[refusal]++;
-            if (refusal == BOE_NO_ROOM) return refusal;
-            if (over) return 0;
-            at += length;
-        }
-        if (refusal != BOE_INCOMPLETE) {
-            refused[refusal]++;
-            return refusal;
-        }
+        size_t from = book_length(), at = work_off(line, held, &status);
+        store(from);
+        hand_on(from);
         /* the rest is the front of a message, at most 2,047 bytes, so that there is always room for more */
         held -= at;
         memmove(line, line + at, held);
     }
+    return status;
 }
 
 /* The session's end: its mark, in the book and in the file. Where there is no room for a mark the length stays, and nothing is stored. */
 static void close_book(void) {
     size_t from = book_length();
-    boe_book_close(state, sizeof state, book, BOE_BOOK_MOST_BYTES);
+    boe_book_close(book, BOE_BOOK_MOST_BYTES, &state, sizeof state);
     store(from);
-    if (fsync(file) != 0) fail("flushing the book");
 }
 
 static void report(void) {
     unsigned long all = 0;
-    for (unsigned i = 0; i < REFUSALS; i++) all += refused[i];
-    printf("messages %lu length %zu refused %lu", (unsigned long)number_at(state + BOE_BOOK_MESSAGES_AT), book_length(), all);
-    for (unsigned i = 0; i < REFUSALS; i++)
+    for (unsigned i = 0; i <= BOE_REFUSALS; i++) all += refused[i];
+    printf("messages %lu length %zu refused %lu", (unsigned long)number_at(state.bytes + BOE_STATE_MESSAGES_AT), book_length(), all);
+    for (unsigned i = 0; i <= BOE_REFUSALS; i++)
         if (refused[i]) printf(" %u:%lu", i, refused[i]);
     printf("\n");
 }
 
-/* ---- the book's messages */
+/* ---- the program */
 
-/* Writes them without the marks. An application that has lost what it knew of its orders walks the book in the same way after a restart:
- * up to the good length every byte belongs to a whole message or a mark, and what framing does not take is a mark. */
-static void write_messages(void) {
-    size_t at = 0, end = book_length();
-    while (at < end) {
-        size_t length = boe_frame_length(book + at, end - at);
-        if (length) fwrite(book + at, 1, length, stdout);
-        at += length ? length : BOE_MARK_BYTES;
-    }
+/* A date is eight digits; no word is empty or starts with a hyphen. */
+static bool usable(char **words, int count) {
+    for (int i = 0; i < count; i++)
+        if (words[i][0] == 0 || words[i][0] == '-') return false;
+    return strlen(words[0]) == 8 && strspn(words[0], "0123456789") == 8;
+}
+
+/* A session on the book's file, from its restart to its mark: the exit status. */
+static int run(uint32_t date, const char *path, const char *login) {
+    struct stat there;
+    if (login && lstat(login, &there) == 0) fail_as(login, "there already, and not written over; a line is read with <");
+    open_file(path, true);
+    unsigned refusal = take_up(date, path);
+    if (refusal) return (int)refusal;
+    hand_on(0);
+    if (login) refusal = send_login(login);
+    int status = refusal ? (int)refusal : follow();
+    close_book();
+    report();
+    return status;
 }
 
 int main(int argc, char **argv) {
-    bool messages = argc == 4 && strcmp(argv[1], "--messages") == 0;
-    char **words = argv + 1 + messages, *rest = NULL;
-    unsigned long date = argc == 3 || argc == 4 ? strtoul(words[0], &rest, 10) : 0;
-    if (!rest || *rest || rest == words[0] || date > UINT32_MAX) {
-        fprintf(stderr, "usage: gateway DATE BOOKFILE [LOGIN] < STREAM\n       gateway --messages DATE BOOKFILE\n");
+    static const char usage[] = "usage: gateway DATE BOOKFILE [LOGIN] < LINE    DATE as YYYYMMDD, LOGIN a new file\n"
+                                "       gateway --messages DATE BOOKFILE\n";
+    keep_standard_streams();
+    bool help = argc == 2 && strcmp(argv[1], "--help") == 0, messages = argc == 4 && strcmp(argv[1], "--messages") == 0;
+    char **words = argv + 1 + messages;
+    int count = argc - 1 - messages, status = 0;
+    if (help) {
+        printf("%s", usage);
+    } else if (count < 2 || count > 3 || !usable(words, count)) {
+        fprintf(stderr, "%s", usage);
         return WRONG_USAGE;
-    }
-
-    open_file(words[1], !messages);
-    unsigned refusal = messages ? boe_restart((uint32_t)date, book, load(), state, sizeof state) : take_up((uint32_t)date);
-    if (refusal == 0 && messages) {
-        write_messages();
-    } else if (refusal == 0) {
-        if (words[2]) refusal = send_login(words[2]);
-        if (refusal == 0) refusal = follow();
-        close_book();
-        report();
+    } else {
+        /* what is no day is told before there is a file: a restart on no bytes is 19, or 22 */
+        uint32_t date = (uint32_t)strtoul(words[0], NULL, 10);
+        status = boe_restart(date, book, 0, &state, sizeof state);
+        if (status == BOE_NO_FIRST_MARK && messages) {
+            open_file(words[1], false);
+            status = boe_restart(date, book, load(), &state, sizeof state);
+            if (status == 0) write_messages();
+        } else if (status == BOE_NO_FIRST_MARK) {
+            status = run(date, words[1], words[2]);
+        }
     }
     if (fflush(stdout) != 0 || ferror(stdout)) fail("standard output");
-    if (refusal) fprintf(stderr, "gateway: refused: %u\n", refusal);
-    return (int)refusal;
+    if (status > 0 && status <= BOE_REFUSALS) fprintf(stderr, "gateway: ended by refusal %d\n", status);
+    return status;
 }

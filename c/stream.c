@@ -1,16 +1,16 @@
-/* Makes what a venue sends in one session, the same bytes each time from a seed: a Login Response, COUNT acknowledgments and executions of
+/* Makes what a venue sends on one line, the same bytes each time from a seed: a Login Response, COUNT acknowledgments and executions of
  * several units with any choice of optional fields, Replay Complete among them, and a Logout. Between them stand heartbeats and messages
- * that no book may take: old numbers with other bytes, gaps, and messages that the reader refuses. The messages that a book must hold are
- * written to a second file.
+ * that no book may take: old numbers with other bytes, and messages that the reader refuses. With GAP, after so many messages stands one more
+ * with a number that its unit has not reached. The messages that a book must hold are written to a second file.
  *
- * usage: stream SEED COUNT MESSAGES > STREAM */
+ * usage: stream SEED COUNT MESSAGES [GAP] > LINE */
 #include "boe.h"
 
 #include <stdio.h>
 #include <stdlib.h>
 #include <string.h>
 
-enum { UNITS = 9, GAP = 1000000, LONGEST = 2048 };
+enum { UNITS = 9, GAP = 1000000, LONGEST = BOE_MESSAGE_MOST_BYTES };
 
 static uint64_t seed;
 
@@ -43,10 +43,10 @@ static void fill(uint8_t *place, unsigned len, char kind) {
 }
 
 /* Writes the message of a record; what the writer refuses is a fault of this program. Answers the message's length. */
-static size_t written(const uint8_t *record, uint8_t *out) {
-    unsigned refusal = boe_write(BOE_FROM_VENUE, record, BOE_RECORD_LEN, out, LONGEST);
+static size_t written(const struct boe_record *record, uint8_t *out) {
+    unsigned refusal = boe_write(BOE_FROM_VENUE, record, sizeof *record, out, LONGEST);
     if (refusal) {
-        fprintf(stderr, "stream: a record of type %02X is refused: %u\n", record[BOE_RECORD_TYPE_AT], refusal);
+        fprintf(stderr, "stream: a record of type %02X is refused: %u\n", record->bytes[BOE_RECORD_TYPE_AT], refusal);
         exit(1);
     }
     return boe_frame_length(out, LONGEST);
@@ -54,7 +54,8 @@ static size_t written(const uint8_t *record, uint8_t *out) {
 
 /* An application message of a unit and number, all else by chance. */
 static size_t application(uint8_t unit, uint32_t number, uint8_t *out) {
-    uint8_t record[BOE_RECORD_LEN] = {0};
+    struct boe_record made = {{0}};
+    uint8_t *record = made.bytes;
     int execution = below(2);
     record[BOE_RECORD_TYPE_AT] = execution ? BOE_EXECUTION : BOE_ACKNOWLEDGMENT;
     record[BOE_RECORD_UNIT_AT] = unit;
@@ -76,12 +77,13 @@ static size_t application(uint8_t unit, uint32_t number, uint8_t *out) {
         if (count < f->byte) count = f->byte;
     }
     record[BOE_RECORD_COUNT_AT] = (uint8_t)count;
-    return written(record, out);
+    return written(&made, out);
 }
 
 /* A session message: a Login Response or Logout without units and groups, or one that is its header alone. */
 static size_t session(uint8_t type, uint8_t *out) {
-    uint8_t record[BOE_RECORD_LEN] = {0};
+    struct boe_record made = {{0}};
+    uint8_t *record = made.bytes;
     record[BOE_RECORD_TYPE_AT] = type;
     if (type == BOE_LOGIN_RESPONSE) {
         record[BOE_LOGIN_RESPONSE_STATUS_AT] = 'A';
@@ -89,17 +91,18 @@ static size_t session(uint8_t type, uint8_t *out) {
         record[BOE_LOGIN_RESPONSE_FLAG_AT] = 1;
     } else if (type == BOE_LOGOUT) {
         record[BOE_LOGOUT_REASON_AT] = 'U';
+        memcpy(record + BOE_LOGOUT_TEXT_AT, "User", 4);
     }
-    return written(record, out);
+    return written(&made, out);
 }
 
 int main(int argc, char **argv) {
-    if (argc != 4) {
-        fprintf(stderr, "usage: stream SEED COUNT MESSAGES > STREAM\n");
+    if (argc != 4 && argc != 5) {
+        fprintf(stderr, "usage: stream SEED COUNT MESSAGES [GAP] > LINE\n");
         return 2;
     }
     seed = strtoull(argv[1], NULL, 10) * 2 + 1; /* never 0, where xorshift would stay */
-    unsigned long count = strtoul(argv[2], NULL, 10);
+    unsigned long count = strtoul(argv[2], NULL, 10), gap = argc == 5 ? strtoul(argv[4], NULL, 10) : count;
     FILE *messages = fopen(argv[3], "wb");
     if (!messages) {
         perror("stream");
@@ -111,6 +114,8 @@ int main(int argc, char **argv) {
     uint32_t last[UNITS + 1] = {0};
     fwrite(out, 1, session(BOE_LOGIN_RESPONSE, out), stdout);
     for (unsigned long i = 0; i < count; i++) {
+        /* a number that the unit never reaches, since a later start with a fuller table would rightly take one that it does */
+        if (i == gap) fwrite(out, 1, application(1, last[1] + GAP, out), stdout);
         uint8_t unit = (uint8_t)(1 + below(UNITS));
         switch (below(16)) {
         case 0:
@@ -119,10 +124,7 @@ int main(int argc, char **argv) {
         case 1: /* an old number */
             fwrite(out, 1, application(unit, below(last[unit] + 1), out), stdout);
             break;
-        case 2: /* a gap: a number that the unit never reaches, since a later start with a fuller table would rightly take one that it does */
-            fwrite(out, 1, application(unit, last[unit] + GAP, out), stdout);
-            break;
-        case 3: { /* the unit's next number in a message of a wrong total, which the reader refuses */
+        case 2: { /* the unit's next number in a message of a wrong total, which the reader refuses */
             size_t length = application(unit, last[unit] + 1, out);
             out[2]++;
             if (out[2] == 0) out[3]++;

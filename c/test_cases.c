@@ -74,71 +74,73 @@ static void steps(void) {
     memset(table, 0, BOE_TABLE_BYTES);
     memset(table + BOE_TABLE_BYTES, 0x5A, 4);
     memcpy(before, table, sizeof table);
-    check(boe_table_step(table, sizeof table, 0, 1) == BOE_BAD_UNIT, "unit 0");
-    check(boe_table_step(table, sizeof table, 33, 1) == BOE_BAD_UNIT, "unit 33");
-    check(boe_table_step(table, 127, 33, 1) == BOE_BAD_UNIT, "5 comes before 13");
-    check(boe_table_step(table, 127, 1, 0) == BOE_NO_ROOM, "13 comes before 14");
-    check(boe_table_step(table, sizeof table, 32, 0) == BOE_ALREADY_TAKEN, "number 0");
-    check(boe_table_step(table, sizeof table, 32, 2) == BOE_GAP, "number 2 first");
+    check(boe_table_step(0, 1, table, sizeof table) == BOE_BAD_UNIT, "unit 0");
+    check(boe_table_step(33, 1, table, sizeof table) == BOE_BAD_UNIT, "unit 33");
+    check(boe_table_step(33, 1, table, 127) == BOE_BAD_UNIT, "5 comes before 13");
+    check(boe_table_step(1, 0, table, 127) == BOE_NO_ROOM, "13 comes before 14");
+    check(boe_table_step(32, 0, table, sizeof table) == BOE_ALREADY_TAKEN, "number 0");
+    check(boe_table_step(32, 2, table, sizeof table) == BOE_GAP, "number 2 first");
     check(memcmp(table, before, sizeof table) == 0, "refusals changed no byte");
-    check(boe_table_step(table, sizeof table, 32, 1) == 0, "number 1");
+    check(boe_table_step(32, 1, table, sizeof table) == 0, "number 1");
     check(entry(table, 32) == 1 && entry(table, 31) == 0, "unit 32 alone has risen");
-    check(boe_table_step(table, BOE_TABLE_BYTES, 32, 2) == 0, "number 2");
+    check(boe_table_step(32, 2, table, BOE_TABLE_BYTES) == 0, "number 2");
     check(entry(table, 32) == 2, "and again");
     check(memcmp(table + BOE_TABLE_BYTES, before + BOE_TABLE_BYTES, 4) == 0, "bytes past the table stay");
     memset(table, 0xFF, 4);
-    check(boe_table_step(table, sizeof table, 1, 0) == BOE_ALREADY_TAKEN, "a full entry takes nothing");
-    check(boe_table_step(table, sizeof table, 1, UINT32_MAX) == BOE_ALREADY_TAKEN, "not even its own number");
+    check(boe_table_step(1, 0, table, sizeof table) == BOE_ALREADY_TAKEN, "a full entry takes nothing");
+    check(boe_table_step(1, UINT32_MAX, table, sizeof table) == BOE_ALREADY_TAKEN, "not even its own number");
 }
 
 /* A message read and written again: the same bytes, and bytes after them untouched. */
 static void again(uint8_t direction, const uint8_t *message, size_t len) {
     uint8_t bytes[600], record[BOE_RECORD_LEN + 3], out[600];
+    struct boe_record *lent = (struct boe_record *)record;
     size_t own = record_len(message[4]);
     memcpy(bytes, message, len);
     memset(bytes + len, 0xEE, sizeof bytes - len);
     memset(record, 0x5A, sizeof record);
     memset(out, 0x5A, sizeof out);
-    check(boe_read(direction, bytes, sizeof bytes, record, sizeof record) == 0, "an example is read, whatever follows it");
+    check(boe_read(direction, bytes, sizeof bytes, lent, sizeof record) == 0, "an example is read, whatever follows it");
     check(all_are(record + own, sizeof record - own, 0x5A), "bytes past the record stay");
-    check(boe_write(direction, record, sizeof record, out, len) == 0, "its record is written into a buffer of its length");
+    check(boe_write(direction, lent, sizeof record, out, len) == 0, "its record is written into a buffer of its length");
     check(memcmp(out, message, len) == 0 && out[len] == 0x5A, "as the same bytes, and no byte more");
     memset(out, 0x5A, sizeof out);
-    check(boe_write(direction, record, BOE_RECORD_LEN, out, len - 1) == BOE_NO_ROOM, "one byte short");
-    check(boe_write(direction, record, BOE_RECORD_LEN - 1, out, len) == BOE_NO_ROOM, "a short record");
-    check(boe_write(direction, record, BOE_ORDER_RECORD_LEN, out, len) == BOE_NO_ROOM, "an order's record alone is short too");
-    check(boe_write((uint8_t)(1 - direction), record, sizeof record, out, len) == BOE_UNKNOWN_TYPE, "the other direction");
-    check(boe_write(2, record, sizeof record, out, len) == BOE_UNKNOWN_TYPE, "no direction");
+    check(boe_write(direction, lent, BOE_RECORD_LEN, out, len - 1) == BOE_NO_ROOM, "one byte short");
+    check(boe_write(direction, lent, BOE_RECORD_LEN - 1, out, len) == BOE_NO_ROOM, "a short record");
+    check(boe_write(direction, lent, BOE_ORDER_RECORD_LEN, out, len) == BOE_NO_ROOM, "an order's record alone is short too");
+    check(boe_write((uint8_t)(1 - direction), lent, sizeof record, out, len) == BOE_UNKNOWN_TYPE, "the other direction");
+    check(boe_write(2, lent, sizeof record, out, len) == BOE_UNKNOWN_TYPE, "no direction");
     check(all_are(out, sizeof out, 0x5A), "refusals stored nothing");
     memset(record, 0x5A, sizeof record);
-    check(boe_read(direction, bytes, len - 1, record, sizeof record) == BOE_INCOMPLETE, "a cut message");
-    check(boe_read((uint8_t)(1 - direction), bytes, len, record, sizeof record) == BOE_UNKNOWN_TYPE, "read in the other direction");
-    check(boe_read(255, bytes, len, record, sizeof record) == BOE_UNKNOWN_TYPE, "read in no direction");
-    check(boe_read(direction, bytes, len, record, BOE_RECORD_LEN - 1) == BOE_NO_ROOM, "a short buffer for the record");
-    check(boe_read(direction, bytes, len, record, BOE_ORDER_RECORD_LEN) == BOE_NO_ROOM, "room for an order's record alone");
-    check(boe_read(direction, bytes, 9, record, 0) == BOE_INCOMPLETE, "13 comes after the message's refusals");
+    check(boe_read(direction, bytes, len - 1, lent, sizeof record) == BOE_INCOMPLETE, "a cut message");
+    check(boe_read((uint8_t)(1 - direction), bytes, len, lent, sizeof record) == BOE_UNKNOWN_TYPE, "read in the other direction");
+    check(boe_read(255, bytes, len, lent, sizeof record) == BOE_UNKNOWN_TYPE, "read in no direction");
+    check(boe_read(direction, bytes, len, lent, BOE_RECORD_LEN - 1) == BOE_NO_ROOM, "a short buffer for the record");
+    check(boe_read(direction, bytes, len, lent, BOE_ORDER_RECORD_LEN) == BOE_NO_ROOM, "room for an order's record alone");
+    check(boe_read(direction, bytes, 9, lent, 0) == BOE_INCOMPLETE, "13 comes after the message's refusals");
     check(all_are(record, sizeof record, 0x5A), "refusals stored nothing");
 }
 
 static void messages(void) {
-    uint8_t record[BOE_RECORD_LEN], out[600];
+    struct boe_record record;
+    uint8_t out[600];
     again(BOE_FROM_MEMBER, new_order, sizeof new_order);
     again(BOE_FROM_MEMBER, cancel_order, sizeof cancel_order);
     again(BOE_FROM_VENUE, acknowledgment, sizeof acknowledgment);
     again(BOE_FROM_VENUE, execution, sizeof execution);
-    check(boe_read(BOE_FROM_MEMBER, new_order, sizeof new_order, record, sizeof record) == 0, "New Order");
-    check(record[BOE_RECORD_TYPE_AT] == BOE_NEW_ORDER && record[BOE_RECORD_COUNT_AT] == 3, "its type and count");
-    check(memcmp(record + BOE_NEW_ORDER_CL_ORD_ID_AT, new_order + 10, BOE_NEW_ORDER_CL_ORD_ID_LEN) == 0, "ClOrdID");
-    check(memcmp(record + BOE_NEW_ORDER_PRICE_AT, new_order + 39, BOE_NEW_ORDER_PRICE_LEN) == 0, "Price is at 39");
-    check(memcmp(record + BOE_NEW_ORDER_SYMBOL_AT, new_order + 47, BOE_NEW_ORDER_SYMBOL_LEN) == 0, "Symbol is at 47");
-    check(memcmp(record + BOE_NEW_ORDER_CAPACITY_AT, new_order + 55, BOE_NEW_ORDER_CAPACITY_LEN) == 0, "Capacity is at 55");
-    check(memcmp(record + BOE_NEW_ORDER_ROUTING_INST_AT, new_order + 56, BOE_NEW_ORDER_ROUTING_INST_LEN) == 0, "RoutingInst is at 56");
-    check(memcmp(record + BOE_NEW_ORDER_ACCOUNT_AT, new_order + 60, BOE_NEW_ORDER_ACCOUNT_LEN) == 0, "Account is at 60");
-    record[BOE_NEW_ORDER_STOP_PX_AT] = 1;
-    check(boe_write(BOE_FROM_MEMBER, record, sizeof record, out, sizeof out) == BOE_NOT_ZERO, "a field that is not selected");
-    record[BOE_NEW_ORDER_STOP_PX_AT] = 0;
-    record[BOE_RECORD_BITFIELDS_AT + BOE_NEW_ORDER_SYMBOL_BYTE - 1] &= (uint8_t)~BOE_NEW_ORDER_SYMBOL_BIT;
-    check(boe_write(BOE_FROM_MEMBER, record, sizeof record, out, sizeof out) == BOE_NOT_SELECTED, "Symbol is required");
+    check(boe_read(BOE_FROM_MEMBER, new_order, sizeof new_order, &record, sizeof record) == 0, "New Order");
+    check(record.bytes[BOE_RECORD_TYPE_AT] == BOE_NEW_ORDER && record.bytes[BOE_RECORD_COUNT_AT] == 3, "its type and count");
+    check(memcmp(record.bytes + BOE_NEW_ORDER_CL_ORD_ID_AT, new_order + 10, BOE_NEW_ORDER_CL_ORD_ID_LEN) == 0, "ClOrdID");
+    check(memcmp(record.bytes + BOE_NEW_ORDER_PRICE_AT, new_order + 39, BOE_NEW_ORDER_PRICE_LEN) == 0, "Price is at 39");
+    check(memcmp(record.bytes + BOE_NEW_ORDER_SYMBOL_AT, new_order + 47, BOE_NEW_ORDER_SYMBOL_LEN) == 0, "Symbol is at 47");
+    check(memcmp(record.bytes + BOE_NEW_ORDER_CAPACITY_AT, new_order + 55, BOE_NEW_ORDER_CAPACITY_LEN) == 0, "Capacity is at 55");
+    check(memcmp(record.bytes + BOE_NEW_ORDER_ROUTING_INST_AT, new_order + 56, BOE_NEW_ORDER_ROUTING_INST_LEN) == 0, "RoutingInst is at 56");
+    check(memcmp(record.bytes + BOE_NEW_ORDER_ACCOUNT_AT, new_order + 60, BOE_NEW_ORDER_ACCOUNT_LEN) == 0, "Account is at 60");
+    record.bytes[BOE_NEW_ORDER_STOP_PX_AT] = 1;
+    check(boe_write(BOE_FROM_MEMBER, &record, sizeof record, out, sizeof out) == BOE_NOT_ZERO, "a field that is not selected");
+    record.bytes[BOE_NEW_ORDER_STOP_PX_AT] = 0;
+    record.bytes[BOE_RECORD_BITFIELDS_AT + BOE_NEW_ORDER_SYMBOL_BYTE - 1] &= (uint8_t)~BOE_NEW_ORDER_SYMBOL_BIT;
+    check(boe_write(BOE_FROM_MEMBER, &record, sizeof record, out, sizeof out) == BOE_NOT_SELECTED, "Symbol is required");
 }
 
 /* The body of a session message stands in its record as on the wire, with zeros after it. */
@@ -150,16 +152,17 @@ static void same_body(const uint8_t *record, const uint8_t *message, size_t len)
 }
 
 static void logins(void) {
-    uint8_t record[BOE_RECORD_LEN], out[600], bytes[600];
-    const uint8_t *group = record + BOE_LOGIN_REQUEST_GROUPS_AT;
+    struct boe_record record;
+    uint8_t out[600], bytes[600];
+    const uint8_t *group = record.bytes + BOE_LOGIN_REQUEST_GROUPS_AT;
     again(BOE_FROM_MEMBER, login, sizeof login);
     again(BOE_FROM_MEMBER, options_login, sizeof options_login);
-    check(boe_read(BOE_FROM_MEMBER, options_login, sizeof options_login, record, sizeof record) == 0, "002's login");
-    same_body(record, options_login, sizeof options_login);
-    check(memcmp(record + BOE_LOGIN_REQUEST_SESSION_SUB_ID_AT, "0001", BOE_LOGIN_REQUEST_SESSION_SUB_ID_LEN) == 0, "SessionSubID");
-    check(memcmp(record + BOE_LOGIN_REQUEST_USERNAME_AT, "TEST", BOE_LOGIN_REQUEST_USERNAME_LEN) == 0, "Username");
-    check(memcmp(record + BOE_LOGIN_REQUEST_PASSWORD_AT, "TESTING\0\0", BOE_LOGIN_REQUEST_PASSWORD_LEN) == 0, "Password");
-    check(record[BOE_LOGIN_REQUEST_NUMBER_OF_GROUPS_AT] == 3, "three groups");
+    check(boe_read(BOE_FROM_MEMBER, options_login, sizeof options_login, &record, sizeof record) == 0, "002's login");
+    same_body(record.bytes, options_login, sizeof options_login);
+    check(memcmp(record.bytes + BOE_LOGIN_REQUEST_SESSION_SUB_ID_AT, "0001", BOE_LOGIN_REQUEST_SESSION_SUB_ID_LEN) == 0, "SessionSubID");
+    check(memcmp(record.bytes + BOE_LOGIN_REQUEST_USERNAME_AT, "TEST", BOE_LOGIN_REQUEST_USERNAME_LEN) == 0, "Username");
+    check(memcmp(record.bytes + BOE_LOGIN_REQUEST_PASSWORD_AT, "TESTING\0\0", BOE_LOGIN_REQUEST_PASSWORD_LEN) == 0, "Password");
+    check(record.bytes[BOE_LOGIN_REQUEST_NUMBER_OF_GROUPS_AT] == 3, "three groups");
     check(group[BOE_UNITS_GROUP_LENGTH_AT] == 15 && group[BOE_UNITS_GROUP_TYPE_AT] == BOE_UNITS_GROUP, "the first has units");
     check(group[BOE_UNITS_GROUP_FLAG_AT] == 1 && group[BOE_UNITS_GROUP_NUMBER_OF_UNITS_AT] == 2, "flag 1, two of them");
     check(group[BOE_UNITS_GROUP_PAIRS_AT] == 1 && number_at(group + BOE_UNITS_GROUP_PAIRS_AT + 1) == 113482, "unit 1 at 113,482");
@@ -168,61 +171,62 @@ static void logins(void) {
     check(group[BOE_BITFIELDS_GROUP_MESSAGE_TYPE_AT] == BOE_ACKNOWLEDGMENT && group[BOE_BITFIELDS_GROUP_COUNT_AT] == 3, "three for 25");
     check(group[BOE_BITFIELDS_GROUP_BITFIELDS_AT + 1] == 0x41, "its second bitfield");
     memset(out, 0x5A, sizeof out);
-    record[BOE_LOGIN_REQUEST_GROUPS_AT + BOE_UNITS_GROUP_FLAG_AT] = 2;
-    check(boe_write(BOE_FROM_MEMBER, record, sizeof record, out, sizeof out) == BOE_BAD_GROUP, "flag 2");
-    record[BOE_LOGIN_REQUEST_PASSWORD_AT] = ' ';
-    check(boe_write(BOE_FROM_MEMBER, record, sizeof record, out, sizeof out) == BOE_BAD_VALUE, "10 comes before 11");
-    record[BOE_RECORD_NUMBER_AT] = 1;
-    check(boe_write(BOE_FROM_MEMBER, record, sizeof record, out, sizeof out) == BOE_BAD_UNIT, "5 comes before 10");
-    check(boe_read(BOE_FROM_MEMBER, login, sizeof login, record, sizeof record) == 0, "000's login");
-    record[BOE_RECORD_LEN - 1] = 1;
-    check(boe_write(BOE_FROM_MEMBER, record, sizeof record, out, sizeof out) == BOE_BAD_GROUP, "a byte after the last group");
+    record.bytes[BOE_LOGIN_REQUEST_GROUPS_AT + BOE_UNITS_GROUP_FLAG_AT] = 2;
+    check(boe_write(BOE_FROM_MEMBER, &record, sizeof record, out, sizeof out) == BOE_BAD_GROUP, "flag 2");
+    record.bytes[BOE_LOGIN_REQUEST_PASSWORD_AT] = ' ';
+    check(boe_write(BOE_FROM_MEMBER, &record, sizeof record, out, sizeof out) == BOE_BAD_VALUE, "10 comes before 11");
+    record.bytes[BOE_RECORD_NUMBER_AT] = 1;
+    check(boe_write(BOE_FROM_MEMBER, &record, sizeof record, out, sizeof out) == BOE_BAD_UNIT, "5 comes before 10");
+    check(boe_read(BOE_FROM_MEMBER, login, sizeof login, &record, sizeof record) == 0, "000's login");
+    record.bytes[BOE_RECORD_LEN - 1] = 1;
+    check(boe_write(BOE_FROM_MEMBER, &record, sizeof record, out, sizeof out) == BOE_BAD_GROUP, "a byte after the last group");
     check(all_are(out, sizeof out, 0x5A), "refusals stored nothing");
 
     again(BOE_FROM_VENUE, login_response, sizeof login_response);
-    check(boe_read(BOE_FROM_VENUE, login_response, sizeof login_response, record, sizeof record) == 0, "Login Response");
-    same_body(record, login_response, sizeof login_response);
-    check(record[BOE_LOGIN_RESPONSE_STATUS_AT] == 'A' && record[BOE_LOGIN_RESPONSE_FLAG_AT] == 1, "its status and flag");
-    check(memcmp(record + BOE_LOGIN_RESPONSE_TEXT_AT, "Accepted", 9) == 0, "its text");
-    check(number_at(record + BOE_LOGIN_RESPONSE_LAST_RECEIVED_NUMBER_AT) == 150100, "its last received number");
-    check(record[BOE_LOGIN_RESPONSE_NUMBER_OF_UNITS_AT] == 4, "four units");
-    check(record[BOE_LOGIN_RESPONSE_PAIRS_AT + 3 * BOE_PAIR_LEN] == 4, "the last is unit 4");
-    check(number_at(record + BOE_LOGIN_RESPONSE_PAIRS_AT + 3 * BOE_PAIR_LEN + 1) == 41337, "at 41,337");
-    check(record[BOE_LOGIN_RESPONSE_PAIRS_AT + 4 * BOE_PAIR_LEN] == 3, "three groups");
+    check(boe_read(BOE_FROM_VENUE, login_response, sizeof login_response, &record, sizeof record) == 0, "Login Response");
+    same_body(record.bytes, login_response, sizeof login_response);
+    check(record.bytes[BOE_LOGIN_RESPONSE_STATUS_AT] == 'A' && record.bytes[BOE_LOGIN_RESPONSE_FLAG_AT] == 1, "its status and flag");
+    check(memcmp(record.bytes + BOE_LOGIN_RESPONSE_TEXT_AT, "Accepted", 9) == 0, "its text");
+    check(number_at(record.bytes + BOE_LOGIN_RESPONSE_LAST_RECEIVED_NUMBER_AT) == 150100, "its last received number");
+    check(record.bytes[BOE_LOGIN_RESPONSE_NUMBER_OF_UNITS_AT] == 4, "four units");
+    check(record.bytes[BOE_LOGIN_RESPONSE_PAIRS_AT + 3 * BOE_PAIR_LEN] == 4, "the last is unit 4");
+    check(number_at(record.bytes + BOE_LOGIN_RESPONSE_PAIRS_AT + 3 * BOE_PAIR_LEN + 1) == 41337, "at 41,337");
+    check(record.bytes[BOE_LOGIN_RESPONSE_PAIRS_AT + 4 * BOE_PAIR_LEN] == 3, "three groups");
     memcpy(bytes, login_response, sizeof login_response);
     bytes[87] = bytes[92] = 2;
-    memset(record, 0x5A, sizeof record);
-    check(boe_read(BOE_FROM_VENUE, bytes, sizeof login_response, record, sizeof record) == BOE_BAD_GROUP, "000's bytes: unit 2 three times");
-    check(boe_read(BOE_FROM_VENUE, bytes, sizeof login_response, record, 0) == BOE_BAD_GROUP, "11 comes before 13");
+    memset(&record, 0x5A, sizeof record);
+    check(boe_read(BOE_FROM_VENUE, bytes, sizeof login_response, &record, sizeof record) == BOE_BAD_GROUP, "000's bytes: unit 2 three times");
+    check(boe_read(BOE_FROM_VENUE, bytes, sizeof login_response, &record, 0) == BOE_BAD_GROUP, "11 comes before 13");
 
     again(BOE_FROM_VENUE, logout, sizeof logout);
     memcpy(bytes, logout, sizeof logout);
     bytes[2] = 0x55;
-    check(boe_read(BOE_FROM_VENUE, bytes, sizeof logout, record, sizeof record) == BOE_BAD_GROUP, "000's length: the pairs do not fit");
-    check(all_are(record, sizeof record, 0x5A), "refusals stored nothing");
+    check(boe_read(BOE_FROM_VENUE, bytes, sizeof logout, &record, sizeof record) == BOE_BAD_GROUP, "000's length: the pairs do not fit");
+    check(all_are(record.bytes, sizeof record, 0x5A), "refusals stored nothing");
     bytes[2] = 0x59;
     bytes[10] = '!';
-    check(boe_read(BOE_FROM_VENUE, bytes, sizeof logout, record, sizeof record) == 0, "the reason of a protocol violation");
-    same_body(record, bytes, sizeof logout);
-    check(record[BOE_LOGOUT_REASON_AT] == '!' && memcmp(record + BOE_LOGOUT_TEXT_AT, "User", 5) == 0, "reason and text");
-    check(number_at(record + BOE_LOGOUT_LAST_RECEIVED_NUMBER_AT) == 154196, "its last received number");
-    check(record[BOE_LOGOUT_NUMBER_OF_UNITS_AT] == 3 && record[BOE_LOGOUT_PAIRS_AT + 2 * BOE_PAIR_LEN] == 4, "three units, the last 4");
+    check(boe_read(BOE_FROM_VENUE, bytes, sizeof logout, &record, sizeof record) == 0, "the reason of a protocol violation");
+    same_body(record.bytes, bytes, sizeof logout);
+    check(record.bytes[BOE_LOGOUT_REASON_AT] == '!' && memcmp(record.bytes + BOE_LOGOUT_TEXT_AT, "User", 5) == 0, "reason and text");
+    check(number_at(record.bytes + BOE_LOGOUT_LAST_RECEIVED_NUMBER_AT) == 154196, "its last received number");
+    check(record.bytes[BOE_LOGOUT_NUMBER_OF_UNITS_AT] == 3 && record.bytes[BOE_LOGOUT_PAIRS_AT + 2 * BOE_PAIR_LEN] == 4, "three units, the last 4");
 }
 
 static void header_alone(uint8_t direction, const uint8_t *message) {
-    uint8_t record[BOE_RECORD_LEN], out[10], bytes[11];
+    struct boe_record record;
+    uint8_t out[10], bytes[11];
     again(direction, message, 10);
-    check(boe_read(direction, message, 10, record, sizeof record) == 0, "a message that is its header alone");
-    same_body(record, message, 10);
-    record[BOE_RECORD_LEN - 1] = 1;
-    check(boe_write(direction, record, sizeof record, out, sizeof out) == BOE_NOT_ZERO, "it has no body");
-    check(boe_write(direction, record, sizeof record, out, 0) == BOE_NOT_ZERO, "12 comes before 13");
+    check(boe_read(direction, message, 10, &record, sizeof record) == 0, "a message that is its header alone");
+    same_body(record.bytes, message, 10);
+    record.bytes[BOE_RECORD_LEN - 1] = 1;
+    check(boe_write(direction, &record, sizeof record, out, sizeof out) == BOE_NOT_ZERO, "it has no body");
+    check(boe_write(direction, &record, sizeof record, out, 0) == BOE_NOT_ZERO, "12 comes before 13");
     memcpy(bytes, message, 10);
     bytes[2] = 9;
     bytes[10] = 0;
-    check(boe_read(direction, bytes, sizeof bytes, record, sizeof record) == BOE_WRONG_TOTAL, "a byte more");
+    check(boe_read(direction, bytes, sizeof bytes, &record, sizeof record) == BOE_WRONG_TOTAL, "a byte more");
     bytes[5] = 1;
-    check(boe_read(direction, bytes, sizeof bytes, record, sizeof record) == BOE_BAD_UNIT, "5 comes before 6");
+    check(boe_read(direction, bytes, sizeof bytes, &record, sizeof record) == BOE_BAD_UNIT, "5 comes before 6");
 }
 
 static int same_bytes(const uint8_t *a, const uint8_t *b, size_t n) { return memcmp(a, b, n) == 0; }
@@ -230,69 +234,116 @@ static int same_bytes(const uint8_t *a, const uint8_t *b, size_t n) { return mem
 /* The day book: the first acknowledgment taken, marks, restart, and each refusal's place and that it changes nothing. */
 static void books(void) {
     enum { DATE = 20250819, ROOM = 16 + sizeof acknowledgment + 16 };
-    uint8_t buffer[ROOM], state[BOE_BOOK_BYTES + 4], restarted[sizeof state], held[ROOM], kept[sizeof state];
+    uint8_t buffer[ROOM], state[BOE_STATE_BYTES + 4], restarted[sizeof state], held[ROOM], kept[sizeof state];
     uint8_t message[sizeof acknowledgment + 3];
+    struct boe_state *lent = (struct boe_state *)state, *again = (struct boe_state *)restarted;
     memset(buffer, 0x5A, sizeof buffer);
     memset(state, 0x5A, sizeof state);
-    check(boe_book_open(20250229, buffer, 0, state, 0) == BOE_NOT_A_DAY, "19 comes before 13");
-    check(boe_book_open(DATE, buffer, BOE_MARK_BYTES - 1, state, sizeof state) == BOE_NO_ROOM, "no room for the first mark");
-    check(boe_book_open(DATE, buffer, sizeof buffer, state, BOE_BOOK_BYTES - 1) == BOE_NO_ROOM, "a short state");
+    check(boe_book_open(20250229, buffer, 0, lent, 0) == BOE_NOT_A_DAY, "19 comes before 13");
+    check(boe_book_open(DATE, buffer, BOE_MARK_BYTES - 1, lent, sizeof state) == BOE_NO_ROOM, "no room for the first mark");
+    check(boe_book_open(DATE, buffer, sizeof buffer, lent, BOE_STATE_BYTES - 1) == BOE_NO_ROOM, "a short state");
     check(all_are(buffer, sizeof buffer, 0x5A) && all_are(state, sizeof state, 0x5A), "refusals stored nothing");
-    check(boe_book_open(DATE, buffer, BOE_MARK_BYTES, state, BOE_BOOK_BYTES) == 0, "a book is opened");
+    check(boe_book_open(DATE, buffer, BOE_MARK_BYTES, lent, BOE_STATE_BYTES) == 0, "a book is opened");
     check(all_are(buffer, 4, 0) && number_at(buffer + 4) == DATE && all_are(buffer + 8, 8, 0), "its first mark");
     check(all_are(buffer + 16, sizeof buffer - 16, 0x5A), "and no byte more");
-    check(all_are(state + BOE_BOOK_TABLE_AT, BOE_TABLE_BYTES, 0) && number_at(state + BOE_BOOK_DATE_AT) == DATE, "its table and date");
-    check(number_at(state + BOE_BOOK_LENGTH_AT) == 16 && all_are(state + BOE_BOOK_LAST_MARK_AT, 8, 0), "its length, mark and messages");
-    check(all_are(state + BOE_BOOK_BYTES, 4, 0x5A), "bytes past the state stay");
+    check(all_are(state + BOE_STATE_TABLE_AT, BOE_TABLE_BYTES, 0) && number_at(state + BOE_STATE_DATE_AT) == DATE, "its table and date");
+    check(number_at(state + BOE_STATE_LENGTH_AT) == 16 && all_are(state + BOE_STATE_LAST_MARK_AT, 8, 0), "its length, mark and messages");
+    check(all_are(state + BOE_STATE_BYTES, 4, 0x5A), "bytes past the state stay");
 
     memcpy(message, acknowledgment, sizeof acknowledgment);
     memset(message + sizeof acknowledgment, 0x5A, 3);
     memset(message + 6, 0, 4);
     memcpy(held, buffer, sizeof buffer);
     memcpy(kept, state, sizeof state);
-    check(boe_book_append(state, BOE_BOOK_BYTES - 1, message, 0, buffer, sizeof buffer) == BOE_NO_ROOM, "13 for a short state comes first");
-    check(boe_book_append(state, sizeof state, message, 9, buffer, 0) == BOE_INCOMPLETE, "a cut message");
-    check(boe_book_append(state, sizeof state, server_heartbeat, 10, buffer, 0) == BOE_UNKNOWN_TYPE, "a session message");
-    check(boe_book_append(state, sizeof state, message, sizeof message, buffer, 0) == BOE_ALREADY_TAKEN, "number 0");
+    check(boe_book_append(message, 0, buffer, sizeof buffer, lent, BOE_STATE_BYTES - 1) == BOE_NO_ROOM, "13 for a short state comes first");
+    check(boe_book_append(message, 9, buffer, 0, lent, sizeof state) == BOE_INCOMPLETE, "a cut message");
+    check(boe_book_append(server_heartbeat, 10, buffer, 0, lent, sizeof state) == BOE_UNKNOWN_TYPE, "a session message");
+    check(boe_book_append(message, sizeof message, buffer, 0, lent, sizeof state) == BOE_ALREADY_TAKEN, "number 0");
     message[6] = 2;
-    check(boe_book_append(state, sizeof state, message, sizeof message, buffer, 0) == BOE_GAP, "number 2, and 15 comes before 13");
+    check(boe_book_append(message, sizeof message, buffer, 0, lent, sizeof state) == BOE_GAP, "number 2, and 15 comes before 13");
     message[6] = 1;
-    check(boe_book_append(state, sizeof state, message, sizeof message, buffer, 15 + sizeof acknowledgment) == BOE_NO_ROOM, "one byte short");
-    check(boe_book_close(state, BOE_BOOK_BYTES - 1, buffer, sizeof buffer) == BOE_NO_ROOM, "closing with a short state");
-    check(boe_book_close(state, sizeof state, buffer, 31) == 0, "a mark without room");
+    check(boe_book_append(message, sizeof message, buffer, 15 + sizeof acknowledgment, lent, sizeof state) == BOE_NO_ROOM, "one byte short");
+    check(boe_book_close(buffer, sizeof buffer, lent, BOE_STATE_BYTES - 1) == BOE_NO_ROOM, "closing with a short state");
+    check(boe_book_close(buffer, 31, lent, sizeof state) == 0, "a mark without room");
     check(same_bytes(buffer, held, sizeof buffer) && same_bytes(state, kept, sizeof state), "changed nothing");
 
-    check(boe_book_append(state, sizeof state, message, sizeof message, buffer, sizeof buffer) == 0, "the first message of its unit");
+    check(boe_book_append(message, sizeof message, buffer, sizeof buffer, lent, sizeof state) == 0, "the first message of its unit");
     check(same_bytes(buffer + 16, message, sizeof acknowledgment) && all_are(buffer + ROOM - 16, 16, 0x5A), "its bytes, and no byte more");
-    check(entry(state, message[5]) == 1 && number_at(state + BOE_BOOK_MESSAGES_AT) == 1, "the table and the messages");
-    check(number_at(state + BOE_BOOK_LENGTH_AT) == ROOM - 16, "the length");
-    check(boe_book_append(state, sizeof state, message, sizeof message, buffer, sizeof buffer) == BOE_ALREADY_TAKEN, "a message is taken once");
-    check(boe_book_close(state, sizeof state, buffer, sizeof buffer) == 0, "the mark at a session's end");
+    check(entry(state, message[5]) == 1 && number_at(state + BOE_STATE_MESSAGES_AT) == 1, "the table and the messages");
+    check(number_at(state + BOE_STATE_LENGTH_AT) == ROOM - 16, "the length");
+    check(boe_book_append(message, sizeof message, buffer, sizeof buffer, lent, sizeof state) == BOE_ALREADY_TAKEN, "a message is taken once");
+    check(boe_book_close(buffer, sizeof buffer, lent, sizeof state) == 0, "the mark at a session's end");
     check(number_at(buffer + ROOM - 8) == 1 && number_at(buffer + ROOM - 4) == ROOM - 16, "its messages and its way back");
-    check(number_at(state + BOE_BOOK_LAST_MARK_AT) == ROOM - 16 && number_at(state + BOE_BOOK_LENGTH_AT) == ROOM, "the last mark");
+    check(number_at(state + BOE_STATE_LAST_MARK_AT) == ROOM - 16 && number_at(state + BOE_STATE_LENGTH_AT) == ROOM, "the last mark");
 
     memset(restarted, 0x5A, sizeof restarted);
-    check(boe_restart(DATE, buffer, sizeof buffer, restarted, BOE_BOOK_BYTES - 1) == BOE_NO_ROOM, "restart with a short state");
-    check(boe_restart(20250229, buffer, 0, restarted, 0) == BOE_NOT_A_DAY, "no day");
-    check(boe_restart(DATE, buffer, 15, restarted, 0) == BOE_NO_FIRST_MARK, "22 comes before 13");
-    check(boe_restart(DATE + 1, buffer, sizeof buffer, restarted, 0) == BOE_OTHER_DATE, "17 comes before 13");
+    check(boe_restart(DATE, buffer, sizeof buffer, again, BOE_STATE_BYTES - 1) == BOE_NO_ROOM, "restart with a short state");
+    check(boe_restart(20250229, buffer, 0, again, 0) == BOE_NOT_A_DAY, "no day");
+    check(boe_restart(DATE, buffer, 15, again, 0) == BOE_NO_FIRST_MARK, "22 comes before 13");
+    check(boe_restart(DATE + 1, buffer, sizeof buffer, again, 0) == BOE_OTHER_DATE, "17 comes before 13");
     buffer[ROOM - 8] = 2;
-    check(boe_restart(DATE, buffer, sizeof buffer, restarted, 0) == BOE_BAD_BOOK, "18 comes before 13");
+    check(boe_restart(DATE, buffer, sizeof buffer, again, 0) == BOE_BAD_BOOK, "18 comes before 13");
     buffer[ROOM - 8] = 1;
     check(all_are(restarted, sizeof restarted, 0x5A), "refusals stored nothing");
-    check(boe_restart(DATE, buffer, sizeof buffer, restarted, sizeof restarted) == 0, "restart");
+    check(boe_restart(DATE, buffer, sizeof buffer, again, sizeof restarted) == 0, "restart");
     check(same_bytes(restarted, state, sizeof state), "answers the state that the book was left in");
-    check(boe_restart(DATE, buffer, sizeof buffer - 1, restarted, BOE_BOOK_BYTES) == 0, "restart on a torn mark");
-    check(number_at(restarted + BOE_BOOK_LENGTH_AT) == ROOM - 16 && all_are(restarted + BOE_BOOK_LAST_MARK_AT, 4, 0), "answers the book without it");
+    check(boe_restart(DATE, buffer, sizeof buffer - 1, again, BOE_STATE_BYTES) == 0, "restart on a torn mark");
+    check(number_at(restarted + BOE_STATE_LENGTH_AT) == ROOM - 16 && all_are(restarted + BOE_STATE_LAST_MARK_AT, 4, 0), "answers the book without it");
 
     memset(state, 0xFF, sizeof state);
     memcpy(held, buffer, sizeof buffer);
-    check(boe_book_append(state, sizeof state, message, sizeof message, buffer, sizeof buffer) == BOE_ALREADY_TAKEN, "a state of FF has every number");
+    check(boe_book_append(message, sizeof message, buffer, sizeof buffer, lent, sizeof state) == BOE_ALREADY_TAKEN, "a state of FF has every number");
     memset(state, 0, BOE_TABLE_BYTES);
-    check(boe_book_append(state, sizeof state, message, sizeof message, buffer, sizeof buffer) == BOE_NO_ROOM, "and no room");
+    check(boe_book_append(message, sizeof message, buffer, sizeof buffer, lent, sizeof state) == BOE_NO_ROOM, "and no room");
     memcpy(kept, state, sizeof state);
-    check(boe_book_close(state, sizeof state, buffer, sizeof buffer) == 0, "nor room for a mark");
+    check(boe_book_close(buffer, sizeof buffer, lent, sizeof state) == 0, "nor room for a mark");
     check(same_bytes(buffer, held, sizeof buffer) && same_bytes(state, kept, sizeof state), "changed nothing");
+}
+
+/* A group of all units and a group of 15 bitfields for each message type: what a login has at most. Answers their bytes. */
+static size_t most_groups(uint8_t *at) {
+    uint8_t *group = at;
+    group[BOE_UNITS_GROUP_LENGTH_AT] = BOE_UNITS_GROUP_PAIRS_AT + BOE_UNITS * BOE_PAIR_LEN;
+    group[BOE_UNITS_GROUP_TYPE_AT] = BOE_UNITS_GROUP;
+    group[BOE_UNITS_GROUP_NUMBER_OF_UNITS_AT] = BOE_UNITS;
+    for (unsigned i = 0; i < BOE_UNITS; i++) group[BOE_UNITS_GROUP_PAIRS_AT + i * BOE_PAIR_LEN] = (uint8_t)(i + 1);
+    group += BOE_UNITS_GROUP_PAIRS_AT + BOE_UNITS * BOE_PAIR_LEN;
+    for (unsigned i = 0; i < 2; i++) {
+        group[BOE_BITFIELDS_GROUP_LENGTH_AT] = BOE_BITFIELDS_GROUP_BITFIELDS_AT + 15;
+        group[BOE_BITFIELDS_GROUP_TYPE_AT] = BOE_BITFIELDS_GROUP;
+        group[BOE_BITFIELDS_GROUP_MESSAGE_TYPE_AT] = i ? BOE_EXECUTION : BOE_ACKNOWLEDGMENT;
+        group[BOE_BITFIELDS_GROUP_COUNT_AT] = 15;
+        group += BOE_BITFIELDS_GROUP_BITFIELDS_AT + 15;
+    }
+    return (size_t)(group - at);
+}
+
+/* The constants for a caller's buffers: each is enough, and a byte less is not. */
+static void most(void) {
+    uint8_t out[BOE_MESSAGE_MOST_BYTES] = {0xBA, 0xBA, (BOE_MESSAGE_MOST_BYTES - 2) % 256, (BOE_MESSAGE_MOST_BYTES - 2) / 256};
+    check(boe_frame_length(out, sizeof out) == BOE_MESSAGE_MOST_BYTES, "the longest message");
+    out[2]++;
+    check(boe_frame_refusal(out, sizeof out) == BOE_BAD_LENGTH, "one byte longer");
+    check(BOE_TABLE_BYTES == 4 * BOE_UNITS && BOE_REFUSALS == BOE_NO_FIRST_MARK, "units and refusals");
+
+    struct boe_record record = {{0}};
+    record.bytes[BOE_RECORD_TYPE_AT] = BOE_LOGIN_REQUEST;
+    memcpy(record.bytes + BOE_LOGIN_REQUEST_SESSION_SUB_ID_AT, "0001TESTTESTING", 15);
+    record.bytes[BOE_LOGIN_REQUEST_NUMBER_OF_GROUPS_AT] = 3;
+    most_groups(record.bytes + BOE_LOGIN_REQUEST_GROUPS_AT);
+    check(boe_write(BOE_FROM_MEMBER, &record, sizeof record, out, BOE_LOGIN_MOST_BYTES - 1) == BOE_NO_ROOM, "the longest login, one byte short");
+    check(boe_write(BOE_FROM_MEMBER, &record, sizeof record, out, BOE_LOGIN_MOST_BYTES) == 0, "the longest login");
+
+    memset(&record, 0, sizeof record);
+    record.bytes[BOE_RECORD_TYPE_AT] = BOE_LOGIN_RESPONSE;
+    record.bytes[BOE_LOGIN_RESPONSE_STATUS_AT] = 'A';
+    record.bytes[BOE_LOGIN_RESPONSE_NUMBER_OF_UNITS_AT] = BOE_UNITS;
+    uint8_t *pairs = record.bytes + BOE_LOGIN_RESPONSE_PAIRS_AT, *groups = pairs + BOE_UNITS * BOE_PAIR_LEN;
+    for (unsigned i = 0; i < BOE_UNITS; i++) pairs[i * BOE_PAIR_LEN] = (uint8_t)(i + 1);
+    *groups = 3;
+    check(groups + 1 + most_groups(groups + 1) == record.bytes + BOE_RECORD_LEN, "the longest response fills its record");
+    check(boe_write(BOE_FROM_VENUE, &record, sizeof record, out, BOE_WRITTEN_MOST_BYTES - 1) == BOE_NO_ROOM, "it, one byte short");
+    check(boe_write(BOE_FROM_VENUE, &record, sizeof record, out, BOE_WRITTEN_MOST_BYTES) == 0, "the longest that is written");
 }
 
 void hand_made_cases(void) {
@@ -304,4 +355,5 @@ void hand_made_cases(void) {
     header_alone(BOE_FROM_VENUE, server_heartbeat);
     header_alone(BOE_FROM_VENUE, replay_complete);
     books();
+    most();
 }

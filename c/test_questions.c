@@ -36,54 +36,54 @@ static void tohex(const uint8_t *bytes, long n, char *out) {
 }
 
 /* A book restarted for a date, in a buffer with `room` bytes FF after it. */
-static unsigned restarted(const char *date, const uint8_t *book, size_t n, uint8_t *state, uint8_t *buffer, size_t room) {
+static unsigned restarted(const char *date, const uint8_t *book, size_t n, struct boe_state *state, uint8_t *buffer, size_t room) {
     memcpy(buffer, book, n);
     memset(buffer + n, 0xFF, room);
-    memset(state, 0x5A, BOE_BOOK_BYTES);
-    return boe_restart((uint32_t)strtoul(date, NULL, 10), buffer, n, state, BOE_BOOK_BYTES);
+    memset(state, 0x5A, sizeof *state);
+    return boe_restart((uint32_t)strtoul(date, NULL, 10), buffer, n, state, sizeof *state);
 }
 
 /* What the C entry points answer to a question on the day book, or 0 where it is none. */
 static int book_answer(const char *call, const char *date, const char *book, const char *third, const char *fourth, char *out) {
     static uint8_t bytes[MOST_BYTES], given[MOST_BYTES], buffer[2 * MOST_BYTES];
     static char hex[2 * MOST_BYTES + 2];
-    uint8_t state[BOE_BOOK_BYTES];
+    struct boe_state state;
     long n = book ? unhex(book, bytes) : -1;
     size_t room = third ? strtoul(third, NULL, 10) : 0;
     if (n < 0 || (size_t)n + room > MOST_BYTES) return 0;
     size_t end = (size_t)n + room;
     if (strcmp(call, "open") == 0 && !third) {
-        unsigned refusal = boe_book_open((uint32_t)strtoul(date, NULL, 10), bytes, (size_t)n, state, sizeof state);
+        unsigned refusal = boe_book_open((uint32_t)strtoul(date, NULL, 10), bytes, (size_t)n, &state, sizeof state);
         tohex(bytes, n, hex);
         sprintf(out, "%u %s", refusal, hex);
         return 1;
     }
     if (strcmp(call, "restart") == 0 && !third) {
-        unsigned refusal = restarted(date, bytes, (size_t)n, state, buffer, 0);
-        tohex(state, BOE_TABLE_BYTES, hex);
+        unsigned refusal = restarted(date, bytes, (size_t)n, &state, buffer, 0);
+        tohex(state.bytes + BOE_STATE_TABLE_AT, BOE_TABLE_BYTES, hex);
         if (refusal)
-            sprintf(out, all_are(state, sizeof state, 0x5A) ? "%u" : "a refused restart has stored: %u", refusal);
+            sprintf(out, all_are(state.bytes, sizeof state, 0x5A) ? "%u" : "a refused restart has stored: %u", refusal);
         else
-            sprintf(out, "0 %lu %lu %lu %s", (unsigned long)number_at(state + BOE_BOOK_LENGTH_AT), (unsigned long)number_at(state + BOE_BOOK_LAST_MARK_AT),
-                    (unsigned long)number_at(state + BOE_BOOK_MESSAGES_AT), hex);
+            sprintf(out, "0 %lu %lu %lu %s", (unsigned long)number_at(state.bytes + BOE_STATE_LENGTH_AT), (unsigned long)number_at(state.bytes + BOE_STATE_LAST_MARK_AT),
+                    (unsigned long)number_at(state.bytes + BOE_STATE_MESSAGES_AT), hex);
         return 1;
     }
     if (strcmp(call, "append") == 0 && fourth) {
         long k = unhex(fourth, given);
         if (k < 0) return 0;
-        unsigned refusal = restarted(date, bytes, (size_t)n, state, buffer, room);
+        unsigned refusal = restarted(date, bytes, (size_t)n, &state, buffer, room);
         if (refusal) return sprintf(out, "%u", refusal);
-        refusal = boe_book_append(state, sizeof state, given, (size_t)k, buffer, end);
+        refusal = boe_book_append(given, (size_t)k, buffer, end, &state, sizeof state);
         tohex(buffer, (long)end, hex);
-        sprintf(out, "0 %u %lu %s", refusal, (unsigned long)number_at(state + BOE_BOOK_LENGTH_AT), hex);
+        sprintf(out, "0 %u %lu %s", refusal, (unsigned long)number_at(state.bytes + BOE_STATE_LENGTH_AT), hex);
         return 1;
     }
     if (strcmp(call, "close") == 0 && third && !fourth) {
-        unsigned refusal = restarted(date, bytes, (size_t)n, state, buffer, room);
+        unsigned refusal = restarted(date, bytes, (size_t)n, &state, buffer, room);
         if (refusal) return sprintf(out, "%u", refusal);
-        refusal = boe_book_close(state, sizeof state, buffer, end);
+        refusal = boe_book_close(buffer, end, &state, sizeof state);
         tohex(buffer, (long)end, hex);
-        sprintf(out, "%u %lu %s", refusal, (unsigned long)number_at(state + BOE_BOOK_LENGTH_AT), hex);
+        sprintf(out, "%u %lu %s", refusal, (unsigned long)number_at(state.bytes + BOE_STATE_LENGTH_AT), hex);
         return 1;
     }
     return 0;
@@ -111,7 +111,7 @@ static int answer(char *question, char *out) {
     if (strcmp(call, "step") == 0 && second && third && !fourth) {
         long n = unhex(first, bytes);
         if (n < 0) return 0;
-        unsigned refusal = boe_table_step(bytes, (size_t)n, (uint8_t)atoi(second), (uint32_t)strtoul(third, NULL, 10));
+        unsigned refusal = boe_table_step((uint8_t)atoi(second), (uint32_t)strtoul(third, NULL, 10), bytes, (size_t)n);
         tohex(bytes, n, hex);
         sprintf(out, "%u %s", refusal, hex);
         return 1;
@@ -121,7 +121,7 @@ static int answer(char *question, char *out) {
         long n = unhex(second, bytes);
         if (n < 0) return 0;
         memset(record, 0x5A, sizeof record);
-        unsigned refusal = boe_read((uint8_t)atoi(first), bytes, (size_t)n, record, sizeof record);
+        unsigned refusal = boe_read((uint8_t)atoi(first), bytes, (size_t)n, (struct boe_record *)record, sizeof record);
         size_t own = refusal ? 0 : record_len(record[BOE_RECORD_TYPE_AT]);
         if (!all_are(record + own, sizeof record - own, 0x5A)) {
             sprintf(out, "bytes past the record have changed: %u", refusal);
@@ -137,7 +137,7 @@ static int answer(char *question, char *out) {
         static uint8_t given[MOST_BYTES];
         long k = unhex(second, given), n = unhex(third, bytes);
         if (k < 0 || n < 0) return 0;
-        unsigned refusal = boe_write((uint8_t)atoi(first), given, (size_t)k, bytes, (size_t)n);
+        unsigned refusal = boe_write((uint8_t)atoi(first), (struct boe_record *)given, (size_t)k, bytes, (size_t)n);
         tohex(bytes, n, hex);
         sprintf(out, "%u %s", refusal, hex);
         return 1;

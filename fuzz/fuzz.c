@@ -117,6 +117,10 @@ static void lend_filled(struct buffer *buffer, uint8_t fill, size_t len) {
     memset(buffer->was, fill, len);
 }
 
+/* A buffer of any length as a record's and as a state's. */
+static struct boe_record *record_in(const struct buffer *buffer) { return (struct boe_record *)buffer->at; }
+static struct boe_state *state_in(const struct buffer *buffer) { return (struct boe_state *)buffer->at; }
+
 /* Whether the bytes from a place on, and those before the buffer, are as they were. */
 static int stayed_from(const struct buffer *buffer, size_t from) {
     for (size_t i = 1; i <= FRONT; i++)
@@ -157,7 +161,7 @@ static void try_frame(const uint8_t *data, size_t n) {
 
 static void try_step(uint8_t unit, uint32_t value, const uint8_t *data, size_t n) {
     lend(&bytes, data, n);
-    unsigned refusal = boe_table_step(bytes.at, n, unit, value);
+    unsigned refusal = boe_table_step(unit, value, bytes.at, n);
     name(&question, "step");
     hex(&question, data, n);
     number(&question, unit);
@@ -176,7 +180,7 @@ static size_t record_len(uint8_t type) {
 static void try_read(uint8_t direction, uint8_t choice, const uint8_t *data, size_t n) {
     lend(&bytes, data, n);
     lend_filled(&record, FILL, BOE_RECORD_LEN + 1);
-    unsigned refusal = boe_read(direction, bytes.at, n, record.at, record.len);
+    unsigned refusal = boe_read(direction, bytes.at, n, record_in(&record), record.len);
     size_t own = refusal ? 0 : record_len(record.at[BOE_RECORD_TYPE_AT]);
     name(&question, "read");
     number(&question, direction);
@@ -188,7 +192,7 @@ static void try_read(uint8_t direction, uint8_t choice, const uint8_t *data, siz
 
     /* the same with another buffer, which may be too short */
     lend_filled(&other, (uint8_t)~FILL, room_by(choice, BOE_RECORD_LEN));
-    unsigned again = boe_read(direction, bytes.at, n, other.at, other.len);
+    unsigned again = boe_read(direction, bytes.at, n, record_in(&other), other.len);
     if (other.len < BOE_RECORD_LEN && refusal == 0) {
         must(again == BOE_NO_ROOM && stayed(&other), "13 for a short record, and nothing stored");
     } else {
@@ -200,10 +204,10 @@ static void try_read(uint8_t direction, uint8_t choice, const uint8_t *data, siz
     if (refusal == 0) {
         size_t total = boe_frame_length(bytes.at, n);
         lend_filled(&out, FILL, total);
-        must(boe_write(direction, record.at, record.len, out.at, total) == 0, "a record that was read is written");
+        must(boe_write(direction, record_in(&record), record.len, out.at, total) == 0, "a record that was read is written");
         must(memcmp(out.at, data, total) == 0 && stayed_from(&out, total), "it is written as it was read");
         lend_filled(&out, FILL, total - 1);
-        must(boe_write(direction, record.at, record.len, out.at, total - 1) == BOE_NO_ROOM, "13 a byte short");
+        must(boe_write(direction, record_in(&record), record.len, out.at, total - 1) == BOE_NO_ROOM, "13 a byte short");
         must(stayed(&out), "a write without room has stored");
     }
     ask();
@@ -222,7 +226,7 @@ static void try_write(uint8_t direction, uint8_t form, uint16_t out_len, const u
     number(&question, direction);
     hex(&question, record.at, record.len);
     hex(&question, out.at, out.len);
-    unsigned refusal = boe_write(direction, record.at, record.len, out.at, out.len);
+    unsigned refusal = boe_write(direction, record_in(&record), record.len, out.at, out.len);
     size_t total = refusal ? 0 : 2u + out.at[2] + 256u * out.at[3];
     number(&proved, refusal);
     hex(&proved, out.at, out.len);
@@ -232,7 +236,7 @@ static void try_write(uint8_t direction, uint8_t form, uint16_t out_len, const u
     /* what was written is read again */
     if (refusal == 0) {
         lend_filled(&other, FILL, BOE_RECORD_LEN);
-        must(boe_read(direction, out.at, out.len, other.at, other.len) == 0, "a message that was written is read");
+        must(boe_read(direction, out.at, out.len, record_in(&other), other.len) == 0, "a message that was written is read");
         size_t own = record_len(other.at[BOE_RECORD_TYPE_AT]);
         must(memcmp(other.at, record.at, own) == 0 && stayed_from(&other, own), "it is read as it was written");
     }
@@ -244,29 +248,29 @@ static void try_write(uint8_t direction, uint8_t form, uint16_t out_len, const u
 /* The state is that of restarting from the book in the first bytes of a buffer. */
 static void must_be_state_of(uint32_t date, const uint8_t *book, size_t length) {
     lend(&more, book, length);
-    lend_filled(&other, FILL, BOE_BOOK_BYTES);
-    must(boe_restart(date, more.at, length, other.at, other.len) == 0, "the book is restarted");
-    must(memcmp(other.at, state.at, BOE_BOOK_BYTES) == 0, "its state is the one that the call left");
+    lend_filled(&other, FILL, BOE_STATE_BYTES);
+    must(boe_restart(date, more.at, length, state_in(&other), other.len) == 0, "the book is restarted");
+    must(memcmp(other.at, state.at, BOE_STATE_BYTES) == 0, "its state is the one that the call left");
 }
 
 static void try_open(uint8_t choice, uint32_t date, const uint8_t *data, size_t n) {
     lend(&out, data, n);
-    lend_filled(&state, FILL, BOE_BOOK_BYTES + 1);
-    unsigned refusal = boe_book_open(date, out.at, n, state.at, state.len);
+    lend_filled(&state, FILL, BOE_STATE_BYTES + 1);
+    unsigned refusal = boe_book_open(date, out.at, n, state_in(&state), state.len);
     name(&question, "open");
     number(&question, date);
     hex(&question, data, n);
     number(&proved, refusal);
     hex(&proved, out.at, n);
     must(stayed_from(&out, refusal ? 0 : BOE_MARK_BYTES), "opening has stored past the mark");
-    must(stayed_from(&state, refusal ? 0 : BOE_BOOK_BYTES), "opening has stored past the state");
+    must(stayed_from(&state, refusal ? 0 : BOE_STATE_BYTES), "opening has stored past the state");
     if (refusal == 0) must_be_state_of(date, out.at, BOE_MARK_BYTES);
 
     /* with another state's buffer, which may be too short */
     lend(&out, data, n);
-    lend_filled(&other, FILL, room_by(choice, BOE_BOOK_BYTES));
-    unsigned again = boe_book_open(date, out.at, n, other.at, other.len);
-    if (other.len < BOE_BOOK_BYTES && refusal == 0)
+    lend_filled(&other, FILL, room_by(choice, BOE_STATE_BYTES));
+    unsigned again = boe_book_open(date, out.at, n, state_in(&other), other.len);
+    if (other.len < BOE_STATE_BYTES && refusal == 0)
         must(again == BOE_NO_ROOM && stayed(&out) && stayed(&other), "13 for a short state, and nothing stored");
     else
         must(again == refusal, "the state's buffer changes the answer");
@@ -275,29 +279,29 @@ static void try_open(uint8_t choice, uint32_t date, const uint8_t *data, size_t 
 
 static void try_restart(uint8_t choice, uint32_t date, const uint8_t *data, size_t n) {
     lend(&bytes, data, n);
-    lend_filled(&state, FILL, BOE_BOOK_BYTES + 1);
-    unsigned refusal = boe_restart(date, bytes.at, n, state.at, state.len);
+    lend_filled(&state, FILL, BOE_STATE_BYTES + 1);
+    unsigned refusal = boe_restart(date, bytes.at, n, state_in(&state), state.len);
     name(&question, "restart");
     number(&question, date);
     hex(&question, data, n);
     number(&proved, refusal);
     must(stayed(&bytes), "restart has stored into the book");
-    must(stayed_from(&state, refusal ? 0 : BOE_BOOK_BYTES), "restart has stored past the state, or a refused one at all");
+    must(stayed_from(&state, refusal ? 0 : BOE_STATE_BYTES), "restart has stored past the state, or a refused one at all");
     if (refusal == 0) {
-        number(&proved, number_at(state.at + BOE_BOOK_LENGTH_AT));
-        number(&proved, number_at(state.at + BOE_BOOK_LAST_MARK_AT));
-        number(&proved, number_at(state.at + BOE_BOOK_MESSAGES_AT));
+        number(&proved, number_at(state.at + BOE_STATE_LENGTH_AT));
+        number(&proved, number_at(state.at + BOE_STATE_LAST_MARK_AT));
+        number(&proved, number_at(state.at + BOE_STATE_MESSAGES_AT));
         hex(&proved, state.at, BOE_TABLE_BYTES);
-        must(number_at(state.at + BOE_BOOK_DATE_AT) == date, "the date of the state");
-        must_be_state_of(date, bytes.at, number_at(state.at + BOE_BOOK_LENGTH_AT));
+        must(number_at(state.at + BOE_STATE_DATE_AT) == date, "the date of the state");
+        must_be_state_of(date, bytes.at, number_at(state.at + BOE_STATE_LENGTH_AT));
     }
 
-    lend_filled(&other, FILL, room_by(choice, BOE_BOOK_BYTES));
-    unsigned again = boe_restart(date, bytes.at, n, other.at, other.len);
-    if (other.len < BOE_BOOK_BYTES && refusal == 0)
+    lend_filled(&other, FILL, room_by(choice, BOE_STATE_BYTES));
+    unsigned again = boe_restart(date, bytes.at, n, state_in(&other), other.len);
+    if (other.len < BOE_STATE_BYTES && refusal == 0)
         must(again == BOE_NO_ROOM && stayed(&other), "13 for a short state, and nothing stored");
     else
-        must(again == refusal && stayed_from(&other, refusal ? 0 : BOE_BOOK_BYTES), "the state's buffer changes the answer");
+        must(again == refusal && stayed_from(&other, refusal ? 0 : BOE_STATE_BYTES), "the state's buffer changes the answer");
     ask();
 }
 
@@ -306,8 +310,8 @@ static unsigned restarted(uint32_t date, const uint8_t *book, size_t n, size_t a
     lend_filled(&out, 0xFF, n + after);
     if (n > 0) memcpy(out.at, book, n);
     memcpy(out.was, out.at, out.len);
-    lend_filled(&state, FILL, BOE_BOOK_BYTES + 1);
-    unsigned refusal = boe_restart(date, out.at, n, state.at, state.len);
+    lend_filled(&state, FILL, BOE_STATE_BYTES + 1);
+    unsigned refusal = boe_restart(date, out.at, n, state_in(&state), state.len);
     must(stayed(&out), "restart has stored into the book");
     memcpy(state.was, state.at, state.len);
     return refusal;
@@ -323,15 +327,15 @@ static void try_append(uint32_t date, uint16_t after, const uint8_t *message, si
     unsigned refusal = restarted(date, book, n, after);
     number(&proved, refusal);
     if (refusal == 0) {
-        size_t at = number_at(state.at + BOE_BOOK_LENGTH_AT);
+        size_t at = number_at(state.at + BOE_STATE_LENGTH_AT);
         lend(&bytes, message, k);
-        refusal = boe_book_append(state.at, state.len, bytes.at, k, out.at, out.len);
-        size_t length = number_at(state.at + BOE_BOOK_LENGTH_AT);
+        refusal = boe_book_append(bytes.at, k, out.at, out.len, state_in(&state), state.len);
+        size_t length = number_at(state.at + BOE_STATE_LENGTH_AT);
         number(&proved, refusal);
         number(&proved, length);
         hex(&proved, out.at, out.len);
         must(stayed(&bytes), "appending has stored into the message");
-        must(stayed_from(&state, refusal ? 0 : BOE_BOOK_BYTES), "appending has stored past the state, or a refused one at all");
+        must(stayed_from(&state, refusal ? 0 : BOE_STATE_BYTES), "appending has stored past the state, or a refused one at all");
         must(memcmp(out.at, out.was, at) == 0 && stayed_from(&out, refusal ? 0 : length), "appending has stored elsewhere");
         if (refusal == 0) must_be_state_of(date, out.at, length);
     }
@@ -348,12 +352,12 @@ static void try_close(uint32_t date, uint16_t after, const uint8_t *book, size_t
     if (refusal != 0) {
         number(&proved, refusal);
     } else {
-        size_t at = number_at(state.at + BOE_BOOK_LENGTH_AT);
-        number(&proved, boe_book_close(state.at, state.len, out.at, out.len));
-        size_t length = number_at(state.at + BOE_BOOK_LENGTH_AT);
+        size_t at = number_at(state.at + BOE_STATE_LENGTH_AT);
+        number(&proved, boe_book_close(out.at, out.len, state_in(&state), state.len));
+        size_t length = number_at(state.at + BOE_STATE_LENGTH_AT);
         number(&proved, length);
         hex(&proved, out.at, out.len);
-        must(stayed_from(&state, BOE_BOOK_BYTES), "closing has stored past the state");
+        must(stayed_from(&state, BOE_STATE_BYTES), "closing has stored past the state");
         must(memcmp(out.at, out.was, at) == 0 && stayed_from(&out, length == at ? 0 : length), "closing has stored elsewhere");
         must_be_state_of(date, out.at, length);
     }
@@ -363,10 +367,10 @@ static void try_close(uint32_t date, uint16_t after, const uint8_t *book, size_t
 /* ---- the day book with any 144 bytes as its state: asked as steps of a script, of a live member whose buffer holds FF */
 
 static void state_words(struct text *text) {
-    number(text, number_at(state.at + BOE_BOOK_DATE_AT));
-    number(text, number_at(state.at + BOE_BOOK_LENGTH_AT));
-    number(text, number_at(state.at + BOE_BOOK_LAST_MARK_AT));
-    number(text, number_at(state.at + BOE_BOOK_MESSAGES_AT));
+    number(text, number_at(state.at + BOE_STATE_DATE_AT));
+    number(text, number_at(state.at + BOE_STATE_LENGTH_AT));
+    number(text, number_at(state.at + BOE_STATE_LAST_MARK_AT));
+    number(text, number_at(state.at + BOE_STATE_MESSAGES_AT));
 }
 
 static void member_words(unsigned phase) {
@@ -397,7 +401,7 @@ static void ask_state(void) {
 /* The book's bytes and table after the call; the script's buffer goes on with FF where the lent one ends. */
 static void ask_book(void) {
     static uint8_t book[BENCH_BYTES];
-    size_t length = number_at(state.at + BOE_BOOK_LENGTH_AT);
+    size_t length = number_at(state.at + BOE_STATE_LENGTH_AT);
     memset(book, 0xFF, sizeof book);
     if (out.len > 0) memcpy(book, out.at, out.len);
     end_line(&question);
@@ -415,22 +419,22 @@ static void lend_state(const uint8_t *data, size_t n, size_t len) {
 
 static void try_append_on(uint8_t choice, uint16_t out_len, const uint8_t *data, size_t n) {
     static const uint8_t mark[BOE_MARK_BYTES] = {0, 0, 0, 0, 0xC3, 0, 0x35, 1};
-    size_t given = n < BOE_BOOK_BYTES ? n : BOE_BOOK_BYTES, k = n - given;
+    size_t given = n < BOE_STATE_BYTES ? n : BOE_STATE_BYTES, k = n - given;
     const uint8_t *message = data + given;
-    lend_state(data, given, room_by(choice, BOE_BOOK_BYTES));
+    lend_state(data, given, room_by(choice, BOE_STATE_BYTES));
     lend_filled(&out, 0xFF, out_len % (BENCH_BYTES + 1));
     lend(&bytes, message, k);
-    if (state.len < BOE_BOOK_BYTES) {
-        must(boe_book_append(state.at, state.len, bytes.at, k, out.at, out.len) == BOE_NO_ROOM, "13 for a short state");
+    if (state.len < BOE_STATE_BYTES) {
+        must(boe_book_append(bytes.at, k, out.at, out.len, state_in(&state), state.len) == BOE_NO_ROOM, "13 for a short state");
         must(stayed(&state) && stayed(&out) && stayed(&bytes), "appending with a short state has stored");
         return;
     }
     int booked = k < 5 || message[4] == BOE_ACKNOWLEDGMENT || message[4] == BOE_EXECUTION;
     if (booked) ask_state();
-    unsigned refusal = boe_book_append(state.at, state.len, bytes.at, k, out.at, out.len);
-    size_t length = number_at(state.at + BOE_BOOK_LENGTH_AT), total = refusal ? 0 : boe_frame_length(bytes.at, k);
+    unsigned refusal = boe_book_append(bytes.at, k, out.at, out.len, state_in(&state), state.len);
+    size_t length = number_at(state.at + BOE_STATE_LENGTH_AT), total = refusal ? 0 : boe_frame_length(bytes.at, k);
     must(stayed(&bytes), "appending has stored into the message");
-    must(stayed_from(&state, refusal ? 0 : BOE_BOOK_BYTES), "appending has stored past the state, or a refused one at all");
+    must(stayed_from(&state, refusal ? 0 : BOE_STATE_BYTES), "appending has stored past the state, or a refused one at all");
     must(stayed_from(&out, refusal ? 0 : length), "appending has stored past its message, or a refused one at all");
     if (booked) {
         name(&question, "m-get");
@@ -457,24 +461,24 @@ static void try_append_on(uint8_t choice, uint16_t out_len, const uint8_t *data,
 }
 
 static void try_close_on(uint8_t choice, uint16_t out_len, const uint8_t *data, size_t n) {
-    lend_state(data, n < BOE_BOOK_BYTES ? n : BOE_BOOK_BYTES, room_by(choice, BOE_BOOK_BYTES));
+    lend_state(data, n < BOE_STATE_BYTES ? n : BOE_STATE_BYTES, room_by(choice, BOE_STATE_BYTES));
     lend_filled(&out, 0xFF, out_len % (BENCH_BYTES + 1));
-    if (state.len < BOE_BOOK_BYTES) {
-        must(boe_book_close(state.at, state.len, out.at, out.len) == BOE_NO_ROOM, "13 for a short state");
+    if (state.len < BOE_STATE_BYTES) {
+        must(boe_book_close(out.at, out.len, state_in(&state), state.len) == BOE_NO_ROOM, "13 for a short state");
         must(stayed(&state) && stayed(&out), "closing with a short state has stored");
         return;
     }
     ask_state();
-    unsigned refusal = boe_book_close(state.at, state.len, out.at, out.len);
+    unsigned refusal = boe_book_close(out.at, out.len, state_in(&state), state.len);
     must(refusal == 0, "closing a book with a state is not refused");
-    must(stayed_from(&state, BOE_BOOK_BYTES), "closing has stored past the state");
+    must(stayed_from(&state, BOE_STATE_BYTES), "closing has stored past the state");
     name(&question, "m-break");
     number(&question, out.len);
     member_words(0);
     if (stayed(&state)) {
         must(stayed(&out), "a mark without room has stored");
     } else {
-        size_t length = number_at(state.at + BOE_BOOK_LENGTH_AT);
+        size_t length = number_at(state.at + BOE_STATE_LENGTH_AT);
         must(length >= BOE_MARK_BYTES && stayed_from(&out, length), "closing has stored past the mark");
         ask_book();
     }
@@ -569,10 +573,10 @@ void mend(uint8_t *data, size_t size) {
         if (k >= 10) put_number(rest + 6, reached[rest[5]] + 1);
         break;
     case APPEND_ON:
-        if (n < BOE_BOOK_BYTES + 10) break;
-        mend_message(rest + BOE_BOOK_BYTES, n - BOE_BOOK_BYTES);
-        k = (rest[BOE_BOOK_BYTES + 5] - 1u) % 32;
-        put_number(rest + BOE_BOOK_BYTES + 6, number_at(rest + 4 * k) + 1);
+        if (n < BOE_STATE_BYTES + 10) break;
+        mend_message(rest + BOE_STATE_BYTES, n - BOE_STATE_BYTES);
+        k = (rest[BOE_STATE_BYTES + 5] - 1u) % 32;
+        put_number(rest + BOE_STATE_BYTES + 6, number_at(rest + 4 * k) + 1);
         break;
     default: break;
     }

@@ -103,16 +103,17 @@ static int input_of(char **word, int words) {
 
 /* The input of an append or close on the state that a restart from its book leaves: 0 where restart refuses. */
 static int input_on(char **word, int words) {
-    static uint8_t book[sizeof input], state[BOE_BOOK_BYTES];
+    static uint8_t book[sizeof input];
+    static struct boe_state state;
     input_len = 0;
     size_t n = put_bytes(word[2]), end = n + value(word[3]);
     memcpy(book, input, n);
-    if (boe_restart(value(word[1]), book, n, state, sizeof state) != 0) return 0;
+    if (boe_restart(value(word[1]), book, n, &state, sizeof state) != 0) return 0;
     input_len = 0;
     put(words == 5 ? APPEND_ON : CLOSE_ON, 1);
     put(0, 1);
     put((unsigned)end, 2);
-    memcpy(input + input_len, state, sizeof state);
+    memcpy(input + input_len, state.bytes, sizeof state);
     input_len += sizeof state;
     if (words == 5) put_bytes(word[4]);
     return input_len <= MOST_INPUT;

@@ -1,8 +1,13 @@
 /* The C entry points of the proved core: numbers and byte buffers only.
  *
  * Every call takes any bytes, any numbers and any buffer length, and answers. A call that answers a refusal has changed no byte.
- * A buffer is a pointer and a length. The pointer is not null, also where the length is 0, and points to that many bytes; the bytes
- * of a call are not changed by another thread while it runs.
+ * A buffer is a pointer and a length. The pointer is not null, also where the length is 0, and points to that many bytes. Of all calls: the
+ * buffers of one call do not overlap, and their bytes are not changed by another thread while it runs.
+ *
+ * The arguments stand in one order: numbers first, then what is only read, then what is written, and of these the state last. A record and a
+ * state are structs of their bytes, so that the compiler refuses one in the place of the other or of a plain buffer; each has its length
+ * beside it, `sizeof` of the struct, since a call takes any length. A struct of bytes is aligned to 1: a longer or shorter buffer may be cast
+ * to it, with its own length.
  *
  * Link libgateway.a (`rt staticlib gateway` writes it to target/staticlib/); it is x86-64 code. */
 #ifndef BOE_H
@@ -41,20 +46,29 @@ enum boe_refusal {
     BOE_NO_FIRST_MARK = 22      /* restart on a book under 16 bytes */
 };
 
+/* The highest of these numbers. */
+#define BOE_REFUSALS 22
+
+/* The longest message that framing takes; the longest that writing stores, a Login Response; and the longest Login Request. */
+#define BOE_MESSAGE_MOST_BYTES 2048
+#define BOE_WRITTEN_MOST_BYTES 443
+#define BOE_LOGIN_MOST_BYTES 234
+
 /* 0 where the bytes start with a whole message, or 1, 2 or 3. */
 uint8_t boe_frame_refusal(const uint8_t *bytes, size_t len);
 
 /* The length of the first whole message, which starts at `bytes`; 0 where framing refuses. */
 size_t boe_frame_length(const uint8_t *bytes, size_t len);
 
-/* The bytes of a sequence table: the last number of unit 1, of unit 2 and on to unit 32, each in 4 bytes, the lowest first.
- * A new day's table is all zero. */
+/* The units, 1 to 32, and the bytes of a sequence table: the last number of unit 1, of unit 2 and on to unit 32, each in 4 bytes, the lowest
+ * first. A new day's table is all zero. */
+#define BOE_UNITS 32
 #define BOE_TABLE_BYTES 128
 
 /* A message of a unit with a number. 0: it is the next of its unit, and the table now has its number. Otherwise the table is as it
  * was: 5 for a unit outside 1 to 32, 13 for a table under 128 bytes, 14 for a number at or below the table's, 15 for one two or
  * more above it, in this order. Bytes past 128 are not touched. */
-uint8_t boe_table_step(uint8_t *table, size_t table_len, uint8_t unit, uint32_t number);
+uint8_t boe_table_step(uint8_t unit, uint32_t number, uint8_t *table, size_t table_len);
 
 /* The day book. Its bytes stand in a buffer of the caller's: the book is the first `length` bytes of it, and the caller keeps them in its file.
  * What is known of a book beside its bytes is its state, 144 bytes of the caller's with the lowest byte of a number first:
@@ -67,38 +81,46 @@ uint8_t boe_table_step(uint8_t *table, size_t table_len, uint8_t unit, uint32_t 
  *     140      4   its messages
  *
  * Any 144 bytes are taken as a state: a length past the buffer or past 16,777,216, a last mark past the length, or 16,777,216 messages or more
- * are no room. A state's buffer may be longer; its bytes past 144 are not touched. State, buffer and bytes of one call do not overlap. */
-#define BOE_BOOK_BYTES 144
-#define BOE_BOOK_TABLE_AT 0
-#define BOE_BOOK_DATE_AT 128
-#define BOE_BOOK_LENGTH_AT 132
-#define BOE_BOOK_LAST_MARK_AT 136
-#define BOE_BOOK_MESSAGES_AT 140
+ * are no room. A state's buffer may be longer; its bytes past 144 are not touched. */
+#define BOE_STATE_BYTES 144
+#define BOE_STATE_TABLE_AT 0
+#define BOE_STATE_DATE_AT 128
+#define BOE_STATE_LENGTH_AT 132
+#define BOE_STATE_LAST_MARK_AT 136
+#define BOE_STATE_MESSAGES_AT 140
 #define BOE_MARK_BYTES 16
 #define BOE_BOOK_MOST_BYTES 16777216
+
+struct boe_state {
+    uint8_t bytes[BOE_STATE_BYTES];
+};
 
 /* Opens a book for a date. 0: its first mark stands in the front of the buffer, and the state is that of a book of 16 bytes with a table of
  * zeros. Otherwise buffer and state are as they were: 19, then 13 for a buffer under 16 bytes or a state under 144. What the buffer held
  * before plays no part, so that a book of 22 is opened afresh by this call. */
-uint8_t boe_book_open(uint32_t date, uint8_t *buffer, size_t buffer_len, uint8_t *state, size_t state_len);
+uint8_t boe_book_open(uint32_t date, uint8_t *buffer, size_t buffer_len, struct boe_state *state, size_t state_len);
 
 /* Appends the first whole message of the bytes to the book. 0: its bytes stand at the book's end, and the state has the message: its unit's
  * number, the length, the messages. Otherwise buffer and state are as they were: 13 for a state under 144 bytes, which comes first, since
  * there is no book to judge by; then 1 to 10 by the message (4 for a type other than 0x25 and 0x2C), 14 and 15 by the table, and last 13 if
  * the message finds no room in the buffer or within 16,777,216 bytes. */
-uint8_t boe_book_append(uint8_t *state, size_t state_len, const uint8_t *bytes, size_t len, uint8_t *buffer, size_t buffer_len);
+uint8_t boe_book_append(const uint8_t *bytes, size_t len, uint8_t *buffer, size_t buffer_len, struct boe_state *state, size_t state_len);
 
 /* The mark at a session's end. 0: the mark stands at the book's end, and the state has it; or it found no room, and buffer and state are as
  * they were: the length tells. 13 for a state under 144 bytes, and both are as they were. */
-uint8_t boe_book_close(uint8_t *state, size_t state_len, uint8_t *buffer, size_t buffer_len);
+uint8_t boe_book_close(uint8_t *buffer, size_t buffer_len, struct boe_state *state, size_t state_len);
 
 /* Restarts from the book in the bytes, all of them, for a date. 0: the state is that of the book without its torn tail, if it has one. The
  * bytes of a torn tail are to be cut off the file: the next message or mark goes where they start. Otherwise the state is as it was: 19, 22,
  * 18 for a bad first mark, 17, 18, and after all of these 13 for a state under 144 bytes. */
-uint8_t boe_restart(uint32_t date, const uint8_t *bytes, size_t len, uint8_t *state, size_t state_len);
+uint8_t boe_restart(uint32_t date, const uint8_t *bytes, size_t len, struct boe_state *state, size_t state_len);
 
 /* The bytes of a record's buffer, which reading and writing want whatever the type. */
 #define BOE_RECORD_LEN 439
+
+struct boe_record {
+    uint8_t bytes[BOE_RECORD_LEN];
+};
 
 /* Every record starts alike; its type says which of the two forms it has. Numbers have the lowest byte first. */
 #define BOE_RECORD_TYPE_AT 0
@@ -171,7 +193,7 @@ uint8_t boe_restart(uint32_t date, const uint8_t *bytes, size_t len, uint8_t *st
 /* Reads the first whole message of the bytes into a record: 0, and the record stands in its buffer, in the first 235 bytes for an order
  * message, in the first 439 for a session message; the bytes after these stay. Otherwise the buffer is as it was: 1 to 11 by the message
  * (4 also for a direction that is neither), and after all of these 13 for a buffer under 439 bytes. Bytes after the message play no part. */
-uint8_t boe_read(uint8_t direction, const uint8_t *bytes, size_t len, uint8_t *record, size_t record_len);
+uint8_t boe_read(uint8_t direction, const uint8_t *bytes, size_t len, struct boe_record *record, size_t record_len);
 
 /* Writes the message of a record: 0, and the message stands in the front of the buffer; its length less 2 is in its bytes 2 and 3.
  * Otherwise the buffer is as it was: 13 for a record under 439 bytes, then 4 (also for a direction that is neither), 5, and then in this
@@ -181,7 +203,7 @@ uint8_t boe_read(uint8_t direction, const uint8_t *bytes, size_t len, uint8_t *r
  *   for a heartbeat and Replay Complete 12 (a byte of the body that is not zero);
  * and last 13 for a buffer under the message's length. Bytes past 235 in the record of an order message, and past 439 in any, play no
  * part. */
-uint8_t boe_write(uint8_t direction, const uint8_t *record, size_t record_len, uint8_t *out, size_t out_len);
+uint8_t boe_write(uint8_t direction, const struct boe_record *record, size_t record_len, uint8_t *out, size_t out_len);
 
 /* New Order (0x38), from the member: place and width in a record; for an optional field also its bitfield byte, counted from 1, and its bit */
 #define BOE_NEW_ORDER 0x38

@@ -1,6 +1,7 @@
 // The bit dictionary: what a bit of a bitfield byte selects in a message. Bytes count from 1, bits from 0, the lowest.
 ghost use mathlib.Core.Path.{_≡_};
-ghost use Rattle.dictionary.specs.Dictionary.{lookup, newOrder, cancelOrder, acknowledgments, executions, entryOf};
+ghost use Rattle.dictionary.specs.Dictionary.{entryOf};
+ghost use Rattle.dictionary.specs.declared.Entry.the-variants.{Field};
 use kinds::Kind;
 
 // A bit that is not listed, or the width, the kind and the place in a record's full layout of the field that it selects.
@@ -9,124 +10,51 @@ pub enum Entry {
     Field { width: u8, kind: Kind, place: u8 },
 }
 
+// The field that a listed bit selects.
+fn field(width: u8, kind: Kind, place: u8) -> Entry
+    ensures { λ r. ⌜ r ≡ Field width kind place ⌝ }
+{
+    Entry::Field { width, kind, place }
+}
+
 // A bit of New Order.
 fn new_order(byte: u8, bit: u8) -> Entry
-    ensures { λ r. ⌜ r ≡ lookup newOrder 0 byte bit ⌝ }
+    ensures { λ r. ⌜ r ≡ entryOf 0x38 byte bit ⌝ }
 {
     match byte {
         1 => match bit {
-            0 => Entry::Field {
-                width: 4,
-                kind: Kind::Letters,
-                place: 0,
-            },
-            1 => Entry::Field {
-                width: 4,
-                kind: Kind::Text,
-                place: 4,
-            },
-            2 => Entry::Field {
-                width: 8,
-                kind: Kind::Price,
-                place: 8,
-            },
-            3 => Entry::Field {
-                width: 1,
-                kind: Kind::Text,
-                place: 16,
-            },
-            4 => Entry::Field {
-                width: 1,
-                kind: Kind::Alphanumeric,
-                place: 17,
-            },
-            5 => Entry::Field {
-                width: 1,
-                kind: Kind::Alphanumeric,
-                place: 18,
-            },
-            6 => Entry::Field {
-                width: 4,
-                kind: Kind::Binary,
-                place: 19,
-            },
-            7 => Entry::Field {
-                width: 4,
-                kind: Kind::Binary,
-                place: 23,
-            },
+            0 => field(4, Kind::Letters, 0), // ClearingFirm
+            1 => field(4, Kind::Text, 4), // ClearingAccount
+            2 => field(8, Kind::Price, 8), // Price
+            3 => field(1, Kind::Text, 16), // ExecInst
+            4 => field(1, Kind::Alphanumeric, 17), // OrdType
+            5 => field(1, Kind::Alphanumeric, 18), // TimeInForce
+            6 => field(4, Kind::Binary, 19), // MinQty
+            7 => field(4, Kind::Binary, 23), // MaxFloor
             _ => Entry::Refused,
         },
         2 => match bit {
-            0 => Entry::Field {
-                width: 8,
-                kind: Kind::Alphanumeric,
-                place: 27,
-            },
-            1 => Entry::Field {
-                width: 8,
-                kind: Kind::Alphanumeric,
-                place: 35,
-            },
-            6 => Entry::Field {
-                width: 1,
-                kind: Kind::Letters,
-                place: 43,
-            },
-            7 => Entry::Field {
-                width: 4,
-                kind: Kind::Text,
-                place: 44,
-            },
+            0 => field(8, Kind::Alphanumeric, 27), // Symbol
+            1 => field(8, Kind::Alphanumeric, 35), // SymbolSfx
+            6 => field(1, Kind::Letters, 43), // Capacity
+            7 => field(4, Kind::Text, 44), // RoutingInst
             _ => Entry::Refused,
         },
         3 => match bit {
-            0 => Entry::Field {
-                width: 16,
-                kind: Kind::Text,
-                place: 48,
-            },
-            6 => Entry::Field {
-                width: 1,
-                kind: Kind::Letters,
-                place: 64,
-            },
-            7 => Entry::Field {
-                width: 8,
-                kind: Kind::Binary,
-                place: 65,
-            },
+            0 => field(16, Kind::Text, 48), // Account
+            6 => field(1, Kind::Letters, 64), // LocateReqd
+            7 => field(8, Kind::Binary, 65), // ExpireTime
             _ => Entry::Refused,
         },
         6 => match bit {
-            0 => Entry::Field {
-                width: 4,
-                kind: Kind::Binary,
-                place: 73,
-            },
-            1 => Entry::Field {
-                width: 8,
-                kind: Kind::Price,
-                place: 77,
-            },
-            4 => Entry::Field {
-                width: 1,
-                kind: Kind::Text,
-                place: 85,
-            },
-            5 => Entry::Field {
-                width: 64,
-                kind: Kind::Text,
-                place: 86,
-            },
+            0 => field(4, Kind::Binary, 73), // DisplayRange
+            1 => field(8, Kind::Price, 77), // StopPx
+            4 => field(1, Kind::Text, 85), // ExDestination
+            5 => field(64, Kind::Text, 86), // EchoText
             _ => Entry::Refused,
         },
         10 => match bit {
-            1 => Entry::Field {
-                width: 4,
-                kind: Kind::Letters,
-                place: 150,
-            },
+            1 => field(4, Kind::Letters, 150), // LocateBroker
             _ => Entry::Refused,
         },
         _ => Entry::Refused,
@@ -135,217 +63,62 @@ fn new_order(byte: u8, bit: u8) -> Entry
 
 // A bit of Cancel Order.
 fn cancel_order(byte: u8, bit: u8) -> Entry
-    ensures { λ r. ⌜ r ≡ lookup cancelOrder 0 byte bit ⌝ }
+    ensures { λ r. ⌜ r ≡ entryOf 0x39 byte bit ⌝ }
 {
     match byte {
         1 => match bit {
-            0 => Entry::Field {
-                width: 4,
-                kind: Kind::Letters,
-                place: 0,
-            },
+            0 => field(4, Kind::Letters, 0), // only ClearingFirm
             _ => Entry::Refused,
         },
         _ => Entry::Refused,
     }
 }
 
-// A bit of Order Acknowledgment.
-fn acknowledgment(byte: u8, bit: u8) -> Entry
-    ensures { λ r. ⌜ r ≡ lookup acknowledgments 0 byte bit ⌝ }
-{
-    match byte {
-        1 => match bit {
-            0 => Entry::Field {
-                width: 1,
-                kind: Kind::Alphanumeric,
-                place: 0,
-            },
-            2 => Entry::Field {
-                width: 8,
-                kind: Kind::Price,
-                place: 1,
-            },
-            3 => Entry::Field {
-                width: 1,
-                kind: Kind::Text,
-                place: 9,
-            },
-            4 => Entry::Field {
-                width: 1,
-                kind: Kind::Alphanumeric,
-                place: 10,
-            },
-            5 => Entry::Field {
-                width: 1,
-                kind: Kind::Alphanumeric,
-                place: 11,
-            },
-            6 => Entry::Field {
-                width: 4,
-                kind: Kind::Binary,
-                place: 12,
-            },
-            _ => Entry::Refused,
-        },
-        2 => match bit {
-            0 => Entry::Field {
-                width: 8,
-                kind: Kind::Alphanumeric,
-                place: 16,
-            },
-            1 => Entry::Field {
-                width: 8,
-                kind: Kind::Alphanumeric,
-                place: 24,
-            },
-            6 => Entry::Field {
-                width: 1,
-                kind: Kind::Letters,
-                place: 32,
-            },
-            _ => Entry::Refused,
-        },
-        3 => match bit {
-            0 => Entry::Field {
-                width: 16,
-                kind: Kind::Text,
-                place: 33,
-            },
-            1 => Entry::Field {
-                width: 4,
-                kind: Kind::Letters,
-                place: 49,
-            },
-            2 => Entry::Field {
-                width: 4,
-                kind: Kind::Text,
-                place: 53,
-            },
-            4 => Entry::Field {
-                width: 4,
-                kind: Kind::Binary,
-                place: 57,
-            },
-            6 => Entry::Field {
-                width: 4,
-                kind: Kind::Binary,
-                place: 61,
-            },
-            _ => Entry::Refused,
-        },
-        5 => match bit {
-            1 => Entry::Field {
-                width: 4,
-                kind: Kind::Binary,
-                place: 65,
-            },
-            2 => Entry::Field {
-                width: 4,
-                kind: Kind::Binary,
-                place: 69,
-            },
-            3 => Entry::Field {
-                width: 8,
-                kind: Kind::Price,
-                place: 73,
-            },
-            7 => Entry::Field {
-                width: 8,
-                kind: Kind::Binary,
-                place: 81,
-            },
-            _ => Entry::Refused,
-        },
-        _ => Entry::Refused,
-    }
-}
-
-// A bit of Order Execution.
+// A bit of Order Execution: bytes 1 to 3 of Order Acknowledgment.
 fn execution(byte: u8, bit: u8) -> Entry
-    ensures { λ r. ⌜ r ≡ lookup executions 0 byte bit ⌝ }
+    ensures { λ r. ⌜ r ≡ entryOf 0x2C byte bit ⌝ }
 {
     match byte {
         1 => match bit {
-            0 => Entry::Field {
-                width: 1,
-                kind: Kind::Alphanumeric,
-                place: 0,
-            },
-            2 => Entry::Field {
-                width: 8,
-                kind: Kind::Price,
-                place: 1,
-            },
-            3 => Entry::Field {
-                width: 1,
-                kind: Kind::Text,
-                place: 9,
-            },
-            4 => Entry::Field {
-                width: 1,
-                kind: Kind::Alphanumeric,
-                place: 10,
-            },
-            5 => Entry::Field {
-                width: 1,
-                kind: Kind::Alphanumeric,
-                place: 11,
-            },
-            6 => Entry::Field {
-                width: 4,
-                kind: Kind::Binary,
-                place: 12,
-            },
+            0 => field(1, Kind::Alphanumeric, 0), // Side
+            2 => field(8, Kind::Price, 1), // Price
+            3 => field(1, Kind::Text, 9), // ExecInst
+            4 => field(1, Kind::Alphanumeric, 10), // OrdType
+            5 => field(1, Kind::Alphanumeric, 11), // TimeInForce
+            6 => field(4, Kind::Binary, 12), // MinQty
             _ => Entry::Refused,
         },
         2 => match bit {
-            0 => Entry::Field {
-                width: 8,
-                kind: Kind::Alphanumeric,
-                place: 16,
-            },
-            1 => Entry::Field {
-                width: 8,
-                kind: Kind::Alphanumeric,
-                place: 24,
-            },
-            6 => Entry::Field {
-                width: 1,
-                kind: Kind::Letters,
-                place: 32,
-            },
+            0 => field(8, Kind::Alphanumeric, 16), // Symbol
+            1 => field(8, Kind::Alphanumeric, 24), // SymbolSfx
+            6 => field(1, Kind::Letters, 32), // Capacity
             _ => Entry::Refused,
         },
         3 => match bit {
-            0 => Entry::Field {
-                width: 16,
-                kind: Kind::Text,
-                place: 33,
-            },
-            1 => Entry::Field {
-                width: 4,
-                kind: Kind::Letters,
-                place: 49,
-            },
-            2 => Entry::Field {
-                width: 4,
-                kind: Kind::Text,
-                place: 53,
-            },
-            4 => Entry::Field {
-                width: 4,
-                kind: Kind::Binary,
-                place: 57,
-            },
-            6 => Entry::Field {
-                width: 4,
-                kind: Kind::Binary,
-                place: 61,
-            },
+            0 => field(16, Kind::Text, 33), // Account
+            1 => field(4, Kind::Letters, 49), // ClearingFirm
+            2 => field(4, Kind::Text, 53), // ClearingAccount
+            4 => field(4, Kind::Binary, 57), // MaxFloor
+            6 => field(4, Kind::Binary, 61), // OrderQty
             _ => Entry::Refused,
         },
         _ => Entry::Refused,
+    }
+}
+
+// A bit of Order Acknowledgment: byte 5, and Order Execution's bytes.
+fn acknowledgment(byte: u8, bit: u8) -> Entry
+    ensures { λ r. ⌜ r ≡ entryOf 0x25 byte bit ⌝ }
+{
+    match byte {
+        5 => match bit {
+            1 => field(4, Kind::Binary, 65), // LeavesQty
+            2 => field(4, Kind::Binary, 69), // LastShares
+            3 => field(8, Kind::Price, 73), // LastPx
+            7 => field(8, Kind::Binary, 81), // ExpireTime
+            _ => Entry::Refused,
+        },
+        _ => execution(byte, bit),
     }
 }
 

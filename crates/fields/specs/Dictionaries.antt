@@ -13,6 +13,7 @@ use Rattle.dictionary.specs.declared.Entry.the-variants.{Refused, Field}
 use Rattle.dictionary.specs.Dictionary.{Line, line, newOrder, cancelOrder, acknowledgments, executions, listOf, pick, indexOf, lookup, entryOf}
 use Rattle.fields.specs.Slots.{widthOf, width, sum}
 use Rattle.fields.specs.Places.{selectedAt, entryAt, slotsFrom, slotsOf}
+use Rattle.fields.specs.Sizes.{allPlaces, layoutSize}
 
 -- the widths of all places below k
 unfoldable pub before : (ℕ → Entry) → ℕ → ℕ
@@ -26,8 +27,8 @@ before-none entry = refl
 
 -- a field's place is the sum of the widths before it
 pub record Placed (entry : ℕ → Entry) (size : ℕ) : Type 0 where
-  pub placed : (k : ℕ) → k < 120 → {w : ℕ} {kind : Kind} {p : ℕ} → Field w kind p ≡ entry k → p ≡ before entry k
-  pub fits : before entry 120 ≤ size
+  pub placed : (k : ℕ) → k < allPlaces → {w : ℕ} {kind : Kind} {p : ℕ} → Field w kind p ≡ entry k → p ≡ before entry k
+  pub fits : before entry allPlaces ≤ size
 
 -- the widths of n slots from k on, with those before, are those below k + n
 pub widths-add : (selected : ℕ → Bool) (entry : ℕ → Entry) (n k : ℕ) → before entry k + sum width (slotsFrom selected entry n k) ≡ before entry (k + n)
@@ -56,7 +57,7 @@ test Refused b = true
 test (Field w k p) b = eqb p b
 
 sweep : (ℕ → Entry) → ℕ → ℕ → ℕ → Bool
-sweep entry zero k b = leb b 154
+sweep entry zero k b = leb b layoutSize
 sweep entry (suc n) k b = test (entry k) b && sweep entry n (suc k) (b + widthOf (entry k))
 
 left : (a b : Bool) → T (a && b) → T a
@@ -76,37 +77,37 @@ found entry (suc n) k t (suc i) h =
     let e : suc k + i ≡ k + suc i = omega arith in
     subst (λ (m : ℕ). T (test (entry m) (before entry m))) e (found entry n (suc k) (right (test (entry k) (before entry k)) _ t) i (le-of-suc-le-suc h))
 
-small : (entry : ℕ → Entry) (n k : ℕ) → T (sweep entry n k (before entry k)) → before entry (k + n) ≤ 154
+small : (entry : ℕ → Entry) (n k : ℕ) → T (sweep entry n k (before entry k)) → before entry (k + n) ≤ layoutSize
 unfolding sweep before
 small entry zero k t = rw (add-zero k) (leb→le _ _ t)
 small entry (suc n) k t =
     let e : suc k + n ≡ k + suc n = omega arith in
-    subst (λ (m : ℕ). before entry m ≤ 154) e (small entry n (suc k) (right (test (entry k) (before entry k)) _ t))
+    subst (λ (m : ℕ). before entry m ≤ layoutSize) e (small entry n (suc k) (right (test (entry k) (before entry k)) _ t))
 
 from-test : (w : ℕ) (kind : Kind) (p b : ℕ) (e : Entry) → Field w kind p ≡ e → T (test e b) → p ≡ b
 unfolding test
 from-test w kind p b e q t = eqb→eq p b (subst (λ (x : Entry). T (test x b)) (sym q) t)
 
-by-sweep : (entry : ℕ → Entry) → T (sweep entry 120 0 0) → Placed entry 154
+by-sweep : (entry : ℕ → Entry) → T (sweep entry allPlaces 0 0) → Placed entry layoutSize
 unfolding before
 by-sweep entry t = record {
-  placed = λ k h {w} {kind} {p} q. from-test w kind p (before entry k) (entry k) q (subst (λ (m : ℕ). T (test (entry m) (before entry m))) (zero-add k) (found entry 120 0 t k h));
-  fits = small entry 120 0 t;
+  placed = λ k h {w} {kind} {p} q. from-test w kind p (before entry k) (entry k) q (subst (λ (m : ℕ). T (test (entry m) (before entry m))) (zero-add k) (found entry allPlaces 0 t k h));
+  fits = small entry allPlaces 0 t;
 }
 
-at-new-order : T (sweep (entryAt 0x38) 120 0 0)
+at-new-order : T (sweep (entryAt 0x38) allPlaces 0 0)
 unfolding sweep test entryAt entryOf
 at-new-order = tt
 
-at-cancel : T (sweep (entryAt 0x39) 120 0 0)
+at-cancel : T (sweep (entryAt 0x39) allPlaces 0 0)
 unfolding sweep test entryAt entryOf
 at-cancel = tt
 
-at-acknowledgment : T (sweep (entryAt 0x25) 120 0 0)
+at-acknowledgment : T (sweep (entryAt 0x25) allPlaces 0 0)
 unfolding sweep test entryAt entryOf
 at-acknowledgment = tt
 
-at-execution : T (sweep (entryAt 0x2C) 120 0 0)
+at-execution : T (sweep (entryAt 0x2C) allPlaces 0 0)
 unfolding sweep test entryAt entryOf
 at-execution = tt
 
@@ -115,21 +116,21 @@ unfolding before
 none-before entry r zero = refl
 none-before entry r (suc k) = let e : widthOf (entry k) ≡ 0 = ap widthOf (r k) in let h = none-before entry r k in omega arith
 
-none-placed : (entry : ℕ → Entry) → ((k : ℕ) → entry k ≡ Refused) → Placed entry 154
+none-placed : (entry : ℕ → Entry) → ((k : ℕ) → entry k ≡ Refused) → Placed entry layoutSize
 none-placed entry r = record {
   placed = λ k h {w} {kind} {p} q. let f : Field w kind p ≡ Refused = q ∙ r k in let z : _≡_ {A = ℕ} 0 1 = cc in absurd (omega arith);
-  fits = let e = none-before entry r 120 in omega arith;
+  fits = let e = none-before entry r allPlaces in omega arith;
 }
 
 -- every type's dictionary is placed in a layout of 154 bytes
-pub dictionary-placed : (message : ℕ) → Placed (entryAt message) 154
+pub dictionary-placed : (message : ℕ) → Placed (entryAt message) layoutSize
 unfolding entryAt entryOf
 dictionary-placed message = by (eqb message 0x38) (eqb message 0x39) (eqb message 0x25) (eqb message 0x2C) refl refl refl refl
   where
-    at : (x : ℕ) → Placed (entryAt x) 154 → eqb message x ≡ true → Placed (entryAt message) 154
-    at x h e = subst (λ (m : ℕ). Placed (entryAt m) 154) (sym (eqb→eq message x (subst T (sym e) tt))) h
+    at : (x : ℕ) → Placed (entryAt x) layoutSize → eqb message x ≡ true → Placed (entryAt message) layoutSize
+    at x h e = subst (λ (m : ℕ). Placed (entryAt m) layoutSize) (sym (eqb→eq message x (subst T (sym e) tt))) h
 
-    by : (b1 b2 b3 b4 : Bool) → eqb message 0x38 ≡ b1 → eqb message 0x39 ≡ b2 → eqb message 0x25 ≡ b3 → eqb message 0x2C ≡ b4 → Placed (entryAt message) 154
+    by : (b1 b2 b3 b4 : Bool) → eqb message 0x38 ≡ b1 → eqb message 0x39 ≡ b2 → eqb message 0x25 ≡ b3 → eqb message 0x2C ≡ b4 → Placed (entryAt message) layoutSize
     by true b2 b3 b4 p q r s = at 0x38 (by-sweep (entryAt 0x38) at-new-order) p
     by false true b3 b4 p q r s = at 0x39 (by-sweep (entryAt 0x39) at-cancel) q
     by false false true b4 p q r s = at 0x25 (by-sweep (entryAt 0x25) at-acknowledgment) r
@@ -137,11 +138,11 @@ dictionary-placed message = by (eqb message 0x38) (eqb message 0x39) (eqb messag
     by false false false false p q r s = none-placed (entryAt message) (λ k. simp (p, q, r, s))
 
 -- all slots of a message fit the layout
-pub widths-fit : (message count : ℕ) (bits : List ℕ) → sum width (slotsOf message count bits) ≤ 154
+pub widths-fit : (message count : ℕ) (bits : List ℕ) → sum width (slotsOf message count bits) ≤ layoutSize
 widths-fit message count bits =
-    let w : before (entryAt message) 0 + sum width (slotsOf message count bits) ≡ before (entryAt message) 120 = widths-add (selectedAt count bits) (entryAt message) 120 0 in
+    let w : before (entryAt message) 0 + sum width (slotsOf message count bits) ≡ before (entryAt message) allPlaces = widths-add (selectedAt count bits) (entryAt message) allPlaces 0 in
     let z : before (entryAt message) 0 ≡ 0 = before-none (entryAt message) in
-    let f : before (entryAt message) 120 ≤ 154 = dictionary-placed message .fits in
+    let f : before (entryAt message) allPlaces ≤ layoutSize = dictionary-placed message .fits in
     omega arith
 
 -- ---- a listed field lies within the layout
@@ -163,11 +164,11 @@ in-list (line b t v kd ∷ ls) q byte bit {w} {p} {k} e = by (eqb byte b && eqb 
     by false rest f = let h = rest f in omega arith
 
 -- a field of any bit of any type lies within 154 bytes
-pub field-fits : (message byte bit : ℕ) {w p : ℕ} {k : Kind} → Field w k p ≡ entryOf message byte bit → p + w ≤ 154
+pub field-fits : (message byte bit : ℕ) {w p : ℕ} {k : Kind} → Field w k p ≡ entryOf message byte bit → p + w ≤ layoutSize
 unfolding entryOf widths
 field-fits message byte bit {w} {p} {k} e = by (eqb message 0x38) (eqb message 0x39) (eqb message 0x25) (eqb message 0x2C) (in-list (listOf message) 0 byte bit e)
   where
-    by : (b1 b2 b3 b4 : Bool) → p + w ≤ 0 + widths (cond b1 newOrder (cond b2 cancelOrder (cond b3 acknowledgments (cond b4 executions [])))) → p + w ≤ 154
+    by : (b1 b2 b3 b4 : Bool) → p + w ≤ 0 + widths (cond b1 newOrder (cond b2 cancelOrder (cond b3 acknowledgments (cond b4 executions [])))) → p + w ≤ layoutSize
     by true b2 b3 b4 h = omega (arith, h)
     by false true b3 b4 h = omega (arith, h)
     by false false true b4 h = omega (arith, h)

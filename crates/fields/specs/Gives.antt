@@ -17,6 +17,7 @@ use Rattle.fields.specs.Places.{slotsFrom}
 use Rattle.fields.specs.Walk.{pick, walk, Giving, giveEntry}
 use Rattle.fields.specs.WalkLaws.{walk-slots}
 use Rattle.fields.specs.Dictionaries.{before, Placed}
+use Rattle.fields.specs.Sizes.{allPlaces}
 
 -- what holds after the slots ss from place k on were given, with room for them: from the state st to the state r
 pub record Gave (entry : ℕ → Entry) (v : List ℕ) (ss : List Slot) (k : ℕ) (st r : Giving) : Type 0 where
@@ -45,7 +46,7 @@ module _ (entry : ℕ → Entry) (size : ℕ) (ok : Placed entry size) (v : List
         t .buffer-is (omega arith) (omega arith) ∙ ap (λ (x : List ℕ). patched (st .buffer) (st .at) (gathered ss x)) (next k e q) ∙ ap (patched (st .buffer) (st .at)) (sym g);
   }
 
-  module _ (k : ℕ) (small : k < 120) (w : ℕ) (kd : Kind) (p : ℕ) (ss : List Slot) (st r : Giving) (q : Field w kd p ≡ entry k) where
+  module _ (k : ℕ) (small : k < allPlaces) (w : ℕ) (kd : Kind) (p : ℕ) (ss : List Slot) (st r : Giving) (q : Field w kd p ≡ entry k) where
     after : Giving
     after = record { at = st .at + w; buffer = patched (st .buffer) (st .at) (take w (drop p v)) }
 
@@ -73,7 +74,7 @@ module _ (entry : ℕ → Entry) (size : ℕ) (ok : Placed entry size) (v : List
       buffer-is = λ h l. given h l (subst (λ (b : Bool). Gave entry v ss (suc k) (pick b after st) r) (le-leb (st .at + w) (length (st .buffer)) (omega arith)) t);
     }
 
-  one : (k : ℕ) → k < 120 → (b : Bool) (ss : List Slot) (st r : Giving) → Gave entry v ss (suc k) (pick b (giveEntry v (entry k) st) st) r → Gave entry v (slot b (entry k) ∷ ss) k st r
+  one : (k : ℕ) → k < allPlaces → (b : Bool) (ss : List Slot) (st r : Giving) → Gave entry v ss (suc k) (pick b (giveEntry v (entry k) st) st) r → Gave entry v (slot b (entry k) ∷ ss) k st r
   unfolding giveEntry
   one k small b ss st r t = by b (entry k) refl t
     where
@@ -82,5 +83,5 @@ module _ (entry : ℕ → Entry) (size : ℕ) (ok : Placed entry size) (v : List
       by true Refused q x = nothing k true Refused ss st r q refl refl x
       by true (Field w kd p) q x = listed k small w kd p ss st r q x
 
-  pub gave : (selected : ℕ → Bool) (n k : ℕ) (st : Giving) → k + n ≤ 120 → Gave entry v (slotsFrom selected entry n k) k st (walk selected (λ (i : ℕ). giveEntry v (entry i)) n k st)
+  pub gave : (selected : ℕ → Bool) (n k : ℕ) (st : Giving) → k + n ≤ allPlaces → Gave entry v (slotsFrom selected entry n k) k st (walk selected (λ (i : ℕ). giveEntry v (entry i)) n k st)
   gave selected n k st h = walk-slots selected entry (giveEntry v) (Gave entry v) none one n k st h

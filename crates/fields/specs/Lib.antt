@@ -1,10 +1,12 @@
+pub mod Sizes
 pub mod Slots
 pub mod SlotLaws
 pub mod Places
 pub mod Walk
 pub mod WalkLaws
 pub mod Dictionaries
-pub mod Takes
+pub mod Judges
+pub mod Stores
 pub mod Looks
 pub mod Gives
 pub mod Loops

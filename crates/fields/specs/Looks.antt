@@ -18,6 +18,7 @@ use Rattle.fields.specs.Places.{slotsFrom}
 use Rattle.fields.specs.Walk.{pick, walk, Looking, lookEntry}
 use Rattle.fields.specs.WalkLaws.{walk-slots, and-move}
 use Rattle.fields.specs.Dictionaries.{before, Placed}
+use Rattle.fields.specs.Sizes.{allPlaces}
 
 -- a slot of a layout, cleared where it is selected
 abbrev pub clearedSlot : Slot → List ℕ → List ℕ
@@ -90,7 +91,7 @@ module _ (entry : ℕ → Entry) (size : ℕ) (ok : Placed entry size) where
         rest-is = λ done v f n h. t .rest-is done v f (n ∙ sym b) (omega arith);
       }
 
-  listed : (k : ℕ) → k < 120 → (w : ℕ) (kd : Kind) (p : ℕ) (ss : List Slot) (st r : Looking) → Field w kd p ≡ entry k
+  listed : (k : ℕ) → k < allPlaces → (w : ℕ) (kd : Kind) (p : ℕ) (ss : List Slot) (st r : Looking) → Field w kd p ≡ entry k
       → Looked entry ss (suc k) (lookEntry (Field w kd p) st) r → Looked entry (slot true (Field w kd p) ∷ ss) k st r
   unfolding lookEntry
   listed k small w kd p ss st r q t =
@@ -110,7 +111,7 @@ module _ (entry : ℕ → Entry) (size : ℕ) (ok : Placed entry size) where
             ∙ append-assoc done (zeros w) (cleared ss (drop w v));
       }
 
-  one : (k : ℕ) → k < 120 → (b : Bool) (ss : List Slot) (st r : Looking) → Looked entry ss (suc k) (pick b (lookEntry (entry k) st) st) r → Looked entry (slot b (entry k) ∷ ss) k st r
+  one : (k : ℕ) → k < allPlaces → (b : Bool) (ss : List Slot) (st r : Looking) → Looked entry ss (suc k) (pick b (lookEntry (entry k) st) st) r → Looked entry (slot b (entry k) ∷ ss) k st r
   one k small b ss st r t = by b (entry k) refl t
     where
       by : (c : Bool) (e : Entry) → e ≡ entry k → Looked entry ss (suc k) (pick c (lookEntry e st) st) r → Looked entry (slot c e ∷ ss) k st r
@@ -118,7 +119,7 @@ module _ (entry : ℕ → Entry) (size : ℕ) (ok : Placed entry size) where
       by true Refused q x = refused k ss st r q x
       by true (Field w kd p) q x = listed k small w kd p ss st r q x
 
-  pub looked : (selected : ℕ → Bool) (n k : ℕ) (st : Looking) → k + n ≤ 120 → Looked entry (slotsFrom selected entry n k) k st (walk selected (λ (i : ℕ). lookEntry (entry i)) n k st)
+  pub looked : (selected : ℕ → Bool) (n k : ℕ) (st : Looking) → k + n ≤ allPlaces → Looked entry (slotsFrom selected entry n k) k st (walk selected (λ (i : ℕ). lookEntry (entry i)) n k st)
   looked selected n k st h = walk-slots selected entry lookEntry (Looked entry) none one n k st h
 
 -- ---- zero elsewhere, by clearing

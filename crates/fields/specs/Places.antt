@@ -7,6 +7,7 @@ use lib.ListN.{getD}
 use Rattle.dictionary.specs.declared.Entry.{Entry}
 use Rattle.dictionary.specs.Dictionary.{entryOf}
 use Rattle.fields.specs.Slots.{Slot, slot}
+use Rattle.fields.specs.Sizes.{allPlaces}
 
 -- whether a bit of a byte, counted from 0, is set
 abbrev pub bitSet : ℕ → ℕ → Bool
@@ -28,7 +29,7 @@ slotsFrom selected entry (suc n) k = slot (selected k) (entry k) ∷ slotsFrom s
 
 -- all slots of a message with its bitfields
 abbrev pub slotsOf : ℕ → ℕ → List ℕ → List Slot
-slotsOf message count bits = slotsFrom (selectedAt count bits) (entryAt message) 120 0
+slotsOf message count bits = slotsFrom (selectedAt count bits) (entryAt message) allPlaces 0
 
 -- 9: the required fields. New Order requires Symbol (byte 2, bit 1), Capacity (byte 2, bit 64), and Price or OrdType (byte 1, bits 4
 -- and 16); the other messages require none

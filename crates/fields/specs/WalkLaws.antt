@@ -9,6 +9,7 @@ use Rattle.dictionary.specs.declared.Entry.{Entry}
 use Rattle.fields.specs.Slots.{Slot, slot}
 use Rattle.fields.specs.Places.{slotsFrom}
 use Rattle.fields.specs.Walk.{pick, walk}
+use Rattle.fields.specs.Sizes.{allPlaces}
 
 module _ {S : Type 0} (selected : ℕ → Bool) (change : ℕ → S → S) where
   -- a walk is a walk and then the rest of it
@@ -42,8 +43,8 @@ and-move false false c = refl
 -- a walk and the slots that it passes go together: what holds of no slot, and of one slot more in front, holds of them all
 pub walk-slots : {S : Type 0} (selected : ℕ → Bool) (entry : ℕ → Entry) (change : Entry → S → S) (R : List Slot → ℕ → S → S → Type 0)
     → ((k : ℕ) (st : S) → R [] k st st)
-    → ((k : ℕ) → k < 120 → (b : Bool) (ss : List Slot) (st r : S) → R ss (suc k) (pick b (change (entry k) st) st) r → R (slot b (entry k) ∷ ss) k st r)
-    → (n k : ℕ) (st : S) → k + n ≤ 120 → R (slotsFrom selected entry n k) k st (walk selected (λ (i : ℕ). change (entry i)) n k st)
+    → ((k : ℕ) → k < allPlaces → (b : Bool) (ss : List Slot) (st r : S) → R ss (suc k) (pick b (change (entry k) st) st) r → R (slot b (entry k) ∷ ss) k st r)
+    → (n k : ℕ) (st : S) → k + n ≤ allPlaces → R (slotsFrom selected entry n k) k st (walk selected (λ (i : ℕ). change (entry i)) n k st)
 unfolding walk slotsFrom
 walk-slots selected entry change R none one zero k st h = none k st
 walk-slots selected entry change R none one (suc n) k st h =

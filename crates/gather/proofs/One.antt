@@ -1,6 +1,6 @@
--- One field looked at and one given, on plain values, and one bit, whatever the walk's state. Assumes nothing.
+-- One field looked at and one given, on plain values. Assumes nothing.
 use mathlib.Core.Path.{_≡_, ap, ap₂, _∙_}
-use mathlib.Core.Bool.{Bool, true, false, _&&_}
+use mathlib.Core.Bool.{Bool, _&&_}
 use mathlib.Core.List.{List}
 use Prim.Native.Nat.{ℕ, _+_, _-_, _≤_, _<_}
 use native.Mathlib.Omega.{arith}
@@ -9,10 +9,9 @@ use borrow.Author.Tests.{le-leb, lt-leb}
 use Rattle.kinds.specs.declared.Kind.{Kind}
 use Rattle.kinds.specs.Kinds.{agreesOf}
 use Rattle.numbers.specs.Numbers.{patched}
-use Rattle.dictionary.specs.declared.Entry.{Entry}
 use Rattle.dictionary.specs.declared.Entry.the-variants.{Field}
 use Rattle.fields.specs.Slots.{zeros}
-use Rattle.fields.specs.Walk.{pick, Looking, lookEntry, Giving, giveField}
+use Rattle.fields.specs.Walk.{Looking, lookEntry, Giving, giveField}
 
 -- ---- a field, which the code has as the part from p to p + w of the layout v
 
@@ -42,14 +41,3 @@ module _ (v : List ℕ) (w p : ℕ) where
   -- not given, where it has none
   pub kept-is : (st : Giving) → length (st .buffer) < st .at + w → st ≡ giveField v w p st
   kept-is st h = rw (lt-leb (st .at + w) (length (st .buffer)) h)
-
--- ---- a bit
-
-module _ {S : Type 0} (change : Entry → S → S) (b : Bool) (e : Entry) (st : S) where
-  -- one that is set, with the entry x
-  pub set-is : {x : Entry} {r : S} → b ≡ true → x ≡ e → r ≡ change x st → r ≡ pick b (change e st) st
-  set-is p q f = f ∙ rw p (ap (λ (y : Entry). change y st) q)
-
-  -- one that is not set
-  pub unset-is : b ≡ false → st ≡ pick b (change e st) st
-  unset-is p = rw p

@@ -1,16 +1,17 @@
 // Giving a layout's selected fields to a message, each into the lent tail of its buffer.
 ghost use mathlib.Core.Path.{_≡_};
-ghost use Prim.Native.Nat.{_+_, _*_, _%_, _≤_, _<_};
+ghost use Prim.Native.Nat.{_+_, _*_, _%_, _≤_};
 ghost use lib.Dec.{eqb};
-ghost use lib.ListN.{length, getD};
+ghost use lib.ListN.{length};
 ghost use Rattle.dictionary.specs.Dictionary.{entryOf};
-ghost use Rattle.fields.specs.Walk.{pick, giveField, giveEntry};
+ghost use Rattle.fields.specs.Walk.{pick, inByte, giveField, giveEntry};
 ghost use Rattle.gather.specs.State.{giving, giveWalk};
+ghost use Rattle.fields.specs.Sizes.{allPlaces, layoutSize};
 use dictionary::Entry;
 
 // One field of a layout to a place of the message: where the next one goes.
 fn give_field(width: u8, place: u8, layout: &[u8], out: &mut [u8], at: usize) -> usize
-    requires { ⌜ (place + width ≤ length (now layout)) × (place + width ≤ 154) × (at ≤ length (now out)) ⌝ }
+    requires { ⌜ (place + width ≤ length (now layout)) × (place + width ≤ layoutSize) × (at ≤ length (now out)) ⌝ }
     ensures { λ r. ⌜ (giving r (now (out .exit)) ≡ giveField (now (layout .entry)) width place (giving at (now (out .entry)))) × (r ≤ length (now (out .entry))) ⌝ }
 {
     let w = width as usize;
@@ -34,7 +35,7 @@ fn give_bit(
     out: &mut [u8],
     at: usize,
 ) -> usize
-    requires { ⌜ (length (now layout) ≡ 154) × (at ≤ length (now out)) ⌝ }
+    requires { ⌜ (length (now layout) ≡ layoutSize) × (at ≤ length (now out)) ⌝ }
     ensures { λ r. ⌜ (giving r (now (out .exit)) ≡ pick (eqb (x % 2) 1) (giveEntry (now (layout .entry)) (entryOf message byte bit) (giving at (now (out .entry)))) (giving at (now (out .entry)))) × (r ≤ length (now (out .entry))) ⌝ }
 {
     if x % 2 == 1 {
@@ -52,148 +53,106 @@ fn give_bit(
     }
 }
 
-// The fields of bitfield byte j, counted from 0, which is `value`; its places end at `end`, so that literals tell the loop's length.
+// The fields of a bitfield byte, which is `value`; its places end at `end`, so that literals tell the loop's length.
 fn give_bits(
     message: u8,
-    bits: &[u8; 15],
-    count: u8,
-    j: u8,
+    byte: u8,
     end: u8,
     value: u8,
     layout: &[u8],
     out: &mut [u8],
     start: usize,
 ) -> usize
-    requires { ⌜ (length (now layout) ≡ 154) × (j < count) × (count ≤ 15) × (value ≡ getD (now bits) j 0) × (end ≡ 8 * j + 8) × (start ≤ length (now out)) ⌝ }
-    ensures { λ r. ⌜ (giving r (now (out .exit)) ≡ giveWalk message count (now (bits .entry)) (now (layout .entry)) 8 (8 * j) (giving start (now (out .entry)))) × (r ≤ length (now (out .entry))) ⌝ }
+    requires { ⌜ (length (now layout) ≡ layoutSize) × (byte ≤ 15) × (end ≡ 8 * byte) × (start ≤ length (now out)) ⌝ }
+    ensures { λ r. ⌜ (giving r (now (out .exit)) ≡ inByte (giveEntry (now (layout .entry))) message byte value (giving start (now (out .entry)))) × (r ≤ length (now (out .entry))) ⌝ }
 {
-    let n = end - 8 * j;
+    let n = end + 8 - 8 * byte;
     let mut x = value;
     let mut bit: u8 = 0;
     let mut at = start;
     while bit < n {
-        at = give_bit(message, j + 1, bit, x, layout, out, at);
+        at = give_bit(message, byte, bit, x, layout, out, at);
         x = x / 2;
         bit += 1;
     }
     at
 }
 
-// The same, with literals for the message and for each byte that it lists: the compiler unrolls that loop and folds the dictionary away.
-fn give_byte(
-    message: u8,
-    bits: &[u8; 15],
-    count: u8,
-    j: u8,
-    value: u8,
-    layout: &[u8],
-    out: &mut [u8],
-    start: usize,
-) -> usize
-    requires { ⌜ (length (now layout) ≡ 154) × (j < count) × (count ≤ 15) × (value ≡ getD (now bits) j 0) × (start ≤ length (now out)) ⌝ }
-    ensures { λ r. ⌜ (giving r (now (out .exit)) ≡ giveWalk message count (now (bits .entry)) (now (layout .entry)) 8 (8 * j) (giving start (now (out .entry)))) × (r ≤ length (now (out .entry))) ⌝ }
+// The same of any byte: its places follow from it.
+fn give_any(message: u8, byte: u8, value: u8, layout: &[u8], out: &mut [u8], at: usize) -> usize
+    requires { ⌜ (length (now layout) ≡ layoutSize) × (byte ≤ 15) × (at ≤ length (now out)) ⌝ }
+    ensures { λ r. ⌜ (giving r (now (out .exit)) ≡ inByte (giveEntry (now (layout .entry))) message byte value (giving at (now (out .entry)))) × (r ≤ length (now (out .entry))) ⌝ }
+{
+    give_bits(message, byte, 8 * byte, value, layout, out, at)
+}
+
+// The same, with an arm for each byte that a message lists: there the compiler knows message and byte, unrolls the loop and folds the dictionary
+// away. Cancel Order, with its one byte, stands last: of three messages the compiler makes a loop over the bytes for each.
+fn give_byte(message: u8, byte: u8, value: u8, layout: &[u8], out: &mut [u8], at: usize) -> usize
+    requires { ⌜ (length (now layout) ≡ layoutSize) × (byte ≤ 15) × (at ≤ length (now out)) ⌝ }
+    ensures { λ r. ⌜ (giving r (now (out .exit)) ≡ inByte (giveEntry (now (layout .entry))) message byte value (giving at (now (out .entry)))) × (r ≤ length (now (out .entry))) ⌝ }
+{
+    match message {
+        0x38 => match byte {
+            1 => give_bits(message, byte, 8, value, layout, out, at),
+            2 => give_bits(message, byte, 16, value, layout, out, at),
+            3 => give_bits(message, byte, 24, value, layout, out, at),
+            6 => give_bits(message, byte, 48, value, layout, out, at),
+            10 => give_bits(message, byte, 80, value, layout, out, at),
+            _ => give_any(message, byte, value, layout, out, at),
+        },
+        0x25 => match byte {
+            1 => give_bits(message, byte, 8, value, layout, out, at),
+            2 => give_bits(message, byte, 16, value, layout, out, at),
+            3 => give_bits(message, byte, 24, value, layout, out, at),
+            5 => give_bits(message, byte, 40, value, layout, out, at),
+            _ => give_any(message, byte, value, layout, out, at),
+        },
+        0x2C => match byte {
+            1 => give_bits(message, byte, 8, value, layout, out, at),
+            2 => give_bits(message, byte, 16, value, layout, out, at),
+            3 => give_bits(message, byte, 24, value, layout, out, at),
+            _ => give_any(message, byte, value, layout, out, at),
+        },
+        _ => match byte {
+            1 => match message {
+                0x39 => give_bits(message, byte, 8, value, layout, out, at),
+                _ => give_any(message, byte, value, layout, out, at),
+            },
+            _ => give_any(message, byte, value, layout, out, at),
+        },
+    }
+}
+
+// A byte that is zero selects nothing.
+fn give_next(message: u8, byte: u8, value: u8, layout: &[u8], out: &mut [u8], at: usize) -> usize
+    requires { ⌜ (length (now layout) ≡ layoutSize) × (byte ≤ 15) × (at ≤ length (now out)) ⌝ }
+    ensures { λ r. ⌜ (giving r (now (out .exit)) ≡ inByte (giveEntry (now (layout .entry))) message byte value (giving at (now (out .entry)))) × (r ≤ length (now (out .entry))) ⌝ }
 {
     if value == 0 {
-        return start;
+        return at;
     }
-    match message {
-        0x38 => match j {
-            0 => give_bits(0x38, bits, count, 0, 8, value, layout, out, start),
-            1 => give_bits(0x38, bits, count, 1, 16, value, layout, out, start),
-            2 => give_bits(0x38, bits, count, 2, 24, value, layout, out, start),
-            5 => give_bits(0x38, bits, count, 5, 48, value, layout, out, start),
-            9 => give_bits(0x38, bits, count, 9, 80, value, layout, out, start),
-            _ => give_bits(
-                message,
-                bits,
-                count,
-                j,
-                8 * j + 8,
-                value,
-                layout,
-                out,
-                start,
-            ),
-        },
-        0x39 => match j {
-            0 => give_bits(0x39, bits, count, 0, 8, value, layout, out, start),
-            _ => give_bits(
-                message,
-                bits,
-                count,
-                j,
-                8 * j + 8,
-                value,
-                layout,
-                out,
-                start,
-            ),
-        },
-        0x25 => match j {
-            0 => give_bits(0x25, bits, count, 0, 8, value, layout, out, start),
-            1 => give_bits(0x25, bits, count, 1, 16, value, layout, out, start),
-            2 => give_bits(0x25, bits, count, 2, 24, value, layout, out, start),
-            4 => give_bits(0x25, bits, count, 4, 40, value, layout, out, start),
-            _ => give_bits(
-                message,
-                bits,
-                count,
-                j,
-                8 * j + 8,
-                value,
-                layout,
-                out,
-                start,
-            ),
-        },
-        0x2C => match j {
-            0 => give_bits(0x2C, bits, count, 0, 8, value, layout, out, start),
-            1 => give_bits(0x2C, bits, count, 1, 16, value, layout, out, start),
-            2 => give_bits(0x2C, bits, count, 2, 24, value, layout, out, start),
-            _ => give_bits(
-                message,
-                bits,
-                count,
-                j,
-                8 * j + 8,
-                value,
-                layout,
-                out,
-                start,
-            ),
-        },
-        _ => give_bits(
-            message,
-            bits,
-            count,
-            j,
-            8 * j + 8,
-            value,
-            layout,
-            out,
-            start,
-        ),
-    }
+    give_byte(message, byte, value, layout, out, at)
 }
 
 // All fields that the first `count` bitfield bytes select, from a place of the message on.
 pub fn give_all(
     message: u8,
-    bits: &[u8; 15],
+    bits: &[u8],
     count: u8,
     layout: &[u8],
     out: &mut [u8],
     start: usize,
 ) -> usize
-    requires { ⌜ (length (now layout) ≡ 154) × (count ≤ 15) × (start ≤ length (now out)) ⌝ }
-    ensures { λ r. ⌜ giving r (now (out .exit)) ≡ giveWalk message count (now (bits .entry)) (now (layout .entry)) 120 0 (giving start (now (out .entry))) ⌝ }
+    requires { ⌜ (length (now layout) ≡ layoutSize) × (count ≤ length (now bits)) × (count ≤ 15) × (start ≤ length (now out)) ⌝ }
+    ensures { λ r. ⌜ giving r (now (out .exit)) ≡ giveWalk message count (now (bits .entry)) (now (layout .entry)) allPlaces 0 (giving start (now (out .entry))) ⌝ }
 {
     let mut j: u8 = 0;
     let mut at = start;
     while j < count {
         let value = bits[j as usize];
-        at = give_byte(message, bits, count, j, value, layout, out, at);
         j += 1;
+        at = give_next(message, j, value, layout, out, at);
     }
     at
 }

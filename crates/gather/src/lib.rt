@@ -3,13 +3,14 @@ pub mod give;
 
 ghost use mathlib.Core.Path.{_≡_};
 ghost use mathlib.Core.Bool.{_&&_};
-ghost use Prim.Native.Nat.{_+_, _*_, _%_, _≤_, _<_};
+ghost use Prim.Native.Nat.{_+_, _*_, _%_, _≤_};
 ghost use lib.Dec.{eqb};
-ghost use lib.ListN.{length, getD};
+ghost use lib.ListN.{length};
 ghost use Rattle.dictionary.specs.declared.Entry.the-variants.{Field};
 ghost use Rattle.dictionary.specs.Dictionary.{entryOf};
-ghost use Rattle.fields.specs.Walk.{pick, lookEntry};
+ghost use Rattle.fields.specs.Walk.{pick, inByte, lookEntry};
 ghost use Rattle.gather.specs.State.{looking, unseen, lookWalk};
+ghost use Rattle.fields.specs.Sizes.{allPlaces, layoutSize};
 use dictionary::Entry;
 use kinds::Kind;
 
@@ -50,7 +51,7 @@ fn look_field(width: u8, kind: Kind, place: u8, rest: &mut [u8], s: Seen) -> See
 
 // One bit, the lowest of x: its field if it is set.
 fn look_bit(message: u8, byte: u8, bit: u8, x: u8, rest: &mut [u8], s: Seen) -> Seen
-    requires { ⌜ (length (now rest) ≡ 154) × (s .total ≤ 1000000) ⌝ }
+    requires { ⌜ (length (now rest) ≡ layoutSize) × (s .total ≤ 1000000) ⌝ }
     ensures { λ r. ⌜ (looking r (now (rest .exit)) ≡ pick (eqb (x % 2) 1) (lookEntry (entryOf message byte bit) (looking s (now (rest .entry)))) (looking s (now (rest .entry)))) × (r .total ≤ s .total + 255) ⌝ }
 {
     if x % 2 == 1 {
@@ -68,82 +69,84 @@ fn look_bit(message: u8, byte: u8, bit: u8, x: u8, rest: &mut [u8], s: Seen) -> 
     }
 }
 
-// The fields of bitfield byte j, counted from 0, which is `value`; its places end at `end`, so that literals tell the loop's length.
-fn look_bits(
-    message: u8,
-    bits: &[u8; 15],
-    count: u8,
-    j: u8,
-    end: u8,
-    value: u8,
-    rest: &mut [u8],
-    s: Seen,
-) -> Seen
-    requires { ⌜ (length (now rest) ≡ 154) × (j < count) × (count ≤ 15) × (value ≡ getD (now bits) j 0) × (s .total ≤ 2040 * j) × (end ≡ 8 * j + 8) ⌝ }
-    ensures { λ r. ⌜ (looking r (now (rest .exit)) ≡ lookWalk message count (now (bits .entry)) 8 (8 * j) (looking s (now (rest .entry)))) × (r .total ≤ 2040 * (j + 1)) ⌝ }
+// The fields of a bitfield byte, which is `value`; its places end at `end`, so that literals tell the loop's length.
+fn look_bits(message: u8, byte: u8, end: u8, value: u8, rest: &mut [u8], s: Seen) -> Seen
+    requires { ⌜ (length (now rest) ≡ layoutSize) × (byte ≤ 15) × (end ≡ 8 * byte) × (s .total ≤ 100000) ⌝ }
+    ensures { λ r. ⌜ (looking r (now (rest .exit)) ≡ inByte lookEntry message byte value (looking s (now (rest .entry)))) × (r .total ≤ s .total + 2040) ⌝ }
 {
-    let n = end - 8 * j;
+    let n = end + 8 - 8 * byte;
     let mut x = value;
     let mut bit: u8 = 0;
     let mut r = s;
     while bit < n {
-        r = look_bit(message, j + 1, bit, x, rest, r);
+        r = look_bit(message, byte, bit, x, rest, r);
         x = x / 2;
         bit += 1;
     }
     r
 }
 
-// The same, with literals for the message and for each byte that it lists: the compiler unrolls that loop and folds the dictionary away.
-fn look_byte(
-    message: u8,
-    bits: &[u8; 15],
-    count: u8,
-    j: u8,
-    value: u8,
-    rest: &mut [u8],
-    s: Seen,
-) -> Seen
-    requires { ⌜ (length (now rest) ≡ 154) × (j < count) × (count ≤ 15) × (value ≡ getD (now bits) j 0) × (s .total ≤ 2040 * j) ⌝ }
-    ensures { λ r. ⌜ (looking r (now (rest .exit)) ≡ lookWalk message count (now (bits .entry)) 8 (8 * j) (looking s (now (rest .entry)))) × (r .total ≤ 2040 * (j + 1)) ⌝ }
+// The same of any byte: its places follow from it.
+fn look_any(message: u8, byte: u8, value: u8, rest: &mut [u8], s: Seen) -> Seen
+    requires { ⌜ (length (now rest) ≡ layoutSize) × (byte ≤ 15) × (s .total ≤ 100000) ⌝ }
+    ensures { λ r. ⌜ (looking r (now (rest .exit)) ≡ inByte lookEntry message byte value (looking s (now (rest .entry)))) × (r .total ≤ s .total + 2040) ⌝ }
+{
+    look_bits(message, byte, 8 * byte, value, rest, s)
+}
+
+// The same, with an arm for each byte that a message lists: there the compiler knows message and byte, unrolls the loop and folds the dictionary
+// away. Cancel Order, with its one byte, stands last: of three messages the compiler makes a loop over the bytes for each.
+fn look_byte(message: u8, byte: u8, value: u8, rest: &mut [u8], s: Seen) -> Seen
+    requires { ⌜ (length (now rest) ≡ layoutSize) × (byte ≤ 15) × (s .total ≤ 100000) ⌝ }
+    ensures { λ r. ⌜ (looking r (now (rest .exit)) ≡ inByte lookEntry message byte value (looking s (now (rest .entry)))) × (r .total ≤ s .total + 2040) ⌝ }
+{
+    match message {
+        0x38 => match byte {
+            1 => look_bits(message, byte, 8, value, rest, s),
+            2 => look_bits(message, byte, 16, value, rest, s),
+            3 => look_bits(message, byte, 24, value, rest, s),
+            6 => look_bits(message, byte, 48, value, rest, s),
+            10 => look_bits(message, byte, 80, value, rest, s),
+            _ => look_any(message, byte, value, rest, s),
+        },
+        0x25 => match byte {
+            1 => look_bits(message, byte, 8, value, rest, s),
+            2 => look_bits(message, byte, 16, value, rest, s),
+            3 => look_bits(message, byte, 24, value, rest, s),
+            5 => look_bits(message, byte, 40, value, rest, s),
+            _ => look_any(message, byte, value, rest, s),
+        },
+        0x2C => match byte {
+            1 => look_bits(message, byte, 8, value, rest, s),
+            2 => look_bits(message, byte, 16, value, rest, s),
+            3 => look_bits(message, byte, 24, value, rest, s),
+            _ => look_any(message, byte, value, rest, s),
+        },
+        _ => match byte {
+            1 => match message {
+                0x39 => look_bits(message, byte, 8, value, rest, s),
+                _ => look_any(message, byte, value, rest, s),
+            },
+            _ => look_any(message, byte, value, rest, s),
+        },
+    }
+}
+
+// A byte that is zero selects nothing.
+fn look_next(message: u8, byte: u8, value: u8, rest: &mut [u8], s: Seen) -> Seen
+    requires { ⌜ (length (now rest) ≡ layoutSize) × (byte ≤ 15) × (s .total ≤ 100000) ⌝ }
+    ensures { λ r. ⌜ (looking r (now (rest .exit)) ≡ inByte lookEntry message byte value (looking s (now (rest .entry)))) × (r .total ≤ s .total + 2040) ⌝ }
 {
     if value == 0 {
         return s;
     }
-    match message {
-        0x38 => match j {
-            0 => look_bits(0x38, bits, count, 0, 8, value, rest, s),
-            1 => look_bits(0x38, bits, count, 1, 16, value, rest, s),
-            2 => look_bits(0x38, bits, count, 2, 24, value, rest, s),
-            5 => look_bits(0x38, bits, count, 5, 48, value, rest, s),
-            9 => look_bits(0x38, bits, count, 9, 80, value, rest, s),
-            _ => look_bits(message, bits, count, j, 8 * j + 8, value, rest, s),
-        },
-        0x39 => match j {
-            0 => look_bits(0x39, bits, count, 0, 8, value, rest, s),
-            _ => look_bits(message, bits, count, j, 8 * j + 8, value, rest, s),
-        },
-        0x25 => match j {
-            0 => look_bits(0x25, bits, count, 0, 8, value, rest, s),
-            1 => look_bits(0x25, bits, count, 1, 16, value, rest, s),
-            2 => look_bits(0x25, bits, count, 2, 24, value, rest, s),
-            4 => look_bits(0x25, bits, count, 4, 40, value, rest, s),
-            _ => look_bits(message, bits, count, j, 8 * j + 8, value, rest, s),
-        },
-        0x2C => match j {
-            0 => look_bits(0x2C, bits, count, 0, 8, value, rest, s),
-            1 => look_bits(0x2C, bits, count, 1, 16, value, rest, s),
-            2 => look_bits(0x2C, bits, count, 2, 24, value, rest, s),
-            _ => look_bits(message, bits, count, j, 8 * j + 8, value, rest, s),
-        },
-        _ => look_bits(message, bits, count, j, 8 * j + 8, value, rest, s),
-    }
+    look_byte(message, byte, value, rest, s)
 }
 
 // All fields that the first `count` bitfield bytes select, each cleared in the layout.
-pub fn look_all(message: u8, bits: &[u8; 15], count: u8, rest: &mut [u8]) -> Seen
-    requires { ⌜ (length (now rest) ≡ 154) × (count ≤ 15) ⌝ }
-    ensures { λ r. ⌜ looking r (now (rest .exit)) ≡ lookWalk message count (now (bits .entry)) 120 0 (unseen (now (rest .entry))) ⌝ }
+pub fn look_all(message: u8, bits: &[u8], count: u8, rest: &mut [u8]) -> Seen
+    requires { ⌜ (length (now rest) ≡ layoutSize) × (count ≤ length (now bits)) × (count ≤ 15) ⌝ }
+    ensures { λ r. ⌜ looking r (now (rest .exit)) ≡ lookWalk message count (now (bits .entry)) allPlaces 0 (unseen (now (rest .entry))) ⌝ }
 {
     let mut j: u8 = 0;
     let mut r = Seen {
@@ -153,8 +156,8 @@ pub fn look_all(message: u8, bits: &[u8; 15], count: u8, rest: &mut [u8]) -> See
     };
     while j < count {
         let value = bits[j as usize];
-        r = look_byte(message, bits, count, j, value, rest, r);
         j += 1;
+        r = look_next(message, j, value, rest, r);
     }
     r
 }

@@ -1,1 +1,2 @@
+-- What the functions of judging rest on.
 pub mod One

@@ -1,37 +1,14 @@
--- The state of judging, and the walk that judges: taking without its layout. Definitions alone. Assumes nothing.
-use Prim.Native.Nat.{ℕ, suc, _+_}
-use mathlib.Core.Bool.{Bool, true, false, not, _&&_}
+-- The state of judging, as the code holds it. Definitions alone. Assumes nothing.
+use Prim.Native.Nat.{ℕ}
+use mathlib.Core.Bool.{true, false, not}
 use mathlib.Core.List.{List}
-use lib.Dec.{eqb, leb}
-use lib.ListN.{length, take, drop}
-use Rattle.kinds.specs.declared.Kind.{Kind}
-use Rattle.kinds.specs.Kinds.{agreesOf}
-use Rattle.dictionary.specs.declared.Entry.{Entry}
-use Rattle.dictionary.specs.declared.Entry.the-variants.{Refused, Field}
+use lib.Dec.{eqb}
 use Rattle.fields.specs.Places.{selectedAt, entryAt}
-use Rattle.fields.specs.Walk.{pick, walk}
-use Rattle.spread.specs.declared.Taken.{Taken}
+use Rattle.fields.specs.Walk.{walk, Judging, judgeEntry}
+use Rattle.judge.specs.declared.Judged.{Judged}
 
--- how far the message is judged (one past its end where it is too short), whether all agree and whether a bit is bad
-pub record Judging : Type 0 where
-  pub at : ℕ
-  pub agree : Bool
-  pub bad : Bool
-
--- a field of width w and kind k
-abbrev pub judgeField : List ℕ → ℕ → Kind → Judging → Judging
-judgeField m w k st =
-    pick (leb (st .at + w) (length m))
-    (record { at = st .at + w; agree = agreesOf k (take w (drop (st .at) m)) && st .agree; bad = st .bad })
-    (record { at = suc (length m); agree = st .agree; bad = st .bad })
-
--- what a set bit selects; one that is not listed is bad
-unfoldable pub judgeEntry : List ℕ → Entry → Judging → Judging
-judgeEntry m Refused st = record { at = st .at; agree = st .agree; bad = true }
-judgeEntry m (Field w k p) st = judgeField m w k st
-
--- the state as the code holds it
-abbrev pub judging : Taken → Judging
+-- the struct
+abbrev pub judging : Judged → Judging
 judging t = record { at = t .at; agree = eqb (t .wrong) 0; bad = not (eqb (t .bad) 0) }
 
 -- nothing judged yet

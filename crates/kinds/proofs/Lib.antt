@@ -1,1 +1,5 @@
 pub mod Walk
+pub mod Lanes
+pub mod Characters
+pub mod WordTest
+pub mod Joins

@@ -8,9 +8,8 @@ use native.Mathlib.Numerals.{add-one}
 use native.Mathlib.Omega.{arith}
 use lib.ListN.{length, take, drop, getD, length-drop, drop-of-length-le}
 use lib.Seq.{drop-cons, take-all}
-use borrow.Author.Tests.{eq-eqb, ne-eqb}
-use Rattle.kinds.specs.declared.Kind.{Kind}
-use Rattle.kinds.specs.Kinds.{allowed, allNul, agreesText}
+use borrow.Author.Tests.{ne-eqb}
+use Rattle.kinds.specs.Kinds.{allNul}
 
 module _ (s : List ℕ) (i : ℕ) (h : i < length s) where
   pub cons-at : drop i s ≡ getD s i 0 ∷ drop (i + 1) s
@@ -18,19 +17,6 @@ module _ (s : List ℕ) (i : ℕ) (h : i < length s) where
 
   pub nul-no : (getD s i 0 ≡ 0 → ⊥) → allNul (drop i s) ≡ false
   nul-no n = ap allNul cons-at ∙ rw (ne-eqb _ _ n)
-
-  pub nul-yes : getD s i 0 ≡ 0 → allNul (drop i s) ≡ allNul (drop (i + 1) s)
-  nul-yes e = ap allNul cons-at ∙ rw (eq-eqb _ _ e)
-
-  module _ (k : Kind) where
-    pub text-nul : getD s i 0 ≡ 0 → agreesText k (drop i s) ≡ allNul (drop i s)
-    text-nul e = ap (agreesText k) cons-at ∙ rw (eq-eqb _ _ e) (sym (nul-yes e))
-
-    pub text-bad : (getD s i 0 ≡ 0 → ⊥) → allowed k (getD s i 0) ≡ false → agreesText k (drop i s) ≡ false
-    text-bad n a = ap (agreesText k) cons-at ∙ rw (ne-eqb _ _ n, a)
-
-    pub text-more : (getD s i 0 ≡ 0 → ⊥) → allowed k (getD s i 0) ≡ true → agreesText k (drop i s) ≡ agreesText k (drop (i + 1) s)
-    text-more n a = ap (agreesText k) cons-at ∙ rw (ne-eqb _ _ n, a)
 
 swap : (t r o : Bool) → (r && (t && o)) ≡ ((t && r) && o)
 swap true r o = refl

@@ -1,5 +1,5 @@
 -- What is true of the data kinds. Assumes nothing.
-use mathlib.Core.Path.{_≡_, refl, sym, ap, _∙_}
+use mathlib.Core.Path.{_≡_, refl}
 use mathlib.Core.Bool.{Bool, true, false, cond, not, _&&_, _||_, false≢true, and-eq-true-iff}
 use mathlib.Core.List.{List, [], _∷_}
 use Prim.Native.Nat.{ℕ, _<_}
@@ -7,16 +7,17 @@ use native.Mathlib.Nat.{not-suc-le-zero}
 use native.Mathlib.Omega.{arith}
 use lib.Dec.{eqb}
 use lib.ListN.{length, getD}
-use borrow.Author.Tests.{not-true, eqb-true, eq-eqb, ne-eqb}
+use borrow.Author.Tests.{not-true, eqb-true, eq-eqb}
 use Rattle.kinds.specs.declared.Kind.{Kind}
 use Rattle.kinds.specs.declared.Kind.the-variants.{Letters, Alphanumeric, Text, Identifier, Binary, Price}
-use Rattle.kinds.specs.Kinds.{allowed, allNul, allAllowed, agreesText, agreesOf, agreesFilledOf, steady}
+use Rattle.kinds.specs.Kinds.{allowed, allNul, agreesText, agreesOf, agreesFilledOf, steady}
 
 first-holds : (t u v : Bool) → t && u ≡ true → cond t u v ≡ true
 first-holds true u v h = h
 first-holds false u v h = absurd (false≢true h)
 
-blank-text : (k : Kind) (bs : List ℕ) → allNul bs ≡ true → agreesText k bs ≡ true
+-- a blank field agrees as a text
+pub blank-text : (k : Kind) (bs : List ℕ) → allNul bs ≡ true → agreesText k bs ≡ true
 blank-text k [] h = refl
 blank-text k (b ∷ bs) h = first-holds (eqb b 0) (allNul bs) _ h
 
@@ -36,36 +37,6 @@ filled-agrees k bs h = and-eq-true-iff (not (allNul bs)) (agreesOf k bs) .0 h .1
 -- a field that agrees and is not blank is not blank
 pub filled-not-blank : (k : Kind) (bs : List ℕ) → agreesFilledOf k bs ≡ true → allNul bs ≡ false
 filled-not-blank k bs h = not-true (allNul bs) (and-eq-true-iff (not (allNul bs)) (agreesOf k bs) .0 h .0)
-
--- where NUL is not allowed, a field all of whose bytes are allowed agrees as a text
-text-of-allowed : (k : Kind) → allowed k 0 ≡ false → (bs : List ℕ) → allAllowed k bs ≡ true → agreesText k bs ≡ true
-text-of-allowed k n [] h = refl
-text-of-allowed k n (b ∷ bs) h =
-    let p = and-eq-true-iff (allowed k b) (allAllowed k bs) .0 h in
-    rw (ne-eqb b 0 (λ e. false≢true (sym n ∙ ap (allowed k) (sym e) ∙ p .0)), p .0) (text-of-allowed k n bs (p .1))
-
--- where a kind takes any byte, all bytes of any field are allowed
-allowed-of-any : (k : Kind) → ((b : ℕ) → allowed k b ≡ true) → (bs : List ℕ) → allAllowed k bs ≡ true
-allowed-of-any k n [] = refl
-allowed-of-any k n (b ∷ bs) = rw (n b) (allowed-of-any k n bs)
-
--- a field all of whose bytes are allowed agrees with its kind
-pub allowed-agrees : (k : Kind) (bs : List ℕ) → allAllowed k bs ≡ true → agreesOf k bs ≡ true
-allowed-agrees Letters bs h = text-of-allowed Letters refl bs h
-allowed-agrees Alphanumeric bs h = text-of-allowed Alphanumeric refl bs h
-allowed-agrees Text bs h = text-of-allowed Text refl bs h
-allowed-agrees Identifier bs h = text-of-allowed Identifier refl bs h
-allowed-agrees Binary bs h = refl
-allowed-agrees Price bs h = refl
-
--- a field with a byte that is not allowed is of a text kind
-pub other-is-text : (k : Kind) (bs : List ℕ) → allAllowed k bs ≡ false → agreesOf k bs ≡ agreesText k bs
-other-is-text Letters bs h = refl
-other-is-text Alphanumeric bs h = refl
-other-is-text Text bs h = refl
-other-is-text Identifier bs h = refl
-other-is-text Binary bs h = absurd (false≢true (sym h ∙ allowed-of-any Binary (λ b. refl) bs))
-other-is-text Price bs h = absurd (false≢true (sym h ∙ allowed-of-any Price (λ b. refl) bs))
 
 -- after a NUL only NUL follows
 pub steady-nul : (bs : List ℕ) → steady 0 bs ≡ allNul bs

@@ -1,8 +1,14 @@
 // The data kinds of fields: whether a field's bytes agree with its kind.
 ghost use mathlib.Core.Path.{_≡_};
 ghost use mathlib.Core.Bool.{_&&_, _||_};
+ghost use mathlib.Core.List.{_++_};
+ghost use Prim.Native.Nat.{_+_, _≤_, _<_};
+ghost use lib.Bits.{bitXor};
 ghost use lib.Dec.{eqb};
-ghost use Rattle.kinds.specs.Kinds.{within, letter, allowed, allNul, allAllowed, follows, agreesText, agreesOf, agreesFilledOf};
+ghost use lib.ListN.{length, take};
+ghost use Rattle.numbers.specs.Numbers.{bytesOf};
+ghost use Rattle.kinds.specs.Kinds.{within, letter, allowed, allNul, follows, agreesText, agreesOf, agreesFilledOf};
+ghost use Rattle.kinds.specs.Words.{kindOf, Low, Marks};
 
 // A field's kind: document 01's A, N, T, the characters of ClOrdID and OrigClOrdID, B and P.
 pub enum Kind {
@@ -12,6 +18,13 @@ pub enum Kind {
     Identifier,
     Binary,
     Price,
+}
+
+// The kinds of texts whose characters are tested a word at a time: A, N and T.
+enum Plain {
+    OfA,
+    OfN,
+    OfT,
 }
 
 // Whether two tests hold. Both are made: a loop that never stops early takes many bytes at a time.
@@ -82,48 +95,6 @@ pub fn is_blank(s: &[u8]) -> bool
     ok
 }
 
-// Whether a kind allows every byte of a field, no NUL taken as its end.
-fn every(kind: Kind, s: &[u8]) -> bool
-    ensures { λ r. ⌜ r ≡ allAllowed kind (now (s .entry)) ⌝ }
-{
-    let mut i: usize = 0;
-    let mut ok = true;
-    while i < s.len() {
-        ok = both(is_allowed(kind, s[i]), ok);
-        i += 1;
-    }
-    ok
-}
-
-// Whether a text field agrees with its kind: allowed bytes up to the first NUL, and NUL from there on.
-fn up_to_nul(kind: Kind, s: &[u8]) -> bool
-    ensures { λ r. ⌜ r ≡ agreesText kind (now (s .entry)) ⌝ }
-{
-    let mut i: usize = 0;
-    while i < s.len() {
-        let b = s[i];
-        if b == 0 {
-            return is_blank(&s[i..]);
-        }
-        if is_allowed(kind, b) {
-            i += 1;
-        } else {
-            return false;
-        }
-    }
-    true
-}
-
-// Whether a field agrees with its kind, tried first as one that has no NUL.
-fn agrees_text(kind: Kind, s: &[u8]) -> bool
-    ensures { λ r. ⌜ r ≡ agreesOf kind (now (s .entry)) ⌝ }
-{
-    if every(kind, s) {
-        return true;
-    }
-    up_to_nul(kind, s)
-}
-
 // Whether a byte of an identifier may stand after another: NUL after any, a character after any but NUL.
 fn fine(prev: u8, b: u8) -> bool
     ensures { λ r. ⌜ r ≡ follows prev b ⌝ }
@@ -160,21 +131,140 @@ fn agrees_one(kind: Kind, b: u8) -> bool
     is_allowed(kind, b)
 }
 
-// Whether a field's bytes agree with its kind. A blank field does. One byte is tested without a loop.
-pub fn agrees(kind: Kind, s: &[u8]) -> bool
+// A byte as a wider number.
+fn wide(x: u8) -> u64
+    ensures { λ r. ⌜ (r ≡ x) × (r < 256) ⌝ }
+{
+    x as u64
+}
+
+// The number of the first four bytes.
+fn half(s: &[u8]) -> u64
+    requires { ⌜ 4 ≤ length (now s) ⌝ }
+    ensures { λ r. ⌜ (bytesOf 4 r ≡ take 4 (now (s .entry))) × (r < 4294967296) ⌝ }
+{
+    wide(s[0]) + 256 * wide(s[1]) + 65536 * wide(s[2]) + 16777216 * wide(s[3])
+}
+
+// The number of the first eight bytes: a word, with a byte in each of its eight lanes.
+fn word(s: &[u8]) -> u64
+    requires { ⌜ 8 ≤ length (now s) ⌝ }
+    ensures { λ r. ⌜ bytesOf 8 r ≡ take 8 (now (s .entry)) ⌝ }
+{
+    half(s) + 4294967296 * half(&s[4..])
+}
+
+// Marks, which are the highest bits of lanes, at the lanes that reach 128 with `low` added and do not with `high`.
+fn between(y: u64, low: u64, high: u64) -> u64
+    requires { ⌜ (y ≤ 0x7F7F7F7F7F7F7F7F) × (low ≤ 0x7F7F7F7F7F7F7F7F) × (high ≤ 0x7F7F7F7F7F7F7F7F) ⌝ }
+    ensures { λ r. ⌜ r ≡ bitXor (y + low) (y + high) ⌝ }
+{
+    (y + low) ^ (y + high)
+}
+
+// Marks at the letters of a word of lanes below 128. A capital letter and its small one differ by 32.
+fn letters(y: u64) -> u64
+    requires { ⌜ Low 8 y ⌝ }
+    ensures { λ r. ⌜ Marks letter 8 y r ⌝ }
+{
+    between(
+        y | 0x2020202020202020,
+        0x1F1F1F1F1F1F1F1F,
+        0x0505050505050505,
+    )
+}
+
+// Marks at the characters of a plain kind.
+fn marks(plain: Plain, y: u64) -> u64
+    requires { ⌜ Low 8 y ⌝ }
+    ensures { λ r. ⌜ Marks (allowed (kindOf plain)) 8 y r ⌝ }
+{
+    match plain {
+        Plain::OfA => letters(y),
+        Plain::OfN => letters(y) | between(y, 0x5050505050505050, 0x4646464646464646),
+        Plain::OfT => between(y, 0x6060606060606060, 0x0101010101010101),
+    }
+}
+
+// Whether the eight bytes of a word agree with a plain kind: each is below 128, and where it or the one after it is not NUL, the kind allows it.
+fn word_agrees(plain: Plain, x: u64) -> bool
+    ensures { λ r. ⌜ r ≡ agreesText (kindOf plain) (bytesOf 8 x) ⌝ }
+{
+    let y = x & 0x7F7F7F7F7F7F7F7F;
+    let good = marks(plain, y);
+    let filled = y + 0x7F7F7F7F7F7F7F7F;
+    ((((filled >> 8) | filled) & (good ^ 0xFFFFFFFFFFFFFFFF)) | x) & 0x8080808080808080 == 0
+}
+
+// The same for two words, one after another. A word below 256 to the 7th ends with NUL.
+fn pair_agrees(plain: Plain, x: u64, y: u64) -> bool
+    ensures { λ r. ⌜ r ≡ agreesText (kindOf plain) (bytesOf 8 x ++ bytesOf 8 y) ⌝ }
+{
+    if x < 0x100000000000000 {
+        return both(word_agrees(plain, x), y == 0);
+    }
+    both(word_agrees(plain, x), word_agrees(plain, y))
+}
+
+// The same for any field, word after word. Bytes past the end are read as NUL.
+fn long_agrees(plain: Plain, s: &[u8]) -> bool
+    ensures { λ r. ⌜ r ≡ agreesText (kindOf plain) (now (s .entry)) ⌝ }
+{
+    let mut i: usize = 0;
+    while 8 <= s.len() - i {
+        let x = word(&s[i..]);
+        i += 8;
+        if x < 0x100000000000000 {
+            return both(word_agrees(plain, x), is_blank(&s[i..]));
+        }
+        if !word_agrees(plain, x) {
+            return false;
+        }
+    }
+    word_agrees(plain, numbers::read_u64(s, i))
+}
+
+// The same for a field of n bytes. Where n is a literal the compiler keeps one of the four.
+fn text_agrees(plain: Plain, n: usize, s: &[u8]) -> bool
+    requires { ⌜ n ≡ length (now s) ⌝ }
+    ensures { λ r. ⌜ r ≡ agreesText (kindOf plain) (now (s .entry)) ⌝ }
+{
+    if n == 8 {
+        return word_agrees(plain, word(s));
+    }
+    if n == 4 {
+        return word_agrees(plain, half(s));
+    }
+    if n == 16 {
+        return pair_agrees(plain, word(s), word(&s[8..]));
+    }
+    long_agrees(plain, s)
+}
+
+// Whether the n bytes of a field agree with its kind.
+fn sized_agrees(kind: Kind, n: usize, s: &[u8]) -> bool
+    requires { ⌜ n ≡ length (now s) ⌝ }
     ensures { λ r. ⌜ r ≡ agreesOf kind (now (s .entry)) ⌝ }
 {
-    if s.len() == 1 {
+    if n == 1 {
         return agrees_one(kind, s[0]);
     }
     match kind {
-        Kind::Letters => agrees_text(Kind::Letters, s),
-        Kind::Alphanumeric => agrees_text(Kind::Alphanumeric, s),
-        Kind::Text => agrees_text(Kind::Text, s),
-        Kind::Identifier => agrees_text(Kind::Identifier, s),
+        Kind::Letters => text_agrees(Plain::OfA, n, s),
+        Kind::Alphanumeric => text_agrees(Plain::OfN, n, s),
+        Kind::Text => text_agrees(Plain::OfT, n, s),
+        Kind::Identifier => is_name(s),
         Kind::Binary => true,
         Kind::Price => true,
     }
+}
+
+// Whether a field's bytes agree with its kind. A blank field does. The length is an argument below, so that a literal one is folded.
+pub fn agrees(kind: Kind, s: &[u8]) -> bool
+    ensures { λ r. ⌜ r ≡ agreesOf kind (now (s .entry)) ⌝ }
+{
+    let n = s.len();
+    sized_agrees(kind, n, s)
 }
 
 // The same for a field that is never blank. Where its first byte is not NUL, it is not.
@@ -185,12 +275,12 @@ pub fn agrees_filled(kind: Kind, s: &[u8]) -> bool
         return false;
     }
     if s[0] != 0 {
-        return agrees(kind, s);
+        return sized_agrees(kind, s.len(), s);
     }
     if is_blank(s) {
         return false;
     }
-    agrees(kind, s)
+    sized_agrees(kind, s.len(), s)
 }
 
 // Whether a field is an identifier and not blank: the same as the test above for that kind, made in one pass.

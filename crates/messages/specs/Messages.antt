@@ -14,6 +14,7 @@ use Rattle.orders.specs.Orders as orders
 use Rattle.records.specs.Records.{recordBytes, recordAt}
 use Rattle.logins.specs.Sessions as sessions
 use Rattle.logins.specs.declared.Record as sessionRecords
+use Rattle.fields.specs.Sizes.{recordSize}
 
 -- ---- the types
 
@@ -86,4 +87,4 @@ writeOut direction s out = cond (eqb (writeCall direction s (length out)) 0) (pa
 
 -- what of a buffer is the record: its first 439 bytes, or of an order its first 235
 unfoldable pub heldIn : List ℕ → List ℕ
-heldIn s = cond (isSession (getD s 0 0)) (take 439 s) (take 235 s)
+heldIn s = cond (isSession (getD s 0 0)) (take 439 s) (take recordSize s)

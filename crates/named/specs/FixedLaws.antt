@@ -21,6 +21,7 @@ use Rattle.named.specs.Named.{found, nowhere, pick, fixedOf, numberIn, l
 use Rattle.named.specs.Named.{numberFixed, longFixed, priceFixed, text1Fixed, text4Fixed, text20Fixed, choose, fixing, fixingOf}
 use Rattle.named.specs.OtherLaws.{kept-after, kept-before}
 use Rattle.named.specs.LocalLaws.{Local, got-alike}
+use Rattle.fields.specs.Sizes.{fixedSize}
 
 -- ---- setting a field of the fixed part leaves all but the fixed part, in a record of any type
 
@@ -45,8 +46,8 @@ fixing-keeps-the-rest message at bytes r = by (eqb (r .message) message)
 -- a record of the type, its fixed part whole, and a place of w bytes in it
 pub record Part (message at w : ℕ) (r : Record) : Type 0 where
   pub of-type : r .message ≡ message
-  pub whole : length (r .fixed) ≡ 59
-  pub fits : at + w ≤ 59
+  pub whole : length (r .fixed) ≡ fixedSize
+  pub fits : at + w ≤ fixedSize
 
 module _ {message at w : ℕ} {r : Record} (i : Part message at w r) where
   fix-at : (bytes : List ℕ) → fixingOf message at bytes r ≡ fixing at bytes r

@@ -23,6 +23,7 @@ use Rattle.fields.specs.Dictionaries.{field-fits}
 use Rattle.orders.specs.declared.Record.{Record}
 use Rattle.named.specs.declared.Found.{Found}
 use Rattle.named.specs.Named.{found, nowhere, pick, placeIn, selectedOf, optionalOf, numberIn, longIn, priceIn, bytesIn, numberOf, longOf, priceOf, withBit, larger, selecting, storing, settableOf, setIn, settingOf}
+use Rattle.fields.specs.Sizes.{layoutSize}
 
 -- ---- an entry's field, by its width
 
@@ -72,7 +73,7 @@ pub record Listed (message byte bit w p : ℕ) (k : Kind) (r : Record) : Type 0 
   pub from-one : 1 ≤ byte
   pub in-bits : byte ≤ length (r .bits)
   pub low-bit : bit < 8
-  pub whole : length (r .slots) ≡ 154
+  pub whole : length (r .slots) ≡ layoutSize
 
 module _ {message byte bit w p : ℕ} {k : Kind} {r : Record} (i : Listed message byte bit w p k r) where
   pub set-at : (bytes : List ℕ) → length bytes ≡ w → settingOf message byte bit bytes r ≡ selecting byte bit (storing p bytes r)

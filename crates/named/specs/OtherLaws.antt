@@ -16,6 +16,7 @@ use Rattle.fields.specs.Dictionaries.{before, before-grows, dictionary-placed, 
 use Rattle.orders.specs.declared.Record.{Record}
 use Rattle.named.specs.Named.{settingOf}
 use Rattle.named.specs.NamedLaws.{Listed, set-slots}
+use Rattle.fields.specs.Sizes.{allPlaces}
 
 -- ---- bytes before and after those that are put
 
@@ -57,7 +58,7 @@ at-place message byte bit h l =
     let b : (8 * (byte - 1) + bit) % 8 ≡ bit = omega arith in
     ap₂ (entryOf message) a b
 
-pub apart : (message i j : ℕ) {w p w′ p′ : ℕ} {k k′ : Kind} → i < j → j < 120 → Field w k p ≡ entryAt message i → Field w′ k′ p′ ≡ entryAt message j → p + w ≤ p′
+pub apart : (message i j : ℕ) {w p w′ p′ : ℕ} {k k′ : Kind} → i < j → j < allPlaces → Field w k p ≡ entryAt message i → Field w′ k′ p′ ≡ entryAt message j → p + w ≤ p′
 unfolding before
 apart message i j {w} {p} {w′} {p′} h l e f =
     let at = entryAt message in

@@ -14,6 +14,7 @@ ghost use Rattle.fields.specs.Places.{bitSet};
 ghost use Rattle.named.specs.Named.{placeIn, withBit, larger, selecting, storing, fixing, settableOf, settingOf, fixingOf};
 ghost use Rattle.numbers.specs.Numbers.{bytesOf, patched};
 ghost use Rattle.numbers.specs.Prices.{bitsOf};
+ghost use Rattle.fields.specs.Sizes.{fixedSize, layoutSize};
 use dictionary::Entry;
 use orders::Record;
 
@@ -87,8 +88,8 @@ fn bit_set(x: u8, bit: u8) -> bool
 
 // Where a listed bit's field stands in the full layout, if it has this width.
 fn place(message: u8, byte: u8, bit: u8, width: usize) -> Found
-    requires { ⌜ width ≤ 154 ⌝ }
-    ensures { λ f. ⌜ (f ≡ placeIn width (entryOf message byte bit)) × (f .at + width ≤ 154) ⌝ }
+    requires { ⌜ width ≤ layoutSize ⌝ }
+    ensures { λ f. ⌜ (f ≡ placeIn width (entryOf message byte bit)) × (f .at + width ≤ layoutSize) ⌝ }
 {
     let e = dictionary::entry_of(message, byte, bit);
     match e {
@@ -169,7 +170,7 @@ fn put_at(to: &mut [u8], at: usize, bytes: &[u8])
 
 // The record with bytes in its full layout.
 fn with_slot(r: Record, at: usize, bytes: &[u8]) -> Record
-    requires { ⌜ at + length (now bytes) ≤ 154 ⌝ }
+    requires { ⌜ at + length (now bytes) ≤ layoutSize ⌝ }
     ensures { λ o. ⌜ o ≡ storing at (now (bytes .entry)) r ⌝ }
 {
     let mut slots = r.slots;
@@ -189,7 +190,7 @@ fn with_slot(r: Record, at: usize, bytes: &[u8]) -> Record
 
 // The record with bytes in its fixed part.
 fn with_part(r: Record, at: usize, bytes: &[u8]) -> Record
-    requires { ⌜ at + length (now bytes) ≤ 59 ⌝ }
+    requires { ⌜ at + length (now bytes) ≤ fixedSize ⌝ }
     ensures { λ o. ⌜ o ≡ fixing at (now (bytes .entry)) r ⌝ }
 {
     let mut part = r.fixed;
@@ -209,8 +210,8 @@ fn with_part(r: Record, at: usize, bytes: &[u8]) -> Record
 
 // Where a listed bit's field stands in a record of a type, selected or not.
 fn settable(r: Record, message: u8, byte: u8, bit: u8, width: usize) -> Found
-    requires { ⌜ width ≤ 154 ⌝ }
-    ensures { λ f. ⌜ (f ≡ settableOf message byte bit width r) × (f .at + width ≤ 154) ⌝ }
+    requires { ⌜ width ≤ layoutSize ⌝ }
+    ensures { λ f. ⌜ (f ≡ settableOf message byte bit width r) × (f .at + width ≤ layoutSize) ⌝ }
 {
     if r.message == message {
         return place(message, byte, bit, width);
@@ -223,7 +224,7 @@ fn settable(r: Record, message: u8, byte: u8, bit: u8, width: usize) -> Found
 
 // The record with an optional field set.
 fn set_optional(r: Record, message: u8, byte: u8, bit: u8, bytes: &[u8]) -> Record
-    requires { ⌜ (1 ≤ byte) × (byte ≤ 15) × (bit < 8) × (length (now bytes) ≤ 154) ⌝ }
+    requires { ⌜ (1 ≤ byte) × (byte ≤ 15) × (bit < 8) × (length (now bytes) ≤ layoutSize) ⌝ }
     ensures { λ o. ⌜ o ≡ settingOf message byte bit (now (bytes .entry)) r ⌝ }
 {
     let f = settable(r, message, byte, bit, bytes.len());
@@ -236,7 +237,7 @@ fn set_optional(r: Record, message: u8, byte: u8, bit: u8, bytes: &[u8]) -> Reco
 
 // The record with a field of the fixed part set.
 fn set_fixed(r: Record, message: u8, at: usize, bytes: &[u8]) -> Record
-    requires { ⌜ at + length (now bytes) ≤ 59 ⌝ }
+    requires { ⌜ at + length (now bytes) ≤ fixedSize ⌝ }
     ensures { λ o. ⌜ o ≡ fixingOf message at (now (bytes .entry)) r ⌝ }
 {
     if r.message == message {
@@ -293,7 +294,7 @@ fn set_long(r: Record, message: u8, byte: u8, bit: u8, v: u64) -> Record
 
 // The record with a number of four bytes set in its fixed part.
 fn set_number_fixed(r: Record, message: u8, at: usize, v: u32) -> Record
-    requires { ⌜ at + 4 ≤ 59 ⌝ }
+    requires { ⌜ at + 4 ≤ fixedSize ⌝ }
     ensures { λ o. ⌜ o ≡ fixingOf message at (bytesOf 4 v) r ⌝ }
 {
     let b = little4(v);
@@ -302,7 +303,7 @@ fn set_number_fixed(r: Record, message: u8, at: usize, v: u32) -> Record
 
 // The record with a number of eight bytes set in its fixed part.
 fn set_long_fixed(r: Record, message: u8, at: usize, v: u64) -> Record
-    requires { ⌜ at + 8 ≤ 59 ⌝ }
+    requires { ⌜ at + 8 ≤ fixedSize ⌝ }
     ensures { λ o. ⌜ o ≡ fixingOf message at (bytesOf 8 v) r ⌝ }
 {
     let b = little8(v);
@@ -319,7 +320,7 @@ fn set_price(r: Record, message: u8, byte: u8, bit: u8, p: i64) -> Record
 
 // The record with a price set in its fixed part.
 fn set_price_fixed(r: Record, message: u8, at: usize, p: i64) -> Record
-    requires { ⌜ at + 8 ≤ 59 ⌝ }
+    requires { ⌜ at + 8 ≤ fixedSize ⌝ }
     ensures { λ o. ⌜ o ≡ fixingOf message at (bytesOf 8 (bitsOf p)) r ⌝ }
 {
     set_long_fixed(r, message, at, numbers::prices::bits(p))

@@ -6,6 +6,7 @@ ghost use Rattle.named.specs.Named.{selectedOf, optionalOf, fixedOf};
 ghost use Rattle.named.specs.Named.{numberIn, longIn, priceIn, text1In, text4In, text8In, text16In, text20In, text64In};
 ghost use Rattle.named.specs.Named.{numberOf, longOf, priceOf, text1Of, text4Of, text8Of, text16Of, text64Of};
 ghost use Rattle.named.specs.Named.{numberFixed, longFixed, priceFixed, text1Fixed, text4Fixed, text20Fixed};
+ghost use Rattle.fields.specs.Sizes.{fixedSize, layoutSize};
 use crate::Found;
 use crate::LongField;
 use crate::NumberField;
@@ -36,8 +37,8 @@ fn is_selected(r: Record, message: u8, byte: u8, bit: u8) -> bool
 
 // Where a record's optional field stands.
 fn optional(r: Record, message: u8, byte: u8, bit: u8, width: usize) -> Found
-    requires { ⌜ (1 ≤ byte) × (byte ≤ 15) × (bit < 8) × (width ≤ 154) ⌝ }
-    ensures { λ f. ⌜ (f ≡ optionalOf message byte bit width r) × (f .at + width ≤ 154) ⌝ }
+    requires { ⌜ (1 ≤ byte) × (byte ≤ 15) × (bit < 8) × (width ≤ layoutSize) ⌝ }
+    ensures { λ f. ⌜ (f ≡ optionalOf message byte bit width r) × (f .at + width ≤ layoutSize) ⌝ }
 {
     if is_selected(r, message, byte, bit) {
         return crate::place(message, byte, bit, width);
@@ -318,7 +319,7 @@ pub fn text64_of(r: Record, message: u8, byte: u8, bit: u8) -> Text64
 
 // A number of four bytes in the fixed part, by its place there.
 pub fn number_fixed(r: Record, message: u8, at: usize) -> NumberField
-    requires { ⌜ at + 4 ≤ 59 ⌝ }
+    requires { ⌜ at + 4 ≤ fixedSize ⌝ }
     ensures { λ a. ⌜ a ≡ numberFixed message at r ⌝ }
 {
     let part = r.fixed;
@@ -327,7 +328,7 @@ pub fn number_fixed(r: Record, message: u8, at: usize) -> NumberField
 
 // A number of eight bytes in the fixed part, by its place there.
 pub fn long_fixed(r: Record, message: u8, at: usize) -> LongField
-    requires { ⌜ at + 8 ≤ 59 ⌝ }
+    requires { ⌜ at + 8 ≤ fixedSize ⌝ }
     ensures { λ a. ⌜ a ≡ longFixed message at r ⌝ }
 {
     let part = r.fixed;
@@ -336,7 +337,7 @@ pub fn long_fixed(r: Record, message: u8, at: usize) -> LongField
 
 // A price in the fixed part, by its place there.
 pub fn price_fixed(r: Record, message: u8, at: usize) -> PriceField
-    requires { ⌜ at + 8 ≤ 59 ⌝ }
+    requires { ⌜ at + 8 ≤ fixedSize ⌝ }
     ensures { λ a. ⌜ a ≡ priceFixed message at r ⌝ }
 {
     let part = r.fixed;
@@ -345,7 +346,7 @@ pub fn price_fixed(r: Record, message: u8, at: usize) -> PriceField
 
 // A text of one byte in the fixed part, by its place there.
 pub fn text1_fixed(r: Record, message: u8, at: usize) -> Text1
-    requires { ⌜ at + 1 ≤ 59 ⌝ }
+    requires { ⌜ at + 1 ≤ fixedSize ⌝ }
     ensures { λ a. ⌜ a ≡ text1Fixed message at r ⌝ }
 {
     let part = r.fixed;
@@ -354,7 +355,7 @@ pub fn text1_fixed(r: Record, message: u8, at: usize) -> Text1
 
 // A text of four bytes in the fixed part, by its place there.
 pub fn text4_fixed(r: Record, message: u8, at: usize) -> Text4
-    requires { ⌜ at + 4 ≤ 59 ⌝ }
+    requires { ⌜ at + 4 ≤ fixedSize ⌝ }
     ensures { λ a. ⌜ a ≡ text4Fixed message at r ⌝ }
 {
     let part = r.fixed;
@@ -363,7 +364,7 @@ pub fn text4_fixed(r: Record, message: u8, at: usize) -> Text4
 
 // A text of 20 bytes in the fixed part, by its place there.
 pub fn text20_fixed(r: Record, message: u8, at: usize) -> Text20
-    requires { ⌜ at + 20 ≤ 59 ⌝ }
+    requires { ⌜ at + 20 ≤ fixedSize ⌝ }
     ensures { λ a. ⌜ a ≡ text20Fixed message at r ⌝ }
 {
     let part = r.fixed;

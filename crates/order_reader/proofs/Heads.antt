@@ -15,6 +15,7 @@ use Rattle.orders.specs.Shapes.{ofMember, ofVenue, countAt, mostOf, unitGood}
 use Rattle.orders.specs.Orders.{headRefusal, countOf}
 use Rattle.orders.specs.OrderLaws.{count-bounds, most-bound}
 use Rattle.order_reader.specs.Stages.{countRefusal}
+use Rattle.fields.specs.Sizes.{fixedEnd}
 
 -- ---- the refusals by their tests
 
@@ -64,7 +65,7 @@ module _ (m : List ℕ) (message unit : ℕ) (e : message ≡ typeOf m) (f : uni
 -- where the count stands, how many bitfields there are, and that they fit
 pub record GoodHead (m : List ℕ) (at count : ℕ) : Type 0 where
   pub at-least : 30 ≤ at
-  pub at-most : at ≤ 69
+  pub at-most : at ≤ fixedEnd
   pub few : count ≤ 15
   pub fits : at + 1 + count ≤ length m
 
@@ -80,7 +81,7 @@ good-head m message at count z e f g =
     let whole : countAt (typeOf m) + 1 + countOf m ≤ length m = ltb-false _ _ (p5 .0) in
     let bound : mostOf (typeOf m) ≤ 15 = most-bound (typeOf m) in
     let low : 30 ≤ countAt (typeOf m) = count-bounds (typeOf m) .low in
-    let high : countAt (typeOf m) ≤ 69 = count-bounds (typeOf m) .high in
+    let high : countAt (typeOf m) ≤ fixedEnd = count-bounds (typeOf m) .high in
     let a : at ≡ countAt (typeOf m) = f ∙ ap countAt e in
     let n : count ≡ countOf m = g ∙ ap (λ (i : ℕ). getD m i 0) a in
     record { at-least = omega arith; at-most = omega arith; few = omega arith; fits = omega arith }

@@ -9,20 +9,22 @@ use native.Mathlib.Omega.{arith}
 use lib.Dec.{ltb, eqb, leb}
 use lib.ListN.{length, getD, take, drop, length-append, length-drop, take-append-drop, List·getD-append}
 use lib.Seq.{length-take-le, take-append-le, drop-append-le, getD-take}
-use borrow.Author.Tests.{eq-eqb, ne-eqb}
+use borrow.Author.Tests.{eq-eqb, eqb-true}
 use Rattle.numbers.specs.Numbers.{numberAt, patched}
 use Rattle.numbers.proofs.Tail.{tail-is}
 use Rattle.wire.specs.Header.{typeOf, unitOf, numberOf}
 use Rattle.dictionary.specs.declared.Entry.{Entry}
-use Rattle.fields.specs.Slots.{zeros, Slot, slot, width, sum, spread}
+use Rattle.fields.specs.Slots.{zeros, Slot, slot, takes, width, sum, spread}
 use Rattle.fields.specs.SlotLaws.{length-zeros, drop-zeros}
 use Rattle.fields.specs.Places.{bitSet, selectedAt, entryAt, slotsFrom, slotsOf, hasRequired}
 use Rattle.orders.specs.Shapes.{countAt, newOrderGood, cancelOrderGood, acknowledgmentGood, executionGood, fixedGood}
 use Rattle.orders.specs.declared.Record.{Record}
 use Rattle.orders.specs.Orders.{countOf, bitsOf, fixedOf, optionalOf, headRefusal, blockRefusal, readRefusal, layoutOf, recordOf}
 use Rattle.records.specs.Records.{recordBytes}
-use Rattle.order_reader.specs.Stages.{thereBytes, bodyRecord, readRecord}
+use Rattle.order_reader.specs.Stages.{thereBytes, readRecord}
 use Rattle.order_reader.proofs.Heads.{good-head}
+use Rattle.order_reader.proofs.Judging.{total-right}
+use Rattle.fields.specs.Sizes.{allPlaces, fixedEnd, layoutSize}
 
 -- ---- bitfields with zeros after them
 
@@ -51,7 +53,7 @@ module _ (count : ℕ) (bs : List ℕ) (z : ℕ) where
   from-padded entry (suc n) k = ap₂ (λ (b : Bool) (ss : List Slot). slot b (entry k) ∷ ss) (selected-padded k) (from-padded entry n (suc k))
 
   slots-padded : (message : ℕ) → slotsOf message count (bs ++ zeros z) ≡ slotsOf message count bs
-  slots-padded message = from-padded (entryAt message) 120 0
+  slots-padded message = from-padded (entryAt message) allPlaces 0
 
 -- ---- a fixed part with anything after it
 
@@ -80,7 +82,7 @@ module _ (x z : List ℕ) (n : ℕ) (h : n ≤ length x) where
   good-by : Bool → Bool → Bool → List ℕ → Bool
   good-by a b c f = cond a (newOrderGood f) (cond b (cancelOrderGood f) (cond c (acknowledgmentGood f) (executionGood f)))
 
-  by-type : (a b c : Bool) → n ≡ cond a 35 (cond b 30 (cond c 47 69)) - 10 → good-by a b c (take n x ++ z) ≡ good-by a b c x
+  by-type : (a b c : Bool) → n ≡ cond a 35 (cond b 30 (cond c 47 fixedEnd)) - 10 → good-by a b c (take n x ++ z) ≡ good-by a b c x
   unfolding good-by
   by-type true b c e = rw (part-front 0 20 (omega arith), part-front 20 1 (omega arith), number-front 4 21 (omega arith))
   by-type false true c e = rw (part-front 0 20 (omega arith))
@@ -105,7 +107,7 @@ module _ (m : List ℕ) (ok : headRefusal m ≡ 0) where
         eq-eqb (headRefusal m) 0 ok,
         slots-padded (countOf m) bs (15 - countOf m) (typeOf m),
         required-padded (countOf m) bs (15 - countOf m) (typeOf m),
-        fixed-front (drop 10 m) (zeros (69 - countAt (typeOf m))) (countAt (typeOf m) - 10) (omega (arith, d, g .fits, g .at-least)) (typeOf m) refl,
+        fixed-front (drop 10 m) (zeros (fixedEnd - countAt (typeOf m))) (countAt (typeOf m) - 10) (omega (arith, d, g .fits, g .at-least)) (typeOf m) refl,
       ))
 
   pub in-place : (message at count : ℕ) → message ≡ typeOf m → at ≡ countAt message → count ≡ getD m at 0
@@ -118,6 +120,12 @@ module _ (m : List ℕ) (ok : headRefusal m ≡ 0) where
       ∙ ap₂ (λ (k j : ℕ). blockRefusal (typeOf m) k (take k (drop (j + 1) m)) (drop 10 m) (drop (j + 1 + k) m)) n i
       ∙ there
 
+  -- where it is not refused its optional bytes are as many as its set bits take
+  pub total-there : (message at count : ℕ) → message ≡ typeOf m → at ≡ countAt message → count ≡ getD m at 0 → readRefusal m ≡ 0
+      → sum takes (slotsOf message count (take count (drop (at + 1) m))) ≡ length (drop (at + 1 + count) m)
+  total-there message at count e f g z =
+      total-right message count (take count (drop (at + 1) m)) (drop 10 m) (drop (at + 1 + count) m) (in-place message at count e f g refl ∙ z)
+
   -- the bytes of the record
   bits-long : length (take (countOf m) (drop (countAt (typeOf m) + 1) m)) ≡ countOf m
   bits-long =
@@ -127,7 +135,7 @@ module _ (m : List ℕ) (ok : headRefusal m ≡ 0) where
 
   layout-there : (bs o : List ℕ) (z : ℕ) → layoutOf (typeOf m) (countOf m) bs o ≡ layoutOf (typeOf m) (countOf m) (bs ++ zeros z) o
   unfolding layoutOf
-  layout-there bs o z = ap (λ (ss : List Slot). spread ss o ++ zeros (154 - sum width ss)) (sym (slots-padded (countOf m) bs z (typeOf m)))
+  layout-there bs o z = ap (λ (ss : List Slot). spread ss o ++ zeros (layoutSize - sum width ss)) (sym (slots-padded (countOf m) bs z (typeOf m)))
 
   -- a record with these bitfields and this layout
   abbrev with : List ℕ → List ℕ → Record
@@ -139,23 +147,30 @@ module _ (m : List ℕ) (ok : headRefusal m ≡ 0) where
       ap₂ (λ (i : ℕ) (l : List ℕ). recordBytes (with (take (countOf m) (drop (countAt (typeOf m) + 1) m) ++ zeros (15 - i)) l)) bits-long
       (layout-there (take (countOf m) (drop (countAt (typeOf m) + 1) m)) (drop (countAt (typeOf m) + 1 + countOf m) m) (15 - countOf m))
 
-  record-there : (buffer : List ℕ) → bodyRecord m (typeOf m) (countAt (typeOf m)) (countOf m) buffer ≡ readRecord m buffer
-  unfolding bodyRecord readRecord
-  record-there buffer = ap₂ (λ (n : ℕ) (bs : List ℕ). cond (eqb n 0) (patched buffer 0 bs) buffer) there bytes-there
-
-  -- the refusal and the record of the body are the message's
-  pub read-is : (message at count : ℕ) → message ≡ typeOf m → at ≡ countAt message → count ≡ getD m at 0 → (buffer : List ℕ) {r : ℕ} {out : List ℕ}
-      → (r ≡ blockRefusal message count (take count (drop (at + 1) m)) (drop 10 m) (drop (at + 1 + count) m)) × (out ≡ bodyRecord m message at count buffer)
-      → (r ≡ readRefusal m) × (out ≡ readRecord m buffer)
-  read-is message at count e f g buffer q =
+  -- the record of a message that is not refused
+  pub read-is : (message at count : ℕ) → message ≡ typeOf m → at ≡ countAt message → count ≡ getD m at 0 → (buffer : List ℕ) {out : List ℕ} → readRefusal m ≡ 0
+      → out ≡ patched buffer 0 (thereBytes m message count (take count (drop (at + 1) m)) (layoutOf message count (take count (drop (at + 1) m)) (drop (at + 1 + count) m)))
+      → (0 ≡ readRefusal m) × (out ≡ readRecord m buffer)
+  unfolding readRecord
+  read-is message at count e f g buffer z q =
       let i : at ≡ countAt (typeOf m) = f ∙ ap countAt e in
       let n : count ≡ countOf m = g ∙ ap (λ (j : ℕ). getD m j 0) i in (
-        in-place message at count e f g (q .0),
-        q .1
-            ∙ ap (λ (x : ℕ). bodyRecord m x at count buffer) e
-            ∙ ap₂ (λ (k j : ℕ). bodyRecord m (typeOf m) j k buffer) n i
-            ∙ record-there buffer,
+        sym z,
+        q
+            ∙ ap (λ (x : ℕ). patched buffer 0 (thereBytes m x count (take count (drop (at + 1) m)) (layoutOf x count (take count (drop (at + 1) m)) (drop (at + 1 + count) m)))) e
+            ∙ ap₂ (λ (k j : ℕ). patched buffer 0 (thereBytes m (typeOf m) k (take k (drop (j + 1) m)) (layoutOf (typeOf m) k (take k (drop (j + 1) m)) (drop (j + 1 + k) m)))) n i
+            ∙ ap (patched buffer 0) bytes-there
+            ∙ rw (eq-eqb (readRefusal m) 0 z),
       )
+
+-- a message that is not refused has a good head
+pub head-good : (m : List ℕ) → readRefusal m ≡ 0 → headRefusal m ≡ 0
+unfolding readRefusal
+head-good m z = by (eqb (headRefusal m) 0) refl z
+  where
+    by : (b : Bool) → eqb (headRefusal m) 0 ≡ b → cond b (blockRefusal (typeOf m) (countOf m) (bitsOf m) (fixedOf m) (optionalOf m)) (headRefusal m) ≡ 0 → headRefusal m ≡ 0
+    by true e z = eqb-true (headRefusal m) 0 e
+    by false e z = z
 
 -- the parts as they are lent
 pub lent-there : (m : List ℕ) (message at count : ℕ) → at + 1 + count ≤ length m → 30 ≤ at
@@ -167,23 +182,12 @@ lent-there m message at count h l e =
     ∙ ap (λ (i : ℕ). blockRefusal message count (take i (drop (at + 1) m)) (take (length m - 10) (drop 10 m)) (take (length m - (at + 1 + count)) (drop (at + 1 + count) m))) n
     ∙ ap₂ (λ (f o : List ℕ). blockRefusal message count (take count (drop (at + 1) m)) f o) (tail-is m 10 (omega arith)) (tail-is m (at + 1 + count) h)
 
--- the body's record, by whether the block is refused; its parts as they are lent
-module _ (m : List ℕ) (message at count : ℕ) (h : at + 1 + count ≤ length m) (l : 30 ≤ at) (r : ℕ)
-    (e : r ≡ blockRefusal message count (take (at + 1 + count - (at + 1)) (drop (at + 1) m)) (take (length m - 10) (drop 10 m)) (take (length m - (at + 1 + count)) (drop (at + 1 + count) m)))
-    (buffer : List ℕ) where
-  pub body-refused : (r ≡ 0 → ⊥) → buffer ≡ bodyRecord m message at count buffer
-  unfolding bodyRecord
-  body-refused n = rw (ne-eqb (blockRefusal message count (take count (drop (at + 1) m)) (drop 10 m) (drop (at + 1 + count) m)) 0 (λ z. n (lent-there m message at count h l e ∙ z)))
-
-  pub body-read : r ≡ 0 → (slots : List ℕ) → slots ≡ layoutOf message count (take (at + 1 + count - (at + 1)) (drop (at + 1) m)) (take (length m - (at + 1 + count)) (drop (at + 1 + count) m))
-      → {out : List ℕ} → out ≡ patched buffer 0 (thereBytes m message count (take (at + 1 + count - (at + 1)) (drop (at + 1) m)) slots) → out ≡ bodyRecord m message at count buffer
-  unfolding bodyRecord
-  body-read z slots s o =
-      let n : at + 1 + count - (at + 1) ≡ count = omega arith in
-      o
-      ∙ ap (λ (x : List ℕ). patched buffer 0 (thereBytes m message count (take (at + 1 + count - (at + 1)) (drop (at + 1) m)) x)) s
-      ∙ ap₂ (λ (i : ℕ) (x : List ℕ). patched buffer 0 (thereBytes m message count (take i (drop (at + 1) m)) (layoutOf message count (take i (drop (at + 1) m)) x))) n (tail-is m (at + 1 + count) h)
-      ∙ rw (eq-eqb (blockRefusal message count (take count (drop (at + 1) m)) (drop 10 m) (drop (at + 1 + count) m)) 0 (sym (lent-there m message at count h l e) ∙ z))
+-- what a call makes of the bitfields and the optional bytes as they are lent
+pub lent-parts : (m : List ℕ) (at count : ℕ) → at + 1 + count ≤ length m → {A : Type 0} (f : List ℕ → List ℕ → A)
+    → f (take (at + 1 + count - (at + 1)) (drop (at + 1) m)) (take (length m - (at + 1 + count)) (drop (at + 1 + count) m)) ≡ f (take count (drop (at + 1) m)) (drop (at + 1 + count) m)
+lent-parts m at count h f =
+    let n : at + 1 + count - (at + 1) ≡ count = omega arith in
+    ap₂ f (ap (λ (i : ℕ). take i (drop (at + 1) m)) n) (tail-is m (at + 1 + count) h)
 
 -- bytes copied into the front of zeros that were put there
 pub put-over : (t b t₁ t₂ : List ℕ) (n : ℕ) → length b ≤ n → n ≤ length t → t₁ ≡ patched t 0 (zeros n) → t₂ ≡ patched t₁ 0 b → t₂ ≡ patched t 0 (b ++ zeros (n - length b))

@@ -2,3 +2,4 @@ pub mod Judging
 pub mod Heads
 pub mod Readings
 pub mod InPlace
+pub mod Fronts

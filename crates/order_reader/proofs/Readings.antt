@@ -1,4 +1,4 @@
--- A refused head is the message's refusal, and leaves the record's buffer. Assumes nothing.
+-- A refused head is the message's refusal, and a refused message leaves the record's buffer. Assumes nothing.
 use mathlib.Core.Path.{_≡_, _∙_}
 use mathlib.Core.List.{List}
 use Prim.Native.Nat.{ℕ}
@@ -11,8 +11,6 @@ module _ (m : List ℕ) where
   unfolding readRefusal
   refused-by-head e n = rw (ne-eqb (headRefusal m) 0 (λ z. n (e ∙ z))) e
 
-  pub head-refused : (buffer : List ℕ) (r : ℕ) → r ≡ headRefusal m → (r ≡ 0 → ⊥) → (r ≡ readRefusal m) × (buffer ≡ readRecord m buffer)
+  pub refused-keeps : (buffer : List ℕ) {r : ℕ} → r ≡ readRefusal m → (r ≡ 0 → ⊥) → (r ≡ readRefusal m) × (buffer ≡ readRecord m buffer)
   unfolding readRecord
-  head-refused buffer r e n =
-      let q = refused-by-head e n in
-      (q, rw (ne-eqb (readRefusal m) 0 (λ z. n (q ∙ z))))
+  refused-keeps buffer e n = (e, rw (ne-eqb (readRefusal m) 0 (λ z. n (e ∙ z))))

@@ -1,18 +1,19 @@
 -- The stages of the reader, as its functions have them. Definitions alone. Assumes nothing.
 use Prim.Native.Nat.{ℕ, _+_, _-_}
 use mathlib.Core.Bool.{cond, not, _&&_}
-use mathlib.Core.List.{List, _++_}
+use mathlib.Core.List.{List, _∷_, _++_}
 use lib.Dec.{ltb, eqb}
 use lib.ListN.{length, getD, take, drop}
-use Rattle.numbers.specs.Numbers.{patched}
+use Rattle.numbers.specs.Numbers.{bytesOf, patched}
 use Rattle.refusals.specs.Names.{wrongTotal, tooManyBitfields, unlistedBit, notSelected, badValue}
 use Rattle.wire.specs.Header.{typeOf, unitOf, numberOf}
 use Rattle.fields.specs.Places.{hasRequired}
-use Rattle.spread.specs.declared.Taken.{Taken}
+use Rattle.judge.specs.declared.Judged.{Judged}
 use Rattle.orders.specs.Shapes.{countAt, mostOf, fixedGood}
 use Rattle.fields.specs.Slots.{zeros}
-use Rattle.orders.specs.Orders.{blockRefusal, layoutOf, readRefusal, recordOf}
+use Rattle.orders.specs.Orders.{readRefusal, recordOf}
 use Rattle.records.specs.Records.{recordBytes}
+use Rattle.fields.specs.Sizes.{fixedEnd}
 
 -- 7; 6 if the bitfields do not fit, where the count byte stands at `at`
 unfoldable pub countRefusal : ℕ → ℕ → List ℕ → ℕ
@@ -22,13 +23,20 @@ countRefusal message at m =
     0)
 
 -- 8, 9, 6, 10 by what was taken of an optional block of `have` bytes
-unfoldable pub judgedOf : ℕ → ℕ → List ℕ → List ℕ → Taken → ℕ → ℕ
+unfoldable pub judgedOf : ℕ → ℕ → List ℕ → List ℕ → Judged → ℕ → ℕ
 judgedOf message count bits fixed t have =
     cond (not (eqb (t .bad) 0)) unlistedBit
     (cond (not (hasRequired message count bits)) notSelected
     (cond (not (eqb (t .at) have)) wrongTotal
     (cond (not (fixedGood message fixed && eqb (t .wrong) 0)) badValue
     0)))
+
+-- the bytes of a message's record up to its layout
+unfoldable pub frontBytes : List ℕ → ℕ → ℕ → List ℕ → List ℕ
+frontBytes m message count bits =
+    (message ∷ unitOf m ∷ bytesOf 4 (numberOf m))
+    ++ ((take (countAt message - 10) (drop 10 m) ++ zeros (fixedEnd - countAt message))
+    ++ (count ∷ (bits ++ zeros (15 - length bits))))
 
 -- the bytes of a message's record: its type, unit and number, its fixed part, its count and bitfields, each as it stands in the message with
 -- zeros after it, and the layout of its optional fields
@@ -39,20 +47,11 @@ thereBytes m message count bits slots =
       message = message;
       unit = unitOf m;
       number = numberOf m;
-      fixed = take (countAt message - 10) (drop 10 m) ++ zeros (69 - countAt message);
+      fixed = take (countAt message - 10) (drop 10 m) ++ zeros (fixedEnd - countAt message);
       count = count;
       bits = bits ++ zeros (15 - length bits);
       slots = slots;
     })
-
--- the record's buffer after the body of a message whose head is good and whose count stands at `at`
-unfoldable pub bodyRecord : List ℕ → ℕ → ℕ → ℕ → List ℕ → List ℕ
-bodyRecord m message at count buffer =
-    cond
-    (eqb (blockRefusal message count (take count (drop (at + 1) m)) (drop 10 m) (drop (at + 1 + count) m)) 0)
-    (patched buffer 0
-    (thereBytes m message count (take count (drop (at + 1) m)) (layoutOf message count (take count (drop (at + 1) m)) (drop (at + 1 + count) m))))
-    buffer
 
 -- the record's buffer after a message: the record's bytes at its front, or as it was where the message is refused
 unfoldable pub readRecord : List ℕ → List ℕ → List ℕ

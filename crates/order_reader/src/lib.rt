@@ -5,11 +5,13 @@ ghost use Prim.Native.Nat.{_+_, _-_, _≤_, _<_};
 ghost use lib.ListN.{length, take, drop};
 ghost use Rattle.numbers.specs.Numbers.{patched};
 ghost use Rattle.wire.specs.Header.{typeOf};
-ghost use Rattle.fields.specs.Slots.{zeros};
+ghost use Rattle.fields.specs.Slots.{zeros, takes, sum};
+ghost use Rattle.fields.specs.Places.{slotsOf};
 ghost use Rattle.orders.specs.Shapes.{countAt};
 ghost use Rattle.orders.specs.Orders.{headRefusal, blockRefusal, layoutOf, readRefusal};
-ghost use Rattle.order_reader.specs.Stages.{countRefusal, judgedOf, thereBytes, bodyRecord, readRecord};
-use spread::Taken;
+ghost use Rattle.order_reader.specs.Stages.{countRefusal, judgedOf, frontBytes, thereBytes, readRecord};
+ghost use Rattle.fields.specs.Sizes.{fixedEnd, fixedSize, layoutSize, recordSize};
+use judge::Judged;
 
 // 4; 5; 6 if the message ends before its count byte is whole; 7; 6 if the bitfields do not fit.
 fn head_refusal(m: &[u8]) -> u8
@@ -47,14 +49,14 @@ fn count_refusal(m: &[u8], message: u8, at: usize) -> u8
 }
 
 // The refusals of the optional block, once its bytes are judged: 8, 9, 6, 10.
-fn judged(message: u8, bits: &[u8], count: u8, fixed: &[u8], t: Taken, have: usize) -> u8
+fn judged(message: u8, bits: &[u8], count: u8, fixed: &[u8], t: Judged, have: usize) -> u8
     requires { ⌜ (length (now bits) ≡ count) × (countAt message ≤ length (now fixed) + 10) ⌝ }
     ensures { λ r. ⌜ r ≡ judgedOf message count (now (bits .entry)) (now (fixed .entry)) t have ⌝ }
 {
     if t.bad != 0 {
         return refusals::UNLISTED_BIT;
     }
-    if !judge::has_required(message, bits, count) {
+    if !fields::has_required(message, bits, count) {
         return refusals::NOT_SELECTED;
     }
     if t.at != have {
@@ -102,22 +104,6 @@ pub fn order_refusal(m: &[u8]) -> u8
     body_refusal(m, message, at, count)
 }
 
-// The optional block, whose bytes are handed on to the field reader: its refusal, or 0 and the full layout in a lent array of zeros.
-fn block_of(
-    message: u8,
-    bits: &[u8],
-    count: u8,
-    fixed: &[u8],
-    optional: &[u8],
-    slots: &mut [u8],
-) -> u8
-    requires { ⌜ (length (now bits) ≡ count) × (count ≤ 15) × (countAt message ≤ length (now fixed) + 10) × (now slots ≡ zeros 154) ⌝ }
-    ensures { λ r. ⌜ (r ≡ blockRefusal message count (now (bits .entry)) (now (fixed .entry)) (now (optional .entry))) × (r ≡ 0 → now (slots .exit) ≡ layoutOf message count (now (bits .entry)) (now (optional .entry))) ⌝ }
-{
-    let t = spread::take_all(message, bits, count, optional, slots);
-    judged(message, bits, count, fixed, t, optional.len())
-}
-
 // The bitfields into the front of a lent tail, with zeros after them.
 fn put_bits(bits: &[u8], tail: &mut [u8])
     requires { ⌜ (length (now bits) ≤ 15) × (15 ≤ length (now tail)) ⌝ }
@@ -127,38 +113,29 @@ fn put_bits(bits: &[u8], tail: &mut [u8])
     fields::copy(bits, tail);
 }
 
-// These, and the layout after them.
-fn put_fields(bits: &[u8], slots: &[u8], tail: &mut [u8])
-    requires { ⌜ (length (now bits) ≤ 15) × (length (now slots) ≡ 154) × (169 ≤ length (now tail)) ⌝ }
-    ensures { λ _. ⌜ now (tail .exit) ≡ patched (now (tail .entry)) 0 ((now (bits .entry) ++ zeros (15 - length (now (bits .entry)))) ++ now (slots .entry)) ⌝ }
-{
-    put_bits(bits, tail);
-    fields::copy_layout(slots, &mut tail[15..]);
-}
-
 // The count, and these after it.
-fn put_block(count: u8, bits: &[u8], slots: &[u8], tail: &mut [u8])
-    requires { ⌜ (length (now bits) ≤ 15) × (length (now slots) ≡ 154) × (170 ≤ length (now tail)) ⌝ }
-    ensures { λ _. ⌜ now (tail .exit) ≡ patched (now (tail .entry)) 0 (count ∷ ((now (bits .entry) ++ zeros (15 - length (now (bits .entry)))) ++ now (slots .entry))) ⌝ }
+fn put_block(count: u8, bits: &[u8], tail: &mut [u8])
+    requires { ⌜ (length (now bits) ≤ 15) × (16 ≤ length (now tail)) ⌝ }
+    ensures { λ _. ⌜ now (tail .exit) ≡ patched (now (tail .entry)) 0 (count ∷ (now (bits .entry) ++ zeros (15 - length (now (bits .entry))))) ⌝ }
 {
     tail[0] = count;
-    put_fields(bits, slots, &mut tail[1..]);
+    put_bits(bits, &mut tail[1..]);
 }
 
 // The fixed part of a message up to a place into the front of a lent tail, with zeros after it.
 fn put_up_to(m: &[u8], at: usize, tail: &mut [u8])
-    requires { ⌜ (at ≤ length (now m)) × (10 ≤ at) × (at ≤ 69) × (59 ≤ length (now tail)) ⌝ }
-    ensures { λ _. ⌜ now (tail .exit) ≡ patched (now (tail .entry)) 0 (take (at - 10) (drop 10 (now (m .entry))) ++ zeros (69 - at)) ⌝ }
+    requires { ⌜ (at ≤ length (now m)) × (10 ≤ at) × (at ≤ fixedEnd) × (fixedSize ≤ length (now tail)) ⌝ }
+    ensures { λ _. ⌜ now (tail .exit) ≡ patched (now (tail .entry)) 0 (take (at - 10) (drop 10 (now (m .entry))) ++ zeros (fixedEnd - at)) ⌝ }
 {
     let n = at - 10;
     fields::move_field(&m[10..at], tail);
-    fields::clear(69 - at, &mut tail[n..]);
+    fields::clear(fields::FIXED_END - at, &mut tail[n..]);
 }
 
 // The same; its length is a literal, so that the copy is a few moves.
 fn put_fixed(m: &[u8], message: u8, tail: &mut [u8])
-    requires { ⌜ (countAt message ≤ length (now m)) × (59 ≤ length (now tail)) ⌝ }
-    ensures { λ _. ⌜ now (tail .exit) ≡ patched (now (tail .entry)) 0 (take (countAt message - 10) (drop 10 (now (m .entry))) ++ zeros (69 - countAt message)) ⌝ }
+    requires { ⌜ (countAt message ≤ length (now m)) × (fixedSize ≤ length (now tail)) ⌝ }
+    ensures { λ _. ⌜ now (tail .exit) ≡ patched (now (tail .entry)) 0 (take (countAt message - 10) (drop 10 (now (m .entry))) ++ zeros (fixedEnd - countAt message)) ⌝ }
 {
     match message {
         0x38 => put_up_to(m, 35, tail),
@@ -168,55 +145,67 @@ fn put_fixed(m: &[u8], message: u8, tail: &mut [u8])
     }
 }
 
-// The fixed part, and the block after it.
-fn put_body(m: &[u8], message: u8, count: u8, bits: &[u8], slots: &[u8], tail: &mut [u8])
-    requires { ⌜ (countAt message ≤ length (now m)) × (length (now bits) ≤ 15) × (length (now slots) ≡ 154) × (229 ≤ length (now tail)) ⌝ }
-    ensures { λ _. ⌜ now (tail .exit) ≡ patched (now (tail .entry)) 0 ((take (countAt message - 10) (drop 10 (now (m .entry))) ++ zeros (69 - countAt message)) ++ (count ∷ ((now (bits .entry) ++ zeros (15 - length (now (bits .entry)))) ++ now (slots .entry)))) ⌝ }
+// The fixed part, and the count and the bitfields after it.
+fn put_body(m: &[u8], message: u8, count: u8, bits: &[u8], tail: &mut [u8])
+    requires { ⌜ (countAt message ≤ length (now m)) × (length (now bits) ≤ 15) × (75 ≤ length (now tail)) ⌝ }
+    ensures { λ _. ⌜ now (tail .exit) ≡ patched (now (tail .entry)) 0 ((take (countAt message - 10) (drop 10 (now (m .entry))) ++ zeros (fixedEnd - countAt message)) ++ (count ∷ (now (bits .entry) ++ zeros (15 - length (now (bits .entry)))))) ⌝ }
 {
     put_fixed(m, message, tail);
-    put_block(count, bits, slots, &mut tail[59..]);
+    put_block(count, bits, &mut tail[fields::FIXED..]);
 }
 
-// A message's record, straight from the message, with the layout of its optional fields.
-fn put_record(m: &[u8], message: u8, count: u8, bits: &[u8], slots: &[u8], buffer: &mut [u8])
-    requires { ⌜ (message ≡ typeOf (now m)) × (countAt message ≤ length (now m)) × (length (now bits) ≤ 15) × (length (now slots) ≡ 154) × (235 ≤ length (now buffer)) ⌝ }
-    ensures { λ _. ⌜ now (buffer .exit) ≡ patched (now (buffer .entry)) 0 (thereBytes (now (m .entry)) message count (now (bits .entry)) (now (slots .entry))) ⌝ }
+// A message's record up to its layout, straight from the message.
+fn put_front(m: &[u8], message: u8, count: u8, bits: &[u8], buffer: &mut [u8])
+    requires { ⌜ (countAt message ≤ length (now m)) × (length (now bits) ≤ 15) × (81 ≤ length (now buffer)) ⌝ }
+    ensures { λ _. ⌜ now (buffer .exit) ≡ patched (now (buffer .entry)) 0 (frontBytes (now (m .entry)) message count (now (bits .entry))) ⌝ }
 {
     let unit = wire::header::unit_of(m);
     let number = wire::header::number_of(m);
     records::put_head(message, unit, number, buffer);
-    put_body(m, message, count, bits, slots, &mut buffer[6..]);
+    put_body(m, message, count, bits, &mut buffer[6..]);
 }
 
-// The body of a message whose head is good: nothing but the optional fields is copied before it is judged.
-fn body(m: &[u8], message: u8, at: usize, count: u8, buffer: &mut [u8]) -> u8
-    requires { ⌜ (30 ≤ at) × (at + 1 + count ≤ length (now m)) × (count ≤ 15) × (at ≡ countAt message) × (message ≡ typeOf (now m)) × (235 ≤ length (now buffer)) ⌝ }
-    ensures { λ r. ⌜ (r ≡ blockRefusal message count (take count (drop (at + 1) (now (m .entry)))) (drop 10 (now (m .entry))) (drop (at + 1 + count) (now (m .entry)))) × (now (buffer .exit) ≡ bodyRecord (now (m .entry)) message at count (now (buffer .entry))) ⌝ }
+// The optional block, whose bytes are handed on to the field reader: the full layout into the front of a lent tail.
+fn put_layout(message: u8, bits: &[u8], count: u8, optional: &[u8], tail: &mut [u8])
+    requires { ⌜ (length (now bits) ≡ count) × (count ≤ 15) × (sum takes (slotsOf message count (now bits)) ≡ length (now optional)) × (layoutSize ≤ length (now tail)) ⌝ }
+    ensures { λ _. ⌜ now (tail .exit) ≡ patched (now (tail .entry)) 0 (layoutOf message count (now (bits .entry)) (now (optional .entry))) ⌝ }
+{
+    fields::clear(fields::LAYOUT, tail);
+    spread::store_all(message, bits, count, optional, &mut tail[0..fields::LAYOUT]);
+}
+
+// A message's record, of which each part is lent where it stands.
+fn put_record(m: &[u8], message: u8, count: u8, bits: &[u8], optional: &[u8], buffer: &mut [u8])
+    requires { ⌜ (countAt message ≤ length (now m)) × (length (now bits) ≡ count) × (count ≤ 15) × (sum takes (slotsOf message count (now bits)) ≡ length (now optional)) × (recordSize ≤ length (now buffer)) ⌝ }
+    ensures { λ _. ⌜ now (buffer .exit) ≡ patched (now (buffer .entry)) 0 (thereBytes (now (m .entry)) message count (now (bits .entry)) (layoutOf message count (now (bits .entry)) (now (optional .entry)))) ⌝ }
+{
+    put_front(m, message, count, bits, buffer);
+    put_layout(message, bits, count, optional, &mut buffer[81..]);
+}
+
+// The record of a message that is not refused, whose count stands at a place.
+fn put_there(m: &[u8], message: u8, at: usize, count: u8, buffer: &mut [u8])
+    requires { ⌜ (30 ≤ at) × (at + 1 + count ≤ length (now m)) × (count ≤ 15) × (at ≡ countAt message) × (sum takes (slotsOf message count (take count (drop (at + 1) (now m)))) ≡ length (drop (at + 1 + count) (now m))) × (recordSize ≤ length (now buffer)) ⌝ }
+    ensures { λ _. ⌜ now (buffer .exit) ≡ patched (now (buffer .entry)) 0 (thereBytes (now (m .entry)) message count (take count (drop (at + 1) (now (m .entry)))) (layoutOf message count (take count (drop (at + 1) (now (m .entry)))) (drop (at + 1 + count) (now (m .entry))))) ⌝ }
 {
     let start = at + 1;
     let end = start + (count as usize);
-    let bits = &m[start..end];
-    let mut slots = [0u8; 154];
-    let refusal = block_of(message, bits, count, &m[10..], &m[end..], &mut slots);
-    if refusal != 0 {
-        return refusal;
-    }
-    put_record(m, message, count, bits, &slots, buffer);
-    0
+    put_record(m, message, count, &m[start..end], &m[end..], buffer);
 }
 
 // Reads a whole message, as framing answers it, into a buffer that has room for its record: 0, and the record's bytes stand in the front of
 // the buffer; or the refusal (4 to 10), and the buffer is as it was.
 pub fn read_order(m: &[u8], buffer: &mut [u8]) -> u8
-    requires { ⌜ 235 ≤ length (now buffer) ⌝ }
+    requires { ⌜ recordSize ≤ length (now buffer) ⌝ }
     ensures { λ r. ⌜ (r ≡ readRefusal (now (m .entry))) × (now (buffer .exit) ≡ readRecord (now (m .entry)) (now (buffer .entry))) ⌝ }
 {
-    let refusal = head_refusal(m);
+    let refusal = order_refusal(m);
     if refusal != 0 {
         return refusal;
     }
     let message = wire::header::type_of(m);
     let at = orders::count_at(message);
     let count = numbers::byte_at(m, at);
-    body(m, message, at, count, buffer)
+    put_there(m, message, at, count, buffer);
+    0
 }

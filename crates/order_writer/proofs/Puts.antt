@@ -17,12 +17,13 @@ use Rattle.gather.specs.State.{giving, giveWalk}
 use Rattle.orders.specs.Shapes.{countAt}
 use Rattle.orders.specs.OrderLaws.{count-bounds}
 use Rattle.order_writer.specs.Stages.{fieldBytes, restBytes}
+use Rattle.fields.specs.Sizes.{allPlaces, fixedSize, layoutSize}
 
 -- the selected fields given at a place
-pub fields-given : (message count : ℕ) (bits v out out′ : List ℕ) (at r : ℕ) → length v ≡ 154 → at + sum takes (slotsOf message count bits) ≤ length out
-    → giving r out′ ≡ giveWalk message count bits v 120 0 (giving at out) → out′ ≡ patched out at (gathered (slotsOf message count bits) v)
+pub fields-given : (message count : ℕ) (bits v out out′ : List ℕ) (at r : ℕ) → length v ≡ layoutSize → at + sum takes (slotsOf message count bits) ≤ length out
+    → giving r out′ ≡ giveWalk message count bits v allPlaces 0 (giving at out) → out′ ≡ patched out at (gathered (slotsOf message count bits) v)
 fields-given message count bits v out out′ at r lv room e =
-    let g = gave (entryAt message) 154 (dictionary-placed message) v (selectedAt count bits) 120 0 (giving at out) (omega arith) in
+    let g = gave (entryAt message) layoutSize (dictionary-placed message) v (selectedAt count bits) allPlaces 0 (giving at out) (omega arith) in
     let z : before (entryAt message) 0 ≡ 0 = before-none (entryAt message) in
     let d : drop (before (entryAt message) 0) v ≡ v = ap (λ (i : ℕ). drop i v) z in
     ap (λ (x : Giving). x .buffer) e
@@ -30,12 +31,12 @@ fields-given message count bits v out out′ at r lv room e =
     ∙ ap (λ (x : List ℕ). patched out at (gathered (slotsOf message count bits) x)) d
 
 -- their length
-pub fields-length : (message count : ℕ) (bits v : List ℕ) → length v ≡ 154 → length (gathered (slotsOf message count bits) v) ≡ sum takes (slotsOf message count bits)
+pub fields-length : (message count : ℕ) (bits v : List ℕ) → length v ≡ layoutSize → length (gathered (slotsOf message count bits) v) ≡ sum takes (slotsOf message count bits)
 fields-length message count bits v lv = gathered-length (slotsOf message count bits) v (omega (arith, widths-fit message count bits))
 
 -- the bitfields copied and the selected fields given after them
-pub fields-put : (message count : ℕ) (bits v out out₁ out′ : List ℕ) (r : ℕ) → length v ≡ 154 → count ≤ length bits → count + sum takes (slotsOf message count bits) ≤ length out
-    → out₁ ≡ patched out 0 (take count bits) → giving r out′ ≡ giveWalk message count bits v 120 0 (giving count out₁)
+pub fields-put : (message count : ℕ) (bits v out out₁ out′ : List ℕ) (r : ℕ) → length v ≡ layoutSize → count ≤ length bits → count + sum takes (slotsOf message count bits) ≤ length out
+    → out₁ ≡ patched out 0 (take count bits) → giving r out′ ≡ giveWalk message count bits v allPlaces 0 (giving count out₁)
     → out′ ≡ patched out 0 (take count bits ++ gathered (slotsOf message count bits) v)
 fields-put message count bits v out out₁ out′ r lv lb room p e =
     let n : length (take count bits) ≡ count = length-take-le count bits lb in
@@ -47,14 +48,14 @@ fields-put message count bits v out out₁ out′ r lv lb room p e =
     ∙ patched-join out 0 (take count bits) fits (gathered (slotsOf message count bits) v)
 
 -- what the count and they are in all
-pub count-length : (message count : ℕ) (bits v : List ℕ) → length v ≡ 154 → count ≤ length bits → length (fieldBytes message count bits v) ≡ count + sum takes (slotsOf message count bits)
+pub count-length : (message count : ℕ) (bits v : List ℕ) → length v ≡ layoutSize → count ≤ length bits → length (fieldBytes message count bits v) ≡ count + sum takes (slotsOf message count bits)
 unfolding fieldBytes
 count-length message count bits v lv lb =
     length-append (take count bits) (gathered (slotsOf message count bits) v)
     ∙ ap₂ (λ (x y : ℕ). x + y) (length-take-le count bits lb) (fields-length message count bits v lv)
 
 -- all that follows the header, in all
-pub rest-length : (message count : ℕ) (fixed bits v : List ℕ) → length fixed ≡ 59 → length v ≡ 154 → length bits ≡ 15 → count ≤ 15
+pub rest-length : (message count : ℕ) (fixed bits v : List ℕ) → length fixed ≡ fixedSize → length v ≡ layoutSize → length bits ≡ 15 → count ≤ 15
     → length (restBytes message count fixed bits v) ≡ countAt message - 10 + (1 + (count + sum takes (slotsOf message count bits)))
 unfolding restBytes
 rest-length message count fixed bits v lf lv lb lc =

@@ -27,6 +27,7 @@ use Rattle.orders.specs.Orders.{writeSlots, zeroUnused, sizeOf, orderBytes, wri
 use Rattle.orders.specs.OrderLaws.{most-bound}
 use Rattle.orders.specs.declared.Record.{Record}
 use Rattle.order_writer.specs.Stages.{topRefusal, unusedZero, seenRefusal, fieldBytes, restBytes}
+use Rattle.fields.specs.Sizes.{allPlaces, layoutSize}
 
 -- ---- the stages in a row
 
@@ -69,10 +70,10 @@ block r bad agree zero rest =
     (cond (not zero) notZero
     rest)))
 
-module _ (r : Record) (s : Seen) (rest : List ℕ) (lv : length (r .slots) ≡ 154)
-    (look : looking s rest ≡ lookWalk (r .message) (r .count) (r .bits) 120 0 (unseen (r .slots))) where
-  seen : Looked (entryAt (r .message)) (slotsOf (r .message) (r .count) (r .bits)) 0 (unseen (r .slots)) (lookWalk (r .message) (r .count) (r .bits) 120 0 (unseen (r .slots)))
-  seen = looked (entryAt (r .message)) 154 (dictionary-placed (r .message)) (selectedAt (r .count) (r .bits)) 120 0 (unseen (r .slots)) (omega arith)
+module _ (r : Record) (s : Seen) (rest : List ℕ) (lv : length (r .slots) ≡ layoutSize)
+    (look : looking s rest ≡ lookWalk (r .message) (r .count) (r .bits) allPlaces 0 (unseen (r .slots))) where
+  seen : Looked (entryAt (r .message)) (slotsOf (r .message) (r .count) (r .bits)) 0 (unseen (r .slots)) (lookWalk (r .message) (r .count) (r .bits) allPlaces 0 (unseen (r .slots)))
+  seen = looked (entryAt (r .message)) layoutSize (dictionary-placed (r .message)) (selectedAt (r .count) (r .bits)) allPlaces 0 (unseen (r .slots)) (omega arith)
 
   fit : sum width (slotsOf (r .message) (r .count) (r .bits)) ≤ length (r .slots)
   fit = omega (arith, lv, widths-fit (r .message) (r .count) (r .bits))
@@ -134,7 +135,7 @@ module _ (r : Record) (s : Seen) (rest : List ℕ) (lv : length (r .slots) ≡ 1
   unfolding sizeOf writeSlots
   size-is e = ap₂ (λ (x y : ℕ). x + 1 + r .count + y) e total-is
 
-  pub total-small : s .total ≤ 154
+  pub total-small : s .total ≤ layoutSize
   total-small = omega (arith, total-is, takes-below (slotsOf (r .message) (r .count) (r .bits)), widths-fit (r .message) (r .count) (r .bits))
 
 -- ---- the buffer

@@ -2,7 +2,7 @@
 ghost use mathlib.Core.Path.{_≡_};
 ghost use mathlib.Core.List.{_∷_, _++_};
 ghost use Prim.Native.Nat.{_+_, _-_, _≤_, _<_};
-ghost use lib.ListN.{length, drop};
+ghost use lib.ListN.{length, take, drop};
 ghost use Rattle.kinds.specs.Kinds.{allNul};
 ghost use Rattle.numbers.specs.Numbers.{patched};
 ghost use Rattle.wire.specs.Header.{headerBytes};
@@ -12,6 +12,7 @@ ghost use Rattle.orders.specs.Shapes.{countAt};
 ghost use Rattle.orders.specs.Orders.{writeRefusal, writeBuffer};
 ghost use Rattle.records.specs.Records.{recordAt};
 ghost use Rattle.order_writer.specs.Stages.{recordFrom, topRefusal, unusedZero, seenRefusal, fieldBytes, restBytes};
+ghost use Rattle.fields.specs.Sizes.{fixedSize, layoutSize, recordSize};
 use gather::Seen;
 
 // 4, 5, 7.
@@ -32,20 +33,20 @@ fn top_refusal(message: u8, unit: u8, count: u8) -> u8
 
 // Whether the places of a fixed part that its message does not use are zero; their number is a literal, so that the test is a few steps.
 fn fixed_blank(message: u8, fixed: &[u8]) -> bool
-    requires { ⌜ length (now fixed) ≡ 59 ⌝ }
+    requires { ⌜ length (now fixed) ≡ fixedSize ⌝ }
     ensures { λ r. ⌜ r ≡ allNul (drop (countAt message - 10) (now (fixed .entry))) ⌝ }
 {
     match message {
-        0x38 => kinds::is_blank(&fixed[25..59]),
-        0x39 => kinds::is_blank(&fixed[20..59]),
-        0x25 => kinds::is_blank(&fixed[37..59]),
+        0x38 => kinds::is_blank(&fixed[25..fields::FIXED]),
+        0x39 => kinds::is_blank(&fixed[20..fields::FIXED]),
+        0x25 => kinds::is_blank(&fixed[37..fields::FIXED]),
         _ => true,
     }
 }
 
 // Whether the unused places of a record are zero, where `rest` is what is left of its layout without the selected fields.
 fn unused_zero(message: u8, count: u8, fixed: &[u8], bits: &[u8], rest: &[u8]) -> bool
-    requires { ⌜ (length (now fixed) ≡ 59) × (length (now bits) ≡ 15) × (count ≤ 15) ⌝ }
+    requires { ⌜ (length (now fixed) ≡ fixedSize) × (length (now bits) ≡ 15) × (count ≤ 15) ⌝ }
     ensures { λ r. ⌜ r ≡ unusedZero message count (now (fixed .entry)) (now (bits .entry)) (now (rest .entry)) ⌝ }
 {
     if !fixed_blank(message, fixed) {
@@ -59,8 +60,8 @@ fn unused_zero(message: u8, count: u8, fixed: &[u8], bits: &[u8], rest: &[u8]) -
 }
 
 // 8, 9, 10, 12, by what was seen of the selected fields and what is left of the layout without them.
-fn seen_refusal(message: u8, count: u8, fixed: &[u8], bits: &[u8; 15], rest: &[u8], s: Seen) -> u8
-    requires { ⌜ (length (now fixed) ≡ 59) × (count ≤ 15) ⌝ }
+fn seen_refusal(message: u8, count: u8, fixed: &[u8], bits: &[u8], rest: &[u8], s: Seen) -> u8
+    requires { ⌜ (length (now fixed) ≡ fixedSize) × (length (now bits) ≡ 15) × (count ≤ 15) ⌝ }
     ensures { λ r. ⌜ r ≡ seenRefusal message count (now (fixed .entry)) (now (bits .entry)) (now (rest .entry)) s ⌝ }
 {
     if s.bad != 0 {
@@ -82,8 +83,8 @@ fn seen_refusal(message: u8, count: u8, fixed: &[u8], bits: &[u8; 15], rest: &[u
 }
 
 // The bitfields and the selected fields into the front of a lent tail.
-fn put_fields(message: u8, count: u8, bits: &[u8; 15], slots: &[u8], tail: &mut [u8])
-    requires { ⌜ (count ≤ 15) × (length (now slots) ≡ 154) × (count + sum takes (slotsOf message count (now bits)) ≤ length (now tail)) ⌝ }
+fn put_fields(message: u8, count: u8, bits: &[u8], slots: &[u8], tail: &mut [u8])
+    requires { ⌜ (count ≤ 15) × (length (now slots) ≡ layoutSize) × (length (now bits) ≡ 15) × (count + sum takes (slotsOf message count (now bits)) ≤ length (now tail)) ⌝ }
     ensures { λ _. ⌜ now (tail .exit) ≡ patched (now (tail .entry)) 0 (fieldBytes message count (now (bits .entry)) (now (slots .entry))) ⌝ }
 {
     let n = count as usize;
@@ -92,21 +93,42 @@ fn put_fields(message: u8, count: u8, bits: &[u8; 15], slots: &[u8], tail: &mut 
 }
 
 // The count, and these after it.
-fn put_count(message: u8, count: u8, bits: &[u8; 15], slots: &[u8], tail: &mut [u8])
-    requires { ⌜ (count ≤ 15) × (length (now slots) ≡ 154) × (length (now bits) ≡ 15) × (1 + (count + sum takes (slotsOf message count (now bits))) ≤ length (now tail)) ⌝ }
+fn put_count(message: u8, count: u8, bits: &[u8], slots: &[u8], tail: &mut [u8])
+    requires { ⌜ (count ≤ 15) × (length (now slots) ≡ layoutSize) × (length (now bits) ≡ 15) × (1 + (count + sum takes (slotsOf message count (now bits))) ≤ length (now tail)) ⌝ }
     ensures { λ _. ⌜ now (tail .exit) ≡ patched (now (tail .entry)) 0 (count ∷ fieldBytes message count (now (bits .entry)) (now (slots .entry))) ⌝ }
 {
     tail[0] = count;
     put_fields(message, count, bits, slots, &mut tail[1..]);
 }
 
+// The n bytes of a message's fixed part into the front of a lent tail.
+fn put_part(message: u8, n: usize, fixed: &[u8], tail: &mut [u8])
+    requires { ⌜ (n ≡ countAt message - 10) × (length (now fixed) ≡ fixedSize) × (countAt message - 10 ≤ length (now tail)) ⌝ }
+    ensures { λ _. ⌜ now (tail .exit) ≡ patched (now (tail .entry)) 0 (take (countAt message - 10) (now (fixed .entry))) ⌝ }
+{
+    fields::move_field(&fixed[0..n], tail);
+}
+
+// The same, with an arm for each message: there the compiler knows how many bytes are moved.
+fn put_fixed(message: u8, fixed: &[u8], tail: &mut [u8])
+    requires { ⌜ (length (now fixed) ≡ fixedSize) × (countAt message - 10 ≤ length (now tail)) ⌝ }
+    ensures { λ _. ⌜ now (tail .exit) ≡ patched (now (tail .entry)) 0 (take (countAt message - 10) (now (fixed .entry))) ⌝ }
+{
+    match message {
+        0x38 => put_part(message, 25, fixed, tail),
+        0x39 => put_part(message, 20, fixed, tail),
+        0x25 => put_part(message, 37, fixed, tail),
+        _ => put_part(message, 59, fixed, tail),
+    }
+}
+
 // The fixed part, and these after it.
-fn put_rest(message: u8, count: u8, fixed: &[u8], bits: &[u8; 15], slots: &[u8], tail: &mut [u8])
-    requires { ⌜ (count ≤ 15) × (length (now fixed) ≡ 59) × (length (now slots) ≡ 154) × (length (now bits) ≡ 15) × (countAt message - 10 + (1 + (count + sum takes (slotsOf message count (now bits)))) ≤ length (now tail)) ⌝ }
+fn put_rest(message: u8, count: u8, fixed: &[u8], bits: &[u8], slots: &[u8], tail: &mut [u8])
+    requires { ⌜ (count ≤ 15) × (length (now fixed) ≡ fixedSize) × (length (now slots) ≡ layoutSize) × (length (now bits) ≡ 15) × (countAt message - 10 + (1 + (count + sum takes (slotsOf message count (now bits)))) ≤ length (now tail)) ⌝ }
     ensures { λ _. ⌜ now (tail .exit) ≡ patched (now (tail .entry)) 0 (restBytes message count (now (fixed .entry)) (now (bits .entry)) (now (slots .entry))) ⌝ }
 {
     let n = orders::count_at(message) - 10;
-    fields::copy_front(fixed, n, tail);
+    put_fixed(message, fixed, tail);
     put_count(message, count, bits, slots, &mut tail[n..]);
 }
 
@@ -117,12 +139,12 @@ fn put_order(
     number: u32,
     fixed: &[u8],
     count: u8,
-    bits: &[u8; 15],
+    bits: &[u8],
     slots: &[u8],
     size: usize,
     out: &mut [u8],
 )
-    requires { ⌜ (count ≤ 15) × (length (now fixed) ≡ 59) × (length (now slots) ≡ 154) × (length (now bits) ≡ 15) × (size ≡ countAt message + 1 + count + sum takes (slotsOf message count (now bits))) × (size ≤ length (now out)) × (size ≤ 2048) ⌝ }
+    requires { ⌜ (count ≤ 15) × (length (now fixed) ≡ fixedSize) × (length (now slots) ≡ layoutSize) × (length (now bits) ≡ 15) × (size ≡ countAt message + 1 + count + sum takes (slotsOf message count (now bits))) × (size ≤ length (now out)) × (size ≤ 2048) ⌝ }
     ensures { λ _. ⌜ now (out .exit) ≡ patched (now (out .entry)) 0 (headerBytes (size - 2) message unit number ++ restBytes message count (now (fixed .entry)) (now (bits .entry)) (now (slots .entry))) ⌝ }
 {
     wire::header::write_header(out, (size - 2) as u16, message, unit, number);
@@ -136,19 +158,19 @@ fn write_parts(
     number: u32,
     fixed: &[u8],
     count: u8,
-    bits: &[u8; 15],
+    bits: &[u8],
     slots: &[u8],
     out: &mut [u8],
 ) -> u8
-    requires { ⌜ (length (now fixed) ≡ 59) × (length (now slots) ≡ 154) × (length (now bits) ≡ 15) ⌝ }
+    requires { ⌜ (length (now fixed) ≡ fixedSize) × (length (now slots) ≡ layoutSize) × (length (now bits) ≡ 15) ⌝ }
     ensures { λ n. ⌜ (n ≡ writeRefusal (recordFrom message unit number (now (fixed .entry)) count (now (bits .entry)) (now (slots .entry))) (length (now (out .entry)))) × (now (out .exit) ≡ writeBuffer (recordFrom message unit number (now (fixed .entry)) count (now (bits .entry)) (now (slots .entry))) (now (out .entry))) ⌝ }
 {
     let top = top_refusal(message, unit, count);
     if top != 0 {
         return top;
     }
-    let mut rest = [0u8; 154];
-    fields::copy(&slots[0..154], &mut rest);
+    let mut rest = [0u8; fields::LAYOUT];
+    fields::copy(&slots[0..fields::LAYOUT], &mut rest);
     let s = gather::look_all(message, bits, count, &mut rest);
     let seen = seen_refusal(message, count, fixed, bits, &rest, s);
     if seen != 0 {
@@ -165,11 +187,9 @@ fn write_parts(
 // Writes a record, which is the first 235 bytes given: 0, and the buffer begins with the message's bytes and is otherwise as it was; or the
 // refusal (4, 5, 7, 8, 9, 10, 12 or 13), and the buffer is as it was.
 pub fn write_order(given: &[u8], out: &mut [u8]) -> u8
-    requires { ⌜ 235 ≤ length (now given) ⌝ }
+    requires { ⌜ recordSize ≤ length (now given) ⌝ }
     ensures { λ n. ⌜ (n ≡ writeRefusal (recordAt (now (given .entry))) (length (now (out .entry)))) × (now (out .exit) ≡ writeBuffer (recordAt (now (given .entry))) (now (out .entry))) ⌝ }
 {
-    let mut bits = [0u8; 15];
-    fields::copy(&given[66..81], &mut bits);
     let number = numbers::read_u32(given, 2);
     write_parts(
         given[0],
@@ -177,8 +197,8 @@ pub fn write_order(given: &[u8], out: &mut [u8]) -> u8
         number,
         &given[6..65],
         given[65],
-        &bits,
-        &given[81..235],
+        &given[66..81],
+        &given[81..fields::RECORD],
         out,
     )
 }

@@ -16,25 +16,26 @@ use Rattle.fields.specs.Places.{slotsOf, hasRequired}
 use Rattle.orders.specs.Shapes.{ofMember, ofVenue, countAt, mostOf, unitGood, fixedGood}
 use Rattle.orders.specs.Orders.{countOf, bitsOf, optionalOf, fixedOf, headRefusal, blockRefusal, readRefusal, writeSlots, zeroUnused, sizeOf, writeRefusal}
 use Rattle.orders.specs.declared.Record.{Record}
+use Rattle.fields.specs.Sizes.{fixedEnd}
 
 -- ---- shapes
 
 -- the count byte stands at 30 to 69
 pub record CountBounds (message : ℕ) : Type 0 where
   pub low : 30 ≤ countAt message
-  pub high : countAt message ≤ 69
+  pub high : countAt message ≤ fixedEnd
 
 pub count-bounds : (message : ℕ) → CountBounds message
 unfolding countAt
 count-bounds message = by (eqb message 0x38) (eqb message 0x39) (eqb message 0x25)
   where
-    low : (a b c : Bool) → 30 ≤ cond a 35 (cond b 30 (cond c 47 69))
+    low : (a b c : Bool) → 30 ≤ cond a 35 (cond b 30 (cond c 47 fixedEnd))
     low true b c = omega arith
     low false true c = omega arith
     low false false true = omega arith
     low false false false = omega arith
 
-    high : (a b c : Bool) → cond a 35 (cond b 30 (cond c 47 69)) ≤ 69
+    high : (a b c : Bool) → cond a 35 (cond b 30 (cond c 47 fixedEnd)) ≤ fixedEnd
     high true b c = omega arith
     high false true c = omega arith
     high false false true = omega arith
@@ -191,6 +192,6 @@ pub in-acknowledgment : (message : ℕ) → message ≡ 0x25 → countAt message
 unfolding countAt
 in-acknowledgment message e = rw e
 
-pub in-others : (message : ℕ) → (message ≡ 0x38 → ⊥) → (message ≡ 0x39 → ⊥) → (message ≡ 0x25 → ⊥) → countAt message ≡ 69
+pub in-others : (message : ℕ) → (message ≡ 0x38 → ⊥) → (message ≡ 0x39 → ⊥) → (message ≡ 0x25 → ⊥) → countAt message ≡ fixedEnd
 unfolding countAt
 in-others message a b c = rw (ne-eqb message 0x38 a, ne-eqb message 0x39 b, ne-eqb message 0x25 c)

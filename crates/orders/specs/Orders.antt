@@ -12,6 +12,7 @@ use Rattle.fields.specs.Slots.{zeros, Slot, takes, width, sum, anyBad, spread, 
 use Rattle.fields.specs.Places.{slotsOf, hasRequired}
 use Rattle.orders.specs.Shapes.{ofMember, ofVenue, countAt, mostOf, unitGood, fixedGood}
 use Rattle.orders.specs.declared.Record.{Record}
+use Rattle.fields.specs.Sizes.{fixedEnd, fixedSize, layoutSize}
 
 -- ---- reading a whole message m
 
@@ -29,7 +30,7 @@ optionalOf m = drop (countAt (typeOf m) + 1 + countOf m) m
 
 -- the fixed part, with zeros after it
 unfoldable pub fixedOf : List ℕ → List ℕ
-fixedOf m = take (countAt (typeOf m) - 10) (drop 10 m) ++ zeros (69 - countAt (typeOf m))
+fixedOf m = take (countAt (typeOf m) - 10) (drop 10 m) ++ zeros (fixedEnd - countAt (typeOf m))
 
 -- the refusals in reading order: 4; 5; 6 if the message ends before its count byte is whole; 7; 6 if the bitfields do not fit
 unfoldable pub headRefusal : List ℕ → ℕ
@@ -56,7 +57,7 @@ readRefusal m = cond (eqb (headRefusal m) 0) (blockRefusal (typeOf m) (countOf m
 
 -- the optional fields in the full layout
 unfoldable pub layoutOf : ℕ → ℕ → List ℕ → List ℕ → List ℕ
-layoutOf message count bits optional = spread (slotsOf message count bits) optional ++ zeros (154 - sum width (slotsOf message count bits))
+layoutOf message count bits optional = spread (slotsOf message count bits) optional ++ zeros (layoutSize - sum width (slotsOf message count bits))
 
 -- the record of a message
 unfoldable pub recordOf : List ℕ → Record
@@ -73,7 +74,7 @@ recordOf m =
 
 -- the record with which a new one begins
 abbrev pub blank : Record
-blank = record { message = 0; unit = 0; number = 0; fixed = zeros 59; count = 0; bits = zeros 15; slots = zeros 154 }
+blank = record { message = 0; unit = 0; number = 0; fixed = zeros fixedSize; count = 0; bits = zeros 15; slots = zeros layoutSize }
 
 -- ---- writing a record
 

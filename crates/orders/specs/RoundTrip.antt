@@ -23,6 +23,7 @@ use Rattle.orders.specs.Shapes.{ofMember, ofVenue, countAt, unitGood, fi
 use Rattle.orders.specs.Orders.{countOf, bitsOf, optionalOf, fixedOf, layoutOf, readRefusal, recordOf, writeSlots, sizeOf, orderBytes, writeRefusal}
 use Rattle.orders.specs.OrderLaws.{count-bounds, most-bound, good, is-read, fit, is-written}
 use Rattle.orders.specs.declared.Record.{Record}
+use Rattle.fields.specs.Sizes.{fixedEnd, fixedSize, layoutSize}
 
 -- ---- five parts one after the other
 
@@ -86,7 +87,7 @@ module _ (m : List ℕ) (bytes : Bytes m) (w : Whole m) (exact : length m ≡ to
   unfolding layoutOf
   gathered-again =
       let n = spread-length (slotsOf (typeOf m) (countOf m) (bitsOf m)) (optionalOf m) (omega (arith, good m z .total)) in
-      gathered-front (slotsOf (typeOf m) (countOf m) (bitsOf m)) (spread (slotsOf (typeOf m) (countOf m) (bitsOf m)) (optionalOf m)) (zeros (154 - sum width (slotsOf (typeOf m) (countOf m) (bitsOf m)))) (omega (arith, n))
+      gathered-front (slotsOf (typeOf m) (countOf m) (bitsOf m)) (spread (slotsOf (typeOf m) (countOf m) (bitsOf m)) (optionalOf m)) (zeros (layoutSize - sum width (slotsOf (typeOf m) (countOf m) (bitsOf m)))) (omega (arith, n))
       ∙ back (slotsOf (typeOf m) (countOf m) (bitsOf m)) (optionalOf m) (sym (good m z .total))
 
   long : 10 ≤ length m
@@ -119,7 +120,7 @@ module _ (m : List ℕ) (bytes : Bytes m) (w : Whole m) (exact : length m ≡ to
 
   fixed-again : take (countAt (typeOf m) - 10) (fixedOf m) ≡ take (countAt (typeOf m) - 10) (drop 10 m)
   unfolding fixedOf
-  fixed-again = take-at (take (countAt (typeOf m) - 10) (drop 10 m)) (zeros (69 - countAt (typeOf m))) (countAt (typeOf m) - 10) front-fixed
+  fixed-again = take-at (take (countAt (typeOf m) - 10) (drop 10 m)) (zeros (fixedEnd - countAt (typeOf m))) (countAt (typeOf m) - 10) front-fixed
 
   head-again : headerBytes (sizeOf (recordOf m) - 2) (typeOf m) (unitOf m) (numberOf m) ≡ take 10 m
   unfolding totalOf
@@ -153,10 +154,10 @@ module _ (m : List ℕ) (bytes : Bytes m) (w : Whole m) (exact : length m ≡ to
         listed = y .listed;
         required = y .required;
         fixed = y .fixed;
-        agree = agree-spread (slotsOf (typeOf m) (countOf m) (bitsOf m)) (optionalOf m) (zeros (154 - sum width (slotsOf (typeOf m) (countOf m) (bitsOf m)))) (omega (arith, y .total)) ∙ y .agree;
-        zero-fixed = ap allNul (drop-at (take (countAt (typeOf m) - 10) (drop 10 m)) (zeros (69 - countAt (typeOf m))) (countAt (typeOf m) - 10) front-fixed) ∙ zeros-are-nul (69 - countAt (typeOf m));
+        agree = agree-spread (slotsOf (typeOf m) (countOf m) (bitsOf m)) (optionalOf m) (zeros (layoutSize - sum width (slotsOf (typeOf m) (countOf m) (bitsOf m)))) (omega (arith, y .total)) ∙ y .agree;
+        zero-fixed = ap allNul (drop-at (take (countAt (typeOf m) - 10) (drop 10 m)) (zeros (fixedEnd - countAt (typeOf m))) (countAt (typeOf m) - 10) front-fixed) ∙ zeros-are-nul (fixedEnd - countAt (typeOf m));
         zero-bits = ap allNul (drop-at (take (countOf m) (drop (countAt (typeOf m) + 1) m)) (zeros (15 - countOf m)) (countOf m) front-bits) ∙ zeros-are-nul (15 - countOf m);
-        zero-slots = spread-zero (slotsOf (typeOf m) (countOf m) (bitsOf m)) (optionalOf m) (154 - sum width (slotsOf (typeOf m) (countOf m) (bitsOf m))) (omega (arith, y .total));
+        zero-slots = spread-zero (slotsOf (typeOf m) (countOf m) (bitsOf m)) (optionalOf m) (layoutSize - sum width (slotsOf (typeOf m) (countOf m) (bitsOf m))) (omega (arith, y .total));
         has-room = omega (arith, size-again, h);
       })
 
@@ -164,9 +165,9 @@ module _ (m : List ℕ) (bytes : Bytes m) (w : Whole m) (exact : length m ≡ to
 
 -- the values of a record's types: its arrays' lengths and its number's range
 pub record Sound (r : Record) : Type 0 where
-  pub fixed-length : length (r .fixed) ≡ 59
+  pub fixed-length : length (r .fixed) ≡ fixedSize
   pub bits-length : length (r .bits) ≡ 15
-  pub slots-length : length (r .slots) ≡ 154
+  pub slots-length : length (r .slots) ≡ layoutSize
   pub number-range : r .number < 4294967296
 
 -- the record of a message that is read is one
@@ -176,14 +177,14 @@ read-sound m bytes z =
     let g = good m z in
     let b = count-bounds (typeOf m) in
     let ss = slotsOf (typeOf m) (countOf m) (bitsOf m) in
-    let p = padded (countAt (typeOf m) - 10) 10 59 m (omega (arith, g .there, b .low)) (omega (arith, b .high)) in
-    let e : 59 - (countAt (typeOf m) - 10) ≡ 69 - countAt (typeOf m) = omega (arith, b .low) in
+    let p = padded (countAt (typeOf m) - 10) 10 fixedSize m (omega (arith, g .there, b .low)) (omega (arith, b .high)) in
+    let e : fixedSize - (countAt (typeOf m) - 10) ≡ fixedEnd - countAt (typeOf m) = omega (arith, b .low) in
     record {
       fixed-length = ap (λ (n : ℕ). length (take (countAt (typeOf m) - 10) (drop 10 m) ++ zeros n)) (sym e) ∙ p;
       bits-length = padded (countOf m) (countAt (typeOf m) + 1) 15 m (omega (arith, g .there)) (omega (arith, g .count, most-bound (typeOf m)));
       slots-length =
           let n = spread-length ss (optionalOf m) (omega (arith, g .total)) in
-          length-append (spread ss (optionalOf m)) (zeros (154 - sum width ss)) ∙ omega (arith, n, length-zeros (154 - sum width ss), widths-fit (typeOf m) (countOf m) (bitsOf m));
+          length-append (spread ss (optionalOf m)) (zeros (layoutSize - sum width ss)) ∙ omega (arith, n, length-zeros (layoutSize - sum width ss), widths-fit (typeOf m) (countOf m) (bitsOf m));
       number-range = number-fits 4 6 m bytes;
     }
   where
@@ -226,11 +227,11 @@ module _ (r : Record) (room : ℕ) (ok : Sound r) (z : writeRefusal r room ≡ 0
   fixed-is : fixedOf (orderBytes r) ≡ r .fixed
   unfolding orderBytes fixedOf
   fixed-is =
-      let n : 59 - (countAt (r .message) - 10) ≡ 69 - countAt (r .message) = omega (arith, count-low, count-bounds (r .message) .high) in
-      ap (λ (l : List ℕ). l ++ zeros (69 - countAt (r .message)))
+      let n : fixedSize - (countAt (r .message) - 10) ≡ fixedEnd - countAt (r .message) = omega (arith, count-low, count-bounds (r .message) .high) in
+      ap (λ (l : List ℕ). l ++ zeros (fixedEnd - countAt (r .message)))
       (parts-fixed (headerBytes (sizeOf r - 2) (r .message) (r .unit) (r .number)) (take (countAt (r .message) - 10) (r .fixed)) (r .count) (take (r .count) (r .bits)) (gathered (writeSlots r) (r .slots)) (countAt (r .message)) refl kept-fixed kept-bits count-low)
       ∙ ap (λ (i : ℕ). take (countAt (r .message) - 10) (r .fixed) ++ zeros i) (sym n)
-      ∙ zeros-after (countAt (r .message) - 10) 59 (r .fixed) (ok .fixed-length) (fit r room z .zero-fixed)
+      ∙ zeros-after (countAt (r .message) - 10) fixedSize (r .fixed) (ok .fixed-length) (fit r room z .zero-fixed)
 
   bits-are : bitsOf (orderBytes r) ≡ r .bits
   unfolding orderBytes bitsOf
@@ -267,7 +268,7 @@ module _ (r : Record) (room : ℕ) (ok : Sound r) (z : writeRefusal r room ≡ 0
   layout-is : layoutOf (typeOf (orderBytes r)) (countOf (orderBytes r)) (bitsOf (orderBytes r)) (optionalOf (orderBytes r)) ≡ r .slots
   unfolding layoutOf
   layout-is =
-      ap₂ (λ (ss : List Slot) (o : List ℕ). spread ss o ++ zeros (154 - sum width ss)) slots-are optional-are
+      ap₂ (λ (ss : List Slot) (o : List ℕ). spread ss o ++ zeros (layoutSize - sum width ss)) slots-are optional-are
       ∙ ap (λ (n : ℕ). spread (writeSlots r) (gathered (writeSlots r) (r .slots)) ++ zeros (n - sum width (writeSlots r))) (sym (ok .slots-length))
       ∙ forth (writeSlots r) (r .slots) slots-fit (fit r room z .zero-slots)
 
@@ -307,7 +308,7 @@ module _ (r : Record) (room : ℕ) (ok : Sound r) (z : writeRefusal r room ≡ 0
   small : sizeOf r ≤ 239
   unfolding sizeOf
   small =
-      let n : sum takes (writeSlots r) ≤ 154 = omega (arith, takes-below (writeSlots r), slots-fit, ok .slots-length) in
+      let n : sum takes (writeSlots r) ≤ layoutSize = omega (arith, takes-below (writeSlots r), slots-fit, ok .slots-length) in
       omega (arith, count-bounds (r .message) .high, count-small)
 
   total-is : (t : List ℕ) → totalOf (orderBytes r ++ t) ≡ sizeOf r

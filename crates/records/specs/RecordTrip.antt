@@ -11,8 +11,9 @@ use Rattle.wire.specs.HeaderLaws.{Bytes}
 use Rattle.orders.specs.declared.Record.{Record}
 use Rattle.orders.specs.RoundTrip.{Sound}
 use Rattle.records.specs.Records.{recordBytes, recordAt}
+use Rattle.fields.specs.Sizes.{fixedSize, layoutSize, recordSize}
 
-pub record-length : (r : Record) → Sound r → length (recordBytes r) ≡ 235
+pub record-length : (r : Record) → Sound r → length (recordBytes r) ≡ recordSize
 unfolding recordBytes
 record-length r ok =
     let a : length (r .fixed ++ (r .count ∷ (r .bits ++ r .slots))) ≡ length (r .fixed) + length (r .count ∷ (r .bits ++ r .slots)) = length-append (r .fixed) (r .count ∷ (r .bits ++ r .slots)) in
@@ -42,8 +43,8 @@ module _ (r : Record) (ok : Sound r) (t : List ℕ) where
   after-count : drop 60 body ≡ r .bits ++ (r .slots ++ t)
   unfolding body
   after-count =
-      sym (drop-drop 1 59 (r .fixed ++ (r .count ∷ (r .bits ++ (r .slots ++ t)))))
-      ∙ ap (drop 1) (drop-at (r .fixed) (r .count ∷ (r .bits ++ (r .slots ++ t))) 59 (ok .fixed-length))
+      sym (drop-drop 1 fixedSize (r .fixed ++ (r .count ∷ (r .bits ++ (r .slots ++ t)))))
+      ∙ ap (drop 1) (drop-at (r .fixed) (r .count ∷ (r .bits ++ (r .slots ++ t))) fixedSize (ok .fixed-length))
 
   -- RECORD AGAIN: the record of a record's bytes is the record
   pub record-again : recordAt (recordBytes r ++ t) ≡ r
@@ -52,21 +53,21 @@ module _ (r : Record) (ok : Sound r) (t : List ℕ) where
       ap recordAt as-parts
       ∙ same
       (number-after 4 0 (r .message ∷ r .unit ∷ []) (bytesOf 4 (r .number) ++ body) ∙ number-back 4 (r .number) body (ok .number-range))
-      (take-at (r .fixed) (r .count ∷ (r .bits ++ (r .slots ++ t))) 59 (ok .fixed-length))
-      (getD-at (r .fixed) (r .count) (r .bits ++ (r .slots ++ t)) 0 59 (ok .fixed-length))
+      (take-at (r .fixed) (r .count ∷ (r .bits ++ (r .slots ++ t))) fixedSize (ok .fixed-length))
+      (getD-at (r .fixed) (r .count) (r .bits ++ (r .slots ++ t)) 0 fixedSize (ok .fixed-length))
       (ap (take 15) after-count ∙ take-at (r .bits) (r .slots ++ t) 15 (ok .bits-length))
-      (ap (take 154) (sym (drop-drop 15 60 body) ∙ ap (drop 15) after-count ∙ drop-at (r .bits) (r .slots ++ t) 15 (ok .bits-length)) ∙ take-at (r .slots) t 154 (ok .slots-length))
+      (ap (take layoutSize) (sym (drop-drop 15 60 body) ∙ ap (drop 15) after-count ∙ drop-at (r .bits) (r .slots ++ t) 15 (ok .bits-length)) ∙ take-at (r .slots) t layoutSize (ok .slots-length))
 
-module _ (s : List ℕ) (bytes : Bytes s) (h : 235 ≤ length s) where
-  part-length : (n a : ℕ) → a + n ≤ 235 → length (take n (drop a s)) ≡ n
+module _ (s : List ℕ) (bytes : Bytes s) (h : recordSize ≤ length s) where
+  part-length : (n a : ℕ) → a + n ≤ recordSize → length (take n (drop a s)) ≡ n
   part-length n a l = let d : length (drop a s) ≡ length s - a = length-drop a s in length-take-le n (drop a s) (omega arith)
 
   pub at-sound : Sound (recordAt s)
   unfolding recordAt
   at-sound = record {
-    fixed-length = part-length 59 6 (omega arith);
+    fixed-length = part-length fixedSize 6 (omega arith);
     bits-length = part-length 15 66 (omega arith);
-    slots-length = part-length 154 81 (omega arith);
+    slots-length = part-length layoutSize 81 (omega arith);
     number-range = number-fits 4 2 s bytes;
   }
 
@@ -87,12 +88,12 @@ pub joined : (a n m : ℕ) (s : List ℕ) → take n (drop a s) ++ take m (drop 
 joined a n m s = ap (λ (x : List ℕ). take n (drop a s) ++ take m x) (sym (drop-drop n a s)) ∙ sym (take-add n m (drop a s))
 
 -- BYTES AGAIN: the bytes of the record of 235 bytes are these
-pub bytes-again : (s : List ℕ) → Bytes s → 235 ≤ length s → recordBytes (recordAt s) ≡ take 235 s
+pub bytes-again : (s : List ℕ) → Bytes s → recordSize ≤ length s → recordBytes (recordAt s) ≡ take recordSize s
 unfolding recordBytes recordAt
 bytes-again s k h =
-    let d = joined 66 15 154 s in
-    let c : getD s 65 0 ∷ (take 15 (drop 66 s) ++ take 154 (drop 81 s)) ≡ take 170 (drop 65 s) =
+    let d = joined 66 15 layoutSize s in
+    let c : getD s 65 0 ∷ (take 15 (drop 66 s) ++ take layoutSize (drop 81 s)) ≡ take 170 (drop 65 s) =
     ap₂ (λ (x y : List ℕ). x ++ y) (one-byte s 65 (omega arith)) d ∙ joined 65 1 169 s in
-    ap₂ (λ (x y : List ℕ). x ++ (take 59 (drop 6 s) ++ y)) (head-again s k (omega arith)) c
-    ∙ ap (λ (x : List ℕ). take 6 s ++ x) (joined 6 59 170 s)
+    ap₂ (λ (x y : List ℕ). x ++ (take fixedSize (drop 6 s) ++ y)) (head-again s k (omega arith)) c
+    ∙ ap (λ (x : List ℕ). take 6 s ++ x) (joined 6 fixedSize 170 s)
     ∙ joined 0 6 229 s

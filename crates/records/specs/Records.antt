@@ -9,6 +9,7 @@ use Rattle.refusals.specs.Names.{noRoom}
 use Rattle.numbers.specs.Numbers.{numberAt, bytesOf, patched}
 use Rattle.orders.specs.declared.Record.{Record}
 use Rattle.orders.specs.Orders.{blank}
+use Rattle.fields.specs.Sizes.{fixedSize, layoutSize, recordSize}
 
 -- a record's bytes
 unfoldable pub recordBytes : Record → List ℕ
@@ -21,20 +22,20 @@ recordAt s =
       message = getD s 0 0;
       unit = getD s 1 0;
       number = numberAt 4 2 s;
-      fixed = take 59 (drop 6 s);
+      fixed = take fixedSize (drop 6 s);
       count = getD s 65 0;
       bits = take 15 (drop 66 s);
-      slots = take 154 (drop 81 s);
+      slots = take layoutSize (drop 81 s);
     }
 
 -- a record from any bytes: that of the first 235, and the blank one where there are fewer
 unfoldable pub loadOf : List ℕ → Record
-loadOf s = cond (ltb (length s) 235) blank (recordAt s)
+loadOf s = cond (ltb (length s) recordSize) blank (recordAt s)
 
 -- a record into a buffer: 13 where the buffer has under 235 bytes, and it is as it was
 unfoldable pub storeRefusal : ℕ → ℕ
-storeRefusal room = cond (ltb room 235) noRoom 0
+storeRefusal room = cond (ltb room recordSize) noRoom 0
 
 -- else the record's bytes stand in its front
 unfoldable pub storeBuffer : Record → List ℕ → List ℕ
-storeBuffer r out = cond (ltb (length out) 235) out (patched out 0 (recordBytes r))
+storeBuffer r out = cond (ltb (length out) recordSize) out (patched out 0 (recordBytes r))

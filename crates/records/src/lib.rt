@@ -5,11 +5,12 @@ ghost use Prim.Native.Nat.{_≤_};
 ghost use lib.ListN.{length};
 ghost use Rattle.numbers.specs.Numbers.{bytesOf, patched};
 ghost use Rattle.records.specs.Records.{recordBytes, recordAt, loadOf, storeRefusal, storeBuffer};
+ghost use Rattle.fields.specs.Sizes.{fixedSize, layoutSize, recordSize};
 use orders::Record;
 
 // The bitfields, and the layout after them, into the front of a lent tail.
 fn put_fields(bits: &[u8], slots: &[u8], tail: &mut [u8])
-    requires { ⌜ (length (now bits) ≡ 15) × (length (now slots) ≡ 154) × (169 ≤ length (now tail)) ⌝ }
+    requires { ⌜ (length (now bits) ≡ 15) × (length (now slots) ≡ layoutSize) × (169 ≤ length (now tail)) ⌝ }
     ensures { λ _. ⌜ now (tail .exit) ≡ patched (now (tail .entry)) 0 (now (bits .entry) ++ now (slots .entry)) ⌝ }
 {
     fields::copy(bits, tail);
@@ -18,7 +19,7 @@ fn put_fields(bits: &[u8], slots: &[u8], tail: &mut [u8])
 
 // The count, the bitfields and the layout.
 fn put_block(count: u8, bits: &[u8], slots: &[u8], tail: &mut [u8])
-    requires { ⌜ (length (now bits) ≡ 15) × (length (now slots) ≡ 154) × (170 ≤ length (now tail)) ⌝ }
+    requires { ⌜ (length (now bits) ≡ 15) × (length (now slots) ≡ layoutSize) × (170 ≤ length (now tail)) ⌝ }
     ensures { λ _. ⌜ now (tail .exit) ≡ patched (now (tail .entry)) 0 (count ∷ (now (bits .entry) ++ now (slots .entry))) ⌝ }
 {
     tail[0] = count;
@@ -27,11 +28,11 @@ fn put_block(count: u8, bits: &[u8], slots: &[u8], tail: &mut [u8])
 
 // The fixed part, and these after it.
 fn put_body(fixed: &[u8], count: u8, bits: &[u8], slots: &[u8], tail: &mut [u8])
-    requires { ⌜ (length (now fixed) ≡ 59) × (length (now bits) ≡ 15) × (length (now slots) ≡ 154) × (229 ≤ length (now tail)) ⌝ }
+    requires { ⌜ (length (now fixed) ≡ fixedSize) × (length (now bits) ≡ 15) × (length (now slots) ≡ layoutSize) × (229 ≤ length (now tail)) ⌝ }
     ensures { λ _. ⌜ now (tail .exit) ≡ patched (now (tail .entry)) 0 (now (fixed .entry) ++ (count ∷ (now (bits .entry) ++ now (slots .entry)))) ⌝ }
 {
     fields::copy(fixed, tail);
-    put_block(count, bits, slots, &mut tail[59..]);
+    put_block(count, bits, slots, &mut tail[fields::FIXED..]);
 }
 
 // The type, the unit and the number: the head of any record.
@@ -55,7 +56,7 @@ pub fn pack_parts(
     slots: &[u8],
     out: &mut [u8],
 )
-    requires { ⌜ (length (now fixed) ≡ 59) × (length (now bits) ≡ 15) × (length (now slots) ≡ 154) × (235 ≤ length (now out)) ⌝ }
+    requires { ⌜ (length (now fixed) ≡ fixedSize) × (length (now bits) ≡ 15) × (length (now slots) ≡ layoutSize) × (recordSize ≤ length (now out)) ⌝ }
     ensures { λ _. ⌜ now (out .exit) ≡ patched (now (out .entry)) 0 (recordBytes (record { message = message; unit = unit; number = number; fixed = now (fixed .entry); count = count; bits = now (bits .entry); slots = now (slots .entry) })) ⌝ }
 {
     put_head(message, unit, number, out);
@@ -64,7 +65,7 @@ pub fn pack_parts(
 
 // A record into the front of a buffer that has room for it.
 fn pack(r: Record, out: &mut [u8])
-    requires { ⌜ 235 ≤ length (now out) ⌝ }
+    requires { ⌜ recordSize ≤ length (now out) ⌝ }
     ensures { λ _. ⌜ now (out .exit) ≡ patched (now (out .entry)) 0 (recordBytes r) ⌝ }
 {
     let fixed = r.fixed;
@@ -84,15 +85,15 @@ fn pack(r: Record, out: &mut [u8])
 
 // The record of the first 235 bytes.
 fn unpack(s: &[u8]) -> Record
-    requires { ⌜ 235 ≤ length (now s) ⌝ }
+    requires { ⌜ recordSize ≤ length (now s) ⌝ }
     ensures { λ r. ⌜ r ≡ recordAt (now (s .entry)) ⌝ }
 {
-    let mut fixed = [0u8; 59];
+    let mut fixed = [0u8; fields::FIXED];
     fields::copy(&s[6..65], &mut fixed);
     let mut bits = [0u8; 15];
     fields::copy(&s[66..81], &mut bits);
-    let mut slots = [0u8; 154];
-    fields::copy(&s[81..235], &mut slots);
+    let mut slots = [0u8; fields::LAYOUT];
+    fields::copy(&s[81..fields::RECORD], &mut slots);
     Record {
         message: s[0],
         unit: s[1],
@@ -108,7 +109,7 @@ fn unpack(s: &[u8]) -> Record
 pub fn load(s: &[u8]) -> Record
     ensures { λ r. ⌜ r ≡ loadOf (now (s .entry)) ⌝ }
 {
-    if s.len() < 235 {
+    if s.len() < fields::RECORD {
         return orders::blank_record();
     }
     unpack(s)
@@ -118,7 +119,7 @@ pub fn load(s: &[u8]) -> Record
 pub fn store(r: Record, out: &mut [u8]) -> u8
     ensures { λ n. ⌜ (n ≡ storeRefusal (length (now (out .entry)))) × (now (out .exit) ≡ storeBuffer r (now (out .entry))) ⌝ }
 {
-    if out.len() < 235 {
+    if out.len() < fields::RECORD {
         return refusals::NO_ROOM;
     }
     pack(r, out);

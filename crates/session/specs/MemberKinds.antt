@@ -8,17 +8,18 @@ use lib.Dec.{eqb, leb, ltb}
 use lib.ListN.{length}
 use borrow.Author.Tests.{eq-eqb, ne-eqb, eqb-true, eqb-false, ltb-true, ltb-false, le-leb, lt-leb, leb-true}
 use Rattle.wire.specs.Header.{typeOf, unitOf, numberOf}
-use Rattle.wire.specs.Frame.{frameRefusal, framed}
+use Rattle.wire.specs.Frame.{frameRefusal}
 use Rattle.table.specs.Table.{lastOf, unitRefusal, entryRefusal, stepRefusal}
 use Rattle.table.specs.TableLaws.{unit-taken, taken-is-next, next-is-taken}
 use Rattle.orders.specs.Shapes.{ofVenue, unitGood}
 use Rattle.orders.specs.Orders as orders
 use Rattle.orders.specs.OrderLaws as orderLaws
-use Rattle.messages.specs.Messages.{carries, isSession, ownRefusal, readRefusal}
+use Rattle.messages.specs.Messages.{carries, ownRefusal}
 use Rattle.book.specs.declared.Book.{Book}
 use Rattle.book.specs.Books.{limit, messageRefusal, nextRefusal, roomless, appendRefusal}
 use Rattle.book.specs.BookLaws.{past-buffer, past-limit, by-count}
 use Rattle.line.specs.Lines.{Fine}
+use Rattle.session.specs.SessionLaws.{framed-and-carried, own-order, read-is-good}
 
 -- ---- the types
 
@@ -29,16 +30,6 @@ pub data Kind (m : List ℕ) : Type 0 where
   aBeat : typeOf m ≡ 0x09 → Kind m
   anAcknowledgment : typeOf m ≡ 0x25 → Kind m
   anExecution : typeOf m ≡ 0x2C → Kind m
-
-framed-and-carried : (s : List ℕ) → readRefusal 1 s ≡ 0 → (frameRefusal s ≡ 0) × (carries 1 (typeOf (framed s)) ≡ true) × (ownRefusal (framed s) ≡ 0)
-unfolding readRefusal
-framed-and-carried s z = by (eqb (frameRefusal s) 0) (carries 1 (typeOf (framed s))) refl refl z
-  where
-    by : (p q : Bool) → eqb (frameRefusal s) 0 ≡ p → carries 1 (typeOf (framed s)) ≡ q → cond p (cond q (ownRefusal (framed s)) 4) (frameRefusal s) ≡ 0
-        → (frameRefusal s ≡ 0) × (carries 1 (typeOf (framed s)) ≡ true) × (ownRefusal (framed s) ≡ 0)
-    by true true e c y = (eqb-true (frameRefusal s) 0 e, c, y)
-    by true false e c y = absurd (omega (arith, y))
-    by false q e c y = absurd (eqb-false (frameRefusal s) 0 e y)
 
 module _ (m : List ℕ) (f : Fine m) where
   pub frames : frameRefusal m ≡ 0
@@ -66,11 +57,6 @@ module _ (m : List ℕ) (f : Fine m) where
 
 -- ---- an application message and the book
 
--- 4 is neither a session's nor a member's
-own-order : (m : List ℕ) (v : ℕ) → typeOf m ≡ v → isSession v ≡ false → ownRefusal m ≡ 0 → orders.readRefusal m ≡ 0
-unfolding ownRefusal
-own-order m v e s z = (rw (e, s) at z)
-
 unit-of : (m : List ℕ) (v : ℕ) → typeOf m ≡ v → (unitGood v (unitOf m) ≡ (leb 1 (unitOf m) && leb (unitOf m) 32)) → orders.readRefusal m ≡ 0 → unitRefusal (unitOf m) ≡ 0
 unit-of m v e g z =
     let u : unitGood v (unitOf m) ≡ true = ap (λ (x : ℕ). unitGood x (unitOf m)) (sym e) ∙ orderLaws.good m z .unit in
@@ -83,24 +69,22 @@ pub record Application (m : List ℕ) : Type 0 where
   pub reads : messageRefusal m ≡ 0
   pub unit : unitRefusal (unitOf m) ≡ 0
 
-application-by : (m : List ℕ) (f : Fine m) (v : ℕ) → typeOf m ≡ v → isSession v ≡ false → ofVenue v ≡ true → (unitGood v (unitOf m) ≡ (leb 1 (unitOf m) && leb (unitOf m) 32)) → Application m
-unfolding messageRefusal
-application-by m f v e s o g =
-    let r = own-order m v e s (own m f) in
-    let p : ofVenue (typeOf (framed m)) ≡ true = ap (λ (x : List ℕ). ofVenue (typeOf x)) (f .whole) ∙ ap ofVenue e ∙ o in
+application-by : (m : List ℕ) (f : Fine m) (v : ℕ) → typeOf m ≡ v → ofVenue v ≡ true → (unitGood v (unitOf m) ≡ (leb 1 (unitOf m) && leb (unitOf m) 32)) → Application m
+application-by m f v e o g =
+    let p : ofVenue (typeOf m) ≡ true = ap ofVenue e ∙ o in
     record {
-      venue = ap ofVenue e ∙ o;
-      reads = rw (eq-eqb (frameRefusal m) 0 (frames m f), p) (ap orders.readRefusal (f .whole) ∙ r);
-      unit = unit-of m v e g r;
+      venue = p;
+      reads = read-is-good m (f .reads) (ap (λ (x : List ℕ). ofVenue (typeOf x)) (f .whole) ∙ p);
+      unit = unit-of m v e g (own-order m p (own m f));
     }
 
 pub acknowledgment : (m : List ℕ) → Fine m → typeOf m ≡ 0x25 → Application m
 unfolding unitGood
-acknowledgment m f e = application-by m f 0x25 e refl refl refl
+acknowledgment m f e = application-by m f 0x25 e refl refl
 
 pub execution : (m : List ℕ) → Fine m → typeOf m ≡ 0x2C → Application m
 unfolding unitGood
-execution m f e = application-by m f 0x2C e refl refl refl
+execution m f e = application-by m f 0x2C e refl refl
 
 -- whether its number is the next of its unit
 abbrev pub isNext : Book → List ℕ → Bool

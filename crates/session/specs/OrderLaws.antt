@@ -19,6 +19,7 @@ use Rattle.session.specs.declared.Answer.{Answer}
 use Rattle.session.specs.Sessions.{answer, isLive, numbered, nextOutgoing, orderRefusal, orderOf, orderOut}
 use Rattle.session.specs.Stages.{gateRefusal}
 use Rattle.session.specs.SessionLaws.{refuses, accepts}
+use Rattle.fields.specs.Sizes.{fixedSize, layoutSize, recordSize}
 
 -- ---- the record under its number
 
@@ -41,13 +42,13 @@ same {m} {u} {n} {n′} {c} {c′} {f} {f′} {b} {b′} {v} {v′} p q r s t =
     ∙ ap (λ (x : List ℕ). record { message = m; unit = u; number = n′; fixed = f′; count = c′; bits = b′; slots = x }) t
 
 -- RECORD UNDER A NUMBER: the first 235 bytes given with the number put in its place are the record under that number
-pub numbered-is : (given : List ℕ) (n : ℕ) → 235 ≤ length given → n < 4294967296 → recordAt (putBuffer (take 235 given) 2 (bytesOf 4 n)) ≡ numbered given n
+pub numbered-is : (given : List ℕ) (n : ℕ) → recordSize ≤ length given → n < 4294967296 → recordAt (putBuffer (take recordSize given) 2 (bytesOf 4 n)) ≡ numbered given n
 unfolding recordAt patched
 numbered-is (a ∷ b ∷ c ∷ d ∷ e ∷ f ∷ l) n h k =
     let given = a ∷ b ∷ c ∷ d ∷ e ∷ f ∷ l in
-    let t : length (take 235 given) ≡ 235 = length-take-le 235 given h in
-    ap recordAt (put-stores (take 235 given) 2 (bytesOf 4 n) (omega (arith, t)))
-    ∙ same (omega arith) (part-of-front 59 0 229 l (omega arith)) (getD-take 229 l 59 0 (omega arith)) (part-of-front 15 60 229 l (omega arith)) (part-of-front 154 75 229 l (omega arith))
+    let t : length (take recordSize given) ≡ recordSize = length-take-le recordSize given h in
+    ap recordAt (put-stores (take recordSize given) 2 (bytesOf 4 n) (omega (arith, t)))
+    ∙ same (omega arith) (part-of-front fixedSize 0 229 l (omega arith)) (getD-take 229 l fixedSize 0 (omega arith)) (part-of-front 15 60 229 l (omega arith)) (part-of-front layoutSize 75 229 l (omega arith))
 numbered-is [] n h k = absurd (omega (arith, h))
 numbered-is (a ∷ []) n h k = absurd (omega (arith, h))
 numbered-is (a ∷ b ∷ []) n h k = absurd (omega (arith, h))
@@ -68,32 +69,32 @@ module _ (s : Session) (given : List ℕ) where
     used-up e = rw (l, eq-eqb (s .outgoing .0) 4294967295 e)
 
     module _ (u : s .outgoing .0 ≡ 4294967295 → ⊥) where
-      pub short : length given < 235 → 13 ≡ gateRefusal s given
+      pub short : length given < recordSize → 13 ≡ gateRefusal s given
       unfolding gateRefusal
-      short h = rw (l, ne-eqb (s .outgoing .0) 4294967295 u, lt-ltb (length given) 235 h)
+      short h = rw (l, ne-eqb (s .outgoing .0) 4294967295 u, lt-ltb (length given) recordSize h)
 
-      pub no-order : 235 ≤ length given → orderTypes.ofMember (getD given 0 0) ≡ false → 4 ≡ gateRefusal s given
+      pub no-order : recordSize ≤ length given → orderTypes.ofMember (getD given 0 0) ≡ false → 4 ≡ gateRefusal s given
       unfolding gateRefusal
-      no-order h e = rw (l, ne-eqb (s .outgoing .0) 4294967295 u, le-ltb (length given) 235 h, e)
+      no-order h e = rw (l, ne-eqb (s .outgoing .0) 4294967295 u, le-ltb (length given) recordSize h, e)
 
-      pub an-order : 235 ≤ length given → orderTypes.ofMember (getD given 0 0) ≡ true → 0 ≡ gateRefusal s given
+      pub an-order : recordSize ≤ length given → orderTypes.ofMember (getD given 0 0) ≡ true → 0 ≡ gateRefusal s given
       unfolding gateRefusal
-      an-order h e = rw (l, ne-eqb (s .outgoing .0) 4294967295 u, le-ltb (length given) 235 h, e)
+      an-order h e = rw (l, ne-eqb (s .outgoing .0) 4294967295 u, le-ltb (length given) recordSize h, e)
 
 -- what an order that comes to the writer has
 pub record Admitted (s : Session) (given : List ℕ) : Type 0 where
   pub live : isLive (s .phase) ≡ true
   pub unused : s .outgoing .0 ≡ 4294967295 → ⊥
-  pub long : 235 ≤ length given
+  pub long : recordSize ≤ length given
   pub order : orderTypes.ofMember (getD given 0 0) ≡ true
 
 pub admitted : (s : Session) (given : List ℕ) → gateRefusal s given ≡ 0 → Admitted s given
 unfolding gateRefusal
-admitted s given z = by (isLive (s .phase)) refl (eqb (s .outgoing .0) 4294967295) refl (ltb (length given) 235) refl (orderTypes.ofMember (getD given 0 0)) refl z
+admitted s given z = by (isLive (s .phase)) refl (eqb (s .outgoing .0) 4294967295) refl (ltb (length given) recordSize) refl (orderTypes.ofMember (getD given 0 0)) refl z
   where
-    by : (p : Bool) → isLive (s .phase) ≡ p → (q : Bool) → eqb (s .outgoing .0) 4294967295 ≡ q → (r : Bool) → ltb (length given) 235 ≡ r → (t : Bool) → orderTypes.ofMember (getD given 0 0) ≡ t
+    by : (p : Bool) → isLive (s .phase) ≡ p → (q : Bool) → eqb (s .outgoing .0) 4294967295 ≡ q → (r : Bool) → ltb (length given) recordSize ≡ r → (t : Bool) → orderTypes.ofMember (getD given 0 0) ≡ t
         → _≡_ {A = ℕ} (cond p (cond q 20 (cond r 13 (cond t 0 4))) 16) 0 → Admitted s given
-    by true p false q false r true t z = record { live = p; unused = eqb-false (s .outgoing .0) 4294967295 q; long = ltb-false (length given) 235 r; order = t }
+    by true p false q false r true t z = record { live = p; unused = eqb-false (s .outgoing .0) 4294967295 q; long = ltb-false (length given) recordSize r; order = t }
     by true p false q false r false t z = absurd (omega (arith, z))
     by true p false q true r t u z = absurd (omega (arith, z))
     by true p true q r t u v z = absurd (omega (arith, z))
@@ -105,7 +106,7 @@ module _ (s : Session) (given : List ℕ) where
   -- a refusal before the writer's is the call's
   gate-tells : (room : ℕ) → (gateRefusal s given ≡ 0 → ⊥) → gateRefusal s given ≡ orderRefusal s given room
   unfolding gateRefusal orderRefusal
-  gate-tells room k = by (isLive (s .phase)) (eqb (s .outgoing .0) 4294967295) (ltb (length given) 235) (orderTypes.ofMember (getD given 0 0)) k
+  gate-tells room k = by (isLive (s .phase)) (eqb (s .outgoing .0) 4294967295) (ltb (length given) recordSize) (orderTypes.ofMember (getD given 0 0)) k
     where
       by : (p q r t : Bool) → (_≡_ {A = ℕ} (cond p (cond q 20 (cond r 13 (cond t 0 4))) 16) 0 → ⊥)
           → cond p (cond q 20 (cond r 13 (cond t 0 4))) 16 ≡ cond p (cond q 20 (cond r 13 (cond t (orders.writeRefusal (numbered given (nextOutgoing s)) room) 4))) 16
@@ -118,7 +119,7 @@ module _ (s : Session) (given : List ℕ) where
   -- after it the writer's is
   writer-tells : (room : ℕ) → Admitted s given → orders.writeRefusal (numbered given (nextOutgoing s)) room ≡ orderRefusal s given room
   unfolding orderRefusal
-  writer-tells room a = rw (a .live, ne-eqb (s .outgoing .0) 4294967295 (a .unused), le-ltb (length given) 235 (a .long), a .order)
+  writer-tells room a = rw (a .live, ne-eqb (s .outgoing .0) 4294967295 (a .unused), le-ltb (length given) recordSize (a .long), a .order)
 
 -- the state after an order that went out
 abbrev sentBy : Session → Session

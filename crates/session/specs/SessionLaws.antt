@@ -6,14 +6,15 @@ use Prim.Native.Nat.{ℕ}
 use native.Mathlib.Omega.{arith}
 use lib.Dec.{eqb}
 use lib.ListN.{length}
-use borrow.Author.Tests.{eq-eqb, ne-eqb, eqb-true}
+use borrow.Author.Tests.{eq-eqb, ne-eqb, eqb-true, eqb-false}
 use Rattle.numbers.specs.Numbers.{patched}
 use Rattle.wire.specs.Header.{typeOf}
-use Rattle.wire.specs.Frame.{framed}
+use Rattle.wire.specs.Frame.{frameRefusal, framed}
 use Rattle.orders.specs.Shapes as orderTypes
+use Rattle.orders.specs.Orders as orders
 use Rattle.logins.specs.declared.Record as sessionRecords
 use Rattle.logins.specs.Sessions as logins
-use Rattle.messages.specs.Messages.{readRefusal}
+use Rattle.messages.specs.Messages.{carries, isSession, ownRefusal, readRefusal}
 use Rattle.book.specs.declared.Book.{Book}
 use Rattle.book.specs.declared.Answer.{Answer as BookAnswer}
 use Rattle.book.specs.Books as books
@@ -23,7 +24,7 @@ use Rattle.session.specs.declared.Phase.the-variants.{Closed, Asked, Rep
 use Rattle.session.specs.declared.Session.{Session}
 use Rattle.session.specs.declared.Answer.{Answer}
 use Rattle.session.specs.Sessions.{pickSession, answer, answered, inPhase, withBook, isClosed, isAsked, isOpen, passes, endedBy, brokenBy, brokenBuffer, respondedBy, respondedBuffer, responseRefusal, responseOf, responseBuffer, statusIn, receivedIn, messageRefusal, messageOf, messageBuffer, receiveRefusal, receivedBy, receiveOf, receivedBuffer, receiveBuffer, loginRefusal, loginOf, loginOut, heartbeatRecord, heartbeatRefusal, heartbeatOf, heartbeatOut}
-use Rattle.session.specs.Stages.{heardBy, heardBuffer}
+use Rattle.session.specs.Stages.{bookedAs, heardBy, heardBuffer}
 
 -- ---- answers
 
@@ -83,12 +84,12 @@ module _ (s : Session) (xs bytes : List ℕ) where
   booked k b false z = refl
 
   pub books-it : isOpen (s .phase) ≡ true → {a : BookAnswer} {out : List ℕ} → a ≡ appendOf (s .book) (length xs) bytes → out ≡ appendBuffer (s .book) xs bytes
-      → (answer (a .refusal) (withBook s (a .book)) ≡ messageOf s (length xs) bytes) × (out ≡ messageBuffer s xs bytes)
+      → {r : Answer} → r ≡ bookedAs s a → (r ≡ messageOf s (length xs) bytes) × (out ≡ messageBuffer s xs bytes)
   unfolding messageOf messageRefusal messageBuffer appendOf
-  books-it e p q =
+  books-it e p q w =
       let k = appendRefusal (s .book) (length xs) bytes in
       let b = appendedBy (s .book) (framed bytes) in
-      (ap (λ (a : BookAnswer). answer (a .refusal) (withBook s (a .book))) p ∙ booked k b (eqb k 0) refl ∙ sym (ap (λ (t : Bool). answered (cond t k 16) (withBook s b) s) e), q ∙ rw e)
+      (w ∙ ap (bookedAs s) p ∙ booked k b (eqb k 0) refl ∙ sym (ap (λ (t : Bool). answered (cond t k 16) (withBook s b) s) e), q ∙ rw e)
 
   pub unopened : isOpen (s .phase) ≡ false → (answer 16 s ≡ messageOf s (length xs) bytes) × (xs ≡ messageBuffer s xs bytes)
   unfolding messageOf messageRefusal messageBuffer
@@ -146,14 +147,44 @@ heartbeat-passes Asked t e v a b d = let q : false ≡ true = rw (a, d) at e in 
 heartbeat-passes Replaying t e v a b d = only (eqb t 0x09) (rw (v, b, d) at e)
 heartbeat-passes Live t e v a b d = only (eqb t 0x09) (rw (v, d) at e)
 
--- an application message's type is none of the session messages'
-pub venue-else : (t : ℕ) → orderTypes.ofVenue t ≡ true → (eqb t 0x24 ≡ false) × (eqb t 0x13 ≡ false) × (eqb t 0x08 ≡ false) × (eqb t 0x09 ≡ false)
-venue-else t v = by (eqb t 0x25) refl (eqb t 0x2C) refl v
+-- an application message's type is one of two
+venue-types : (P : ℕ → Type 0) → P 0x25 → P 0x2C → (t : ℕ) → orderTypes.ofVenue t ≡ true → P t
+venue-types P p q t v = by (eqb t 0x25) refl (eqb t 0x2C) refl v
   where
-    by : (a : Bool) → eqb t 0x25 ≡ a → (b : Bool) → eqb t 0x2C ≡ b → (a || b) ≡ true → (eqb t 0x24 ≡ false) × (eqb t 0x13 ≡ false) × (eqb t 0x08 ≡ false) × (eqb t 0x09 ≡ false)
-    by true x b y e = let q : t ≡ 0x25 = eqb-true t 0x25 x in rw q (refl, refl, refl, refl)
-    by false x true y e = let q : t ≡ 0x2C = eqb-true t 0x2C y in rw q (refl, refl, refl, refl)
+    by : (a : Bool) → eqb t 0x25 ≡ a → (b : Bool) → eqb t 0x2C ≡ b → (a || b) ≡ true → P t
+    by true x b y e = let k : t ≡ 0x25 = eqb-true t 0x25 x in rw k p
+    by false x true y e = let k : t ≡ 0x2C = eqb-true t 0x2C y in rw k q
     by false x false y e = absurd (true≢false (sym e))
+
+-- and none of the session messages'
+pub venue-else : (t : ℕ) → orderTypes.ofVenue t ≡ true → (eqb t 0x24 ≡ false) × (eqb t 0x13 ≡ false) × (eqb t 0x08 ≡ false) × (eqb t 0x09 ≡ false)
+venue-else = venue-types (λ (t : ℕ). (eqb t 0x24 ≡ false) × (eqb t 0x13 ≡ false) × (eqb t 0x08 ≡ false) × (eqb t 0x09 ≡ false)) (refl, refl, refl, refl) (refl, refl, refl, refl)
+
+no-session : (t : ℕ) → orderTypes.ofVenue t ≡ true → isSession t ≡ false
+no-session = venue-types (λ (t : ℕ). isSession t ≡ false) refl refl
+
+-- what the venue's reader takes is framed, of a type of the venue's, and good by itself
+pub framed-and-carried : (s : List ℕ) → readRefusal 1 s ≡ 0 → (frameRefusal s ≡ 0) × (carries 1 (typeOf (framed s)) ≡ true) × (ownRefusal (framed s) ≡ 0)
+unfolding readRefusal
+framed-and-carried s z = by (eqb (frameRefusal s) 0) (carries 1 (typeOf (framed s))) refl refl z
+  where
+    by : (p q : Bool) → eqb (frameRefusal s) 0 ≡ p → carries 1 (typeOf (framed s)) ≡ q → cond p (cond q (ownRefusal (framed s)) 4) (frameRefusal s) ≡ 0
+        → (frameRefusal s ≡ 0) × (carries 1 (typeOf (framed s)) ≡ true) × (ownRefusal (framed s) ≡ 0)
+    by true true e c y = (eqb-true (frameRefusal s) 0 e, c, y)
+    by true false e c y = absurd (omega (arith, y))
+    by false q e c y = absurd (eqb-false (frameRefusal s) 0 e y)
+
+-- an application message's own refusals are an order's
+pub own-order : (m : List ℕ) → orderTypes.ofVenue (typeOf m) ≡ true → ownRefusal m ≡ 0 → orders.readRefusal m ≡ 0
+unfolding ownRefusal
+own-order m v z = rw (no-session (typeOf m) v) at z
+
+-- an application message that the venue's reader takes is one that the book takes
+pub read-is-good : (s : List ℕ) → readRefusal 1 s ≡ 0 → orderTypes.ofVenue (typeOf (framed s)) ≡ true → books.messageRefusal s ≡ 0
+unfolding books.messageRefusal
+read-is-good s z v =
+    let f = framed-and-carried s z in
+    rw (eq-eqb (frameRefusal s) 0 (f .0), v) (own-order (framed s) v (f .2))
 
 module _ (s : Session) (m : List ℕ) (v : orderTypes.ofVenue (typeOf m) ≡ true) where
   pub received-books : (room : ℕ) → receivedBy s room m ≡ withBook s (appendedBy (s .book) m)

@@ -115,7 +115,7 @@ module _ (s : Session) (xs m : List ℕ) (z : readRefusal 1 m ≡ 0) (f : framed
         → Step s xs m (answer (appendOf (s .book) (length xs) m .refusal) (withBook s (appendOf (s .book) (length xs) m .book))) (appendBuffer (s .book) xs m)
     open-application v =
         told s xs m (by-message s xs m (ap isClosed h ∙ not-closed p o) z (passing p h true (venue-passes p o v)) (ap (λ (x : List ℕ). ofVenue (typeOf x)) f ∙ v)
-        (books-it s xs m (ap isOpen h ∙ o) refl refl))
+        (books-it s xs m (ap isOpen h ∙ o) refl refl refl))
 
     pub open-heartbeat : typeOf m ≡ 0x09 → Step s xs m (answer 0 s) xs
     open-heartbeat t =

@@ -22,6 +22,7 @@ use Rattle.session.specs.declared.Phase.{Phase}
 use Rattle.session.specs.declared.Phase.the-variants.{Closed, Asked, Replaying, Live}
 use Rattle.session.specs.declared.Session.{Session}
 use Rattle.session.specs.declared.Answer.{Answer}
+use Rattle.fields.specs.Sizes.{recordSize}
 
 -- one of two, by a test
 abbrev pub pickSession : Bool → Session → Session → Session
@@ -221,7 +222,7 @@ unfoldable pub orderRefusal : Session → List ℕ → ℕ → ℕ
 orderRefusal s given room =
     cond (isLive (s .phase))
     (cond (eqb (s .outgoing .0) 4294967295) numbersUsedUp
-    (cond (ltb (length given) 235) noRoom
+    (cond (ltb (length given) recordSize) noRoom
     (cond (orderTypes.ofMember (getD given 0 0)) (orders.writeRefusal (numbered given (nextOutgoing s)) room)
     unknownType)))
     outOfPhase

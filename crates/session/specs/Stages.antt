@@ -7,10 +7,17 @@ use lib.ListN.{length, getD}
 use Rattle.refusals.specs.Names.{unknownType, noRoom, outOfPhase, numbersUsedUp}
 use Rattle.wire.specs.Header.{typeOf}
 use Rattle.orders.specs.Shapes as orderTypes
+use Rattle.book.specs.declared.Answer.{Answer as BookAnswer}
 use Rattle.book.specs.Books.{closeBuffer}
 use Rattle.session.specs.declared.Phase.the-variants.{Live}
 use Rattle.session.specs.declared.Session.{Session}
-use Rattle.session.specs.Sessions.{pickSession, inPhase, isLive, endedBy, respondedBy, respondedBuffer, statusIn, receivedIn}
+use Rattle.session.specs.declared.Answer.{Answer}
+use Rattle.session.specs.Sessions.{pickSession, answer, inPhase, withBook, isLive, endedBy, respondedBy, respondedBuffer, statusIn, receivedIn}
+use Rattle.fields.specs.Sizes.{recordSize}
+
+-- what appending answered, told of the session
+abbrev pub bookedAs : Session → BookAnswer → Answer
+bookedAs s a = answer (a .refusal) (withBook s (a .book))
 
 -- the state after a session message m that passes, and the book's buffer
 unfoldable pub heardBy : Session → ℕ → List ℕ → Session
@@ -32,7 +39,7 @@ unfoldable pub gateRefusal : Session → List ℕ → ℕ
 gateRefusal s given =
     cond (isLive (s .phase))
     (cond (eqb (s .outgoing .0) 4294967295) numbersUsedUp
-    (cond (ltb (length given) 235) noRoom
+    (cond (ltb (length given) recordSize) noRoom
     (cond (orderTypes.ofMember (getD given 0 0)) 0
     unknownType)))
     outOfPhase

@@ -2,15 +2,19 @@
 pub mod phases;
 
 ghost use mathlib.Core.Path.{_≡_};
-ghost use mathlib.Core.Bool.{false};
+ghost use mathlib.Core.Bool.{true, false};
 ghost use Prim.Native.Nat.{_≤_};
 ghost use lib.ListN.{length};
+ghost use Rattle.wire.specs.Header.{typeOf};
+ghost use Rattle.wire.specs.Frame.{framed};
+ghost use Rattle.orders.specs.Shapes.{ofVenue};
 ghost use Rattle.orders.specs.Orders.{writeRefusal, writeBuffer};
 ghost use Rattle.login_requests.specs.LoginRequests.{loginRecord};
 ghost use Rattle.messages.specs.Messages.{readRefusal};
 ghost use Rattle.book.specs.Books.{closeBuffer};
-ghost use Rattle.session.specs.Sessions.{closedWith, inPhase, isClosed, endedBy, brokenBy, brokenBuffer, respondedBy, respondedBuffer, responseOf, responseBuffer, messageOf, messageBuffer, receiveOf, receiveBuffer, loginOf, loginOut, heartbeatOf, heartbeatOut, numbered, orderOf, orderOut};
-ghost use Rattle.session.specs.Stages.{gateRefusal, heardBy, heardBuffer};
+ghost use Rattle.session.specs.Sessions.{closedWith, inPhase, isClosed, isOpen, endedBy, brokenBy, brokenBuffer, respondedBy, respondedBuffer, responseOf, responseBuffer, messageOf, messageBuffer, receiveOf, receiveBuffer, loginOf, loginOut, heartbeatOf, heartbeatOut, numbered, orderOf, orderOut};
+ghost use Rattle.session.specs.Stages.{bookedAs, gateRefusal, heardBy, heardBuffer};
+ghost use Rattle.fields.specs.Sizes.{recordSize};
 use book::Book;
 use login_requests::Bitfields;
 use login_requests::Choice;
@@ -50,11 +54,11 @@ pub fn closed_with(b: Book) -> Session
 
 // Writes an order's record, the first 235 bytes given, under a number.
 fn write_numbered(given: &[u8], number: u32, out: &mut [u8]) -> u8
-    requires { ⌜ 235 ≤ length (now given) ⌝ }
+    requires { ⌜ recordSize ≤ length (now given) ⌝ }
     ensures { λ r. ⌜ (r ≡ writeRefusal (numbered (now (given .entry)) number) (length (now (out .entry)))) × (now (out .exit) ≡ writeBuffer (numbered (now (given .entry)) number) (now (out .entry))) ⌝ }
 {
-    let mut scratch = [0u8; 235];
-    fields::copy(&given[0..235], &mut scratch);
+    let mut scratch = [0u8; fields::RECORD];
+    fields::copy(&given[0..fields::RECORD], &mut scratch);
     numbers::write_u32(&mut scratch, 2, number);
     order_writer::write_order(&scratch, out)
 }
@@ -131,29 +135,47 @@ impl Session {
         }
     }
 
+    // What appending answered, told of the session: its refusal, and the same session with the book after it.
+    fn booked(self, appended: book::Answer) -> Answer
+        ensures { λ r. ⌜ r ≡ bookedAs self appended ⌝ }
+    {
+        let phase = self.phase;
+        let outgoing = self.outgoing;
+        let b = appended.book;
+        Answer {
+            refusal: appended.refusal,
+            session: Session {
+                phase: phase,
+                outgoing: outgoing,
+                book: b,
+            },
+        }
+    }
+
     // An application message: 16 unless replaying or live, then the book's refusals; or it is in the book and its unit's entry has risen.
     pub fn message(self, bytes: &[u8], buffer: &mut [u8]) -> Answer
         ensures { λ r. ⌜ (r ≡ messageOf self (length (now (buffer .entry))) (now (bytes .entry))) × (now (buffer .exit) ≡ messageBuffer self (now (buffer .entry)) (now (bytes .entry))) ⌝ }
     {
         let phase = self.phase;
         if phases::is_open(phase) {
-            let outgoing = self.outgoing;
             let book = self.book;
             let appended = book.append(bytes, buffer);
-            let b = appended.book;
-            return Answer {
-                refusal: appended.refusal,
-                session: Session {
-                    phase: phase,
-                    outgoing: outgoing,
-                    book: b,
-                },
-            };
+            return self.booked(appended);
         }
         Answer {
             refusal: refusals::OUT_OF_PHASE,
             session: self,
         }
+    }
+
+    // An application message that was read, while replaying or live: 14, 15 or 13; or it is in the book and its unit's entry has risen.
+    fn message_read(self, bytes: &[u8], buffer: &mut [u8]) -> Answer
+        requires { ⌜ (isOpen (self .phase) ≡ true) × (readRefusal 1 (now bytes) ≡ 0) × (ofVenue (typeOf (framed (now bytes))) ≡ true) ⌝ }
+        ensures { λ r. ⌜ (r ≡ messageOf self (length (now (buffer .entry))) (now (bytes .entry))) × (now (buffer .exit) ≡ messageBuffer self (now (buffer .entry)) (now (bytes .entry))) ⌝ }
+    {
+        let book = self.book;
+        let appended = book.append_good(bytes, buffer);
+        self.booked(appended)
     }
 
     // The state after a session message m of a type that passes: a Login Response, Replay Complete, a Logout; a heartbeat changes nothing.
@@ -190,7 +212,7 @@ impl Session {
             };
         }
         if orders::of_venue(message) {
-            return self.message(bytes, buffer);
+            return self.message_read(bytes, buffer);
         }
         let s = self.heard(m, buffer);
         Answer {
@@ -292,7 +314,7 @@ impl Session {
         if self.outgoing.0 == 4294967295 {
             return refusals::NUMBERS_USED_UP;
         }
-        if given.len() < 235 {
+        if given.len() < fields::RECORD {
             return refusals::NO_ROOM;
         }
         if !orders::of_member(given[0]) {

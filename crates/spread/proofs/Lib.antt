@@ -1,1 +1,2 @@
+-- What the functions of storing rest on.
 pub mod One

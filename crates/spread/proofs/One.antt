@@ -1,63 +1,45 @@
--- One field taken, on plain values. Assumes nothing.
-use mathlib.Core.Path.{_≡_, refl, ap, _∙_}
-use mathlib.Core.Bool.{Bool, true, false, not, _&&_}
+-- One field stored, on plain values: the reader that is handed the message's tail stores what the walk stores. Assumes nothing.
+use mathlib.Core.Path.{_≡_, refl, sym, ap, ap₂, _∙_}
+use mathlib.Core.Bool.{Bool, true, false}
 use mathlib.Core.List.{List}
-use Prim.Native.Nat.{ℕ, suc, _+_, _-_, _≤_, _<_}
+use Prim.Native.Nat.{ℕ, _+_, _-_, _≤_, _<_}
+use native.Mathlib.Nat.{add-zero}
 use native.Mathlib.Omega.{arith}
-use lib.Dec.{eqb}
-use lib.ListN.{length, take, drop, getD}
-use borrow.Author.Tests.{le-leb, lt-leb}
-use Rattle.kinds.specs.declared.Kind.{Kind}
-use Rattle.kinds.specs.Kinds.{agreesOf}
+use lib.Dec.{leb}
+use lib.ListN.{length, take, drop, length-drop}
+use borrow.Author.Tests.{le-leb, lt-leb, leb-true, leb-false}
 use Rattle.numbers.specs.Numbers.{patched}
-use Rattle.dictionary.specs.declared.Entry.{Entry}
-use Rattle.dictionary.specs.declared.Entry.the-variants.{Refused, Field}
-use Rattle.fields.specs.Walk.{pick, Taking, takeField, takeEntry}
-use Rattle.spread.specs.declared.Taken.{Taken}
-use Rattle.spread.specs.State.{taking}
+use Rattle.numbers.proofs.Tail.{tail-is}
+use Rattle.fields.specs.Walk.{pick, Storing, storeField}
+use Rattle.spread.specs.State.{storing}
 
-made : {at at′ : ℕ} {agree agree′ bad bad′ : Bool} {l l′ : List ℕ} → at ≡ at′ → agree ≡ agree′ → bad ≡ bad′ → l ≡ l′
-    → _≡_ {A = Taking} (record { at = at; agree = agree; bad = bad; layout = l }) (record { at = at′; agree = agree′; bad = bad′; layout = l′ })
-made {at} {at′} {agree} {agree′} {bad} {bad′} {l} {l′} p q r s =
-    ap (λ (x : ℕ). record { at = x; agree = agree; bad = bad; layout = l }) p
-    ∙ ap (λ (x : Bool). record { at = at′; agree = x; bad = bad; layout = l }) q
-    ∙ ap (λ (x : Bool). record { at = at′; agree = agree′; bad = x; layout = l }) r
-    ∙ ap (λ (x : List ℕ). record { at = at′; agree = agree′; bad = bad′; layout = x }) s
+module _ (m : List ℕ) (w p at : ℕ) (l : List ℕ) (h : at ≤ length m) where
+  -- a field that the tail has
+  there : at + w ≤ length m → storing (at + w) (patched l p (take w (drop at m))) ≡ storeField m w p (storing at l)
+  there k = rw (le-leb (at + w) (length m) k)
 
-module _ (m : List ℕ) (w : ℕ) (k : Kind) (p : ℕ) (t : Taken) (l : List ℕ) where
-  -- a field that the message has no bytes for
-  pub lost-is : (r : Taken) → length m < t .at + w → (r .at ≡ length m + 1) × (r .wrong ≡ t .wrong) × (r .bad ≡ t .bad) → taking r l ≡ takeField m w k p (taking t l)
-  lost-is r h e =
-      let n : length m + 1 ≡ suc (length m) = omega arith in
-      rw (lt-leb (t .at + w) (length m) h) (made (e .0 ∙ n) (ap (λ (x : ℕ). eqb x 0) (e .1)) (ap (λ (x : ℕ). not (eqb x 0)) (e .2)) refl)
+  -- and one that it has not
+  not-there : length m < at + w → storing at l ≡ storeField m w p (storing at l)
+  not-there k = rw (lt-leb (at + w) (length m) k)
 
-  -- a field that is there
-  pub taken-is : {a : Bool} {l′ : List ℕ} → t .at + w ≤ length m
-      → a ≡ (agreesOf k (take (t .at + w - t .at) (drop (t .at) m)) && eqb (t .wrong) 0)
-      → l′ ≡ patched l p (take (t .at + w - t .at) (drop (t .at) m))
-      → _≡_ {A = Taking} (record { at = t .at + w; agree = a; bad = not (eqb (t .bad) 0); layout = l′ }) (takeField m w k p (taking t l))
-  taken-is {a} {l′} h e f =
-      let n : t .at + w - t .at ≡ w = omega arith in
-      rw (le-leb (t .at + w) (length m) h)
-      (made refl
-      (e ∙ ap (λ (i : ℕ). agreesOf k (take i (drop (t .at) m)) && eqb (t .wrong) 0) n)
-      refl
-      (f ∙ ap (λ (i : ℕ). patched l p (take i (drop (t .at) m))) n))
+  by-tail : (b : Bool) → leb w (length (drop at m)) ≡ b → {r : ℕ} {l′ : List ℕ} → r ≡ pick b w 0 → l′ ≡ pick b (patched l p (take w (drop at m))) l
+      → (storing (at + r) l′ ≡ storeField m w p (storing at l)) × (at + r ≤ length m)
+  by-tail true e {r} {l′} f g =
+      let d : length (drop at m) ≡ length m - at = length-drop at m in
+      let k : w ≤ length (drop at m) = leb-true _ _ e in
+      (ap₂ (λ (x : ℕ) (y : List ℕ). storing (at + x) y) f g ∙ there (omega arith), omega arith)
+  by-tail false e {r} {l′} f g =
+      let d : length (drop at m) ≡ length m - at = length-drop at m in
+      let k : length (drop at m) < w = leb-false _ _ e in
+      (ap₂ (λ (x : ℕ) (y : List ℕ). storing (at + x) y) f g ∙ ap (λ (x : ℕ). storing x l) (add-zero at) ∙ not-there (omega arith), omega arith)
 
--- a bit that is set and not listed, one that is listed, and one that is not set
-module _ (m : List ℕ) (b : Bool) (e : Entry) (st : Taking) where
-  pub refused-is : b ≡ true → Refused ≡ e → _≡_ {A = Taking} (record { at = st .at; agree = st .agree; bad = true; layout = st .layout }) (pick b (takeEntry m e st) st)
-  unfolding takeEntry
-  refused-is p q = rw p (ap (λ (x : Entry). takeEntry m x st) q)
-
-  pub listed-is : {w p : ℕ} {k : Kind} {r : Taking} → b ≡ true → Field w k p ≡ e → r ≡ takeField m w k p st → r ≡ pick b (takeEntry m e st) st
-  unfolding takeEntry
-  listed-is z q f = f ∙ rw z (ap (λ (x : Entry). takeEntry m x st) q)
-
-  pub unset-is : b ≡ false → st ≡ pick b (takeEntry m e st) st
-  unset-is p = rw p
-
--- what a literal byte needs, where it is the byte at hand
-pub at-byte : {n j k count value : ℕ} (bits : List ℕ) → j ≡ k → (n ≡ 154) × (j < count) × (count ≤ 15) × (value ≡ getD bits j 0)
-    → (n ≡ 154) × (k < count) × (count ≤ 15) × (value ≡ getD bits k 0)
-at-byte {n} {j} {k} {count} {value} bits e p = (p .0, omega (arith, p .1, e), p .2, p .3 ∙ ap (λ (i : ℕ). getD bits i 0) e)
+  -- the tail as it is lent
+  pub tail-stored : {r : ℕ} {l′ : List ℕ}
+      → (r ≡ pick (leb w (length (take (length m - at) (drop at m)))) w 0)
+      × (l′ ≡ pick (leb w (length (take (length m - at) (drop at m)))) (patched l p (take w (take (length m - at) (drop at m)))) l)
+      → (storing (at + r) l′ ≡ storeField m w p (storing at l)) × (at + r ≤ length m)
+  tail-stored q =
+      let t : take (length m - at) (drop at m) ≡ drop at m = tail-is m at h in
+      by-tail (leb w (length (drop at m))) refl
+      (q .0 ∙ ap (λ (x : List ℕ). pick (leb w (length x)) w 0) t)
+      (q .1 ∙ ap (λ (x : List ℕ). pick (leb w (length x)) (patched l p (take w x)) l) t)

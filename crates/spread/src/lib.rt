@@ -1,223 +1,151 @@
-// Reading the optional block: a walk over the set bits that takes each field of a message into a record's full layout.
+// Reading the optional block: a walk over the set bits that stores each field of a message in a record's full layout.
 ghost use mathlib.Core.Path.{_≡_};
-ghost use mathlib.Core.Bool.{_&&_};
-ghost use Prim.Native.Nat.{_+_, _*_, _%_, _≤_, _<_};
-ghost use lib.Dec.{eqb};
-ghost use lib.ListN.{length, getD};
+ghost use Prim.Native.Nat.{_+_, _*_, _%_, _≤_};
+ghost use lib.Dec.{eqb, leb};
+ghost use lib.ListN.{length, take};
+ghost use Rattle.numbers.specs.Numbers.{patched};
 ghost use Rattle.dictionary.specs.Dictionary.{entryOf};
-ghost use Rattle.fields.specs.Walk.{pick, takeField, takeEntry};
-ghost use Rattle.spread.specs.State.{taking, start, takeWalk};
+ghost use Rattle.fields.specs.Walk.{pick, inByte, storeEntry};
+ghost use Rattle.spread.specs.State.{storing, storeWalk};
+ghost use Rattle.fields.specs.Sizes.{allPlaces, layoutSize};
 use dictionary::Entry;
-use kinds::Kind;
 
-// How far a message's optional bytes are taken (one past their end where they are too few), 1 where a field so far is against its kind,
-// and 1 where a set bit is not listed. Numbers, since a struct with gaps costs copies.
-pub struct Taken {
-    pub at: usize,
-    pub wrong: usize,
-    pub bad: usize,
-}
-
-// 1 where a field is against its kind or one before it was.
-fn worse(wrong: usize, agree: bool) -> usize
-    ensures { λ r. ⌜ eqb r 0 ≡ (agree && eqb wrong 0) ⌝ }
-{
-    if agree {
-        return wrong;
-    }
-    1
-}
-
-// A field that the message has no bytes for.
-fn lost(msg: &[u8], t: Taken) -> Taken
-    ensures { λ r. ⌜ (r .at ≡ length (now (msg .entry)) + 1) × (r .wrong ≡ t .wrong) × (r .bad ≡ t .bad) ⌝ }
-{
-    Taken {
-        at: msg.len() + 1,
-        wrong: t.wrong,
-        bad: t.bad,
-    }
-}
-
-// One field, from the message's tail into the layout's tail.
-fn take_field(width: u8, kind: Kind, place: u8, msg: &[u8], t: Taken, layout: &mut [u8]) -> Taken
-    requires { ⌜ (place + width ≤ length (now layout)) × (length (now layout) ≡ 154) ⌝ }
-    ensures { λ r. ⌜ taking r (now (layout .exit)) ≡ takeField (now (msg .entry)) width kind place (taking t (now (layout .entry))) ⌝ }
+// The field reader: one field, which is the front of the tail of the message that is handed on, into its place of the layout. How many bytes it
+// took: none where the tail is too short.
+fn store_field(width: u8, place: u8, tail: &[u8], layout: &mut [u8]) -> usize
+    requires { ⌜ (place + width ≤ length (now layout)) × (place + width ≤ layoutSize) ⌝ }
+    ensures { λ r. ⌜ (r ≡ pick (leb width (length (now (tail .entry)))) width 0) × (now (layout .exit) ≡ pick (leb width (length (now (tail .entry)))) (patched (now (layout .entry)) place (take width (now (tail .entry)))) (now (layout .entry))) ⌝ }
 {
     let w = width as usize;
     let p = place as usize;
-    let at = t.at;
-    if msg.len() < w {
-        return lost(msg, t);
+    if tail.len() < w {
+        return 0;
     }
-    if msg.len() - w < at {
-        return lost(msg, t);
-    }
-    let end = at + w;
-    let field = &msg[at..end];
-    fields::move_field(field, &mut layout[p..]);
-    let wrong = worse(t.wrong, kinds::agrees(kind, field));
-    Taken {
-        at: end,
-        wrong: wrong,
-        bad: t.bad,
-    }
+    fields::move_field(&tail[0..w], &mut layout[p..]);
+    w
 }
 
 // One bit, the lowest of x: its field if it is set.
-fn take_bit(message: u8, byte: u8, bit: u8, x: u8, msg: &[u8], t: Taken, layout: &mut [u8]) -> Taken
-    requires { ⌜ length (now layout) ≡ 154 ⌝ }
-    ensures { λ r. ⌜ taking r (now (layout .exit)) ≡ pick (eqb (x % 2) 1) (takeEntry (now (msg .entry)) (entryOf message byte bit) (taking t (now (layout .entry)))) (taking t (now (layout .entry))) ⌝ }
+fn store_bit(
+    message: u8,
+    byte: u8,
+    bit: u8,
+    x: u8,
+    msg: &[u8],
+    at: usize,
+    layout: &mut [u8],
+) -> usize
+    requires { ⌜ (length (now layout) ≡ layoutSize) × (at ≤ length (now msg)) ⌝ }
+    ensures { λ r. ⌜ (storing r (now (layout .exit)) ≡ pick (eqb (x % 2) 1) (storeEntry (now (msg .entry)) (entryOf message byte bit) (storing at (now (layout .entry)))) (storing at (now (layout .entry)))) × (r ≤ length (now (msg .entry))) ⌝ }
 {
     if x % 2 == 1 {
         let e = dictionary::entry_of(message, byte, bit);
         match e {
-            Entry::Refused => Taken {
-                at: t.at,
-                wrong: t.wrong,
-                bad: 1,
-            },
-            Entry::Field { width, kind, place } => take_field(width, kind, place, msg, t, layout),
+            Entry::Refused => at,
+            Entry::Field {
+                width,
+                kind: _,
+                place,
+            } => at + store_field(width, place, &msg[at..], layout),
         }
     } else {
-        t
+        at
     }
 }
 
-// The fields of bitfield byte j, counted from 0, which is `value`; its places end at `end`. Where message and byte are literals the compiler
-// unrolls the loop and folds the dictionary away.
-fn take_bits(
+// The fields of a bitfield byte, which is `value`; its places end at `end`, so that literals tell the loop's length.
+fn store_bits(
     message: u8,
-    bits: &[u8],
-    count: u8,
-    j: u8,
+    byte: u8,
     end: u8,
     value: u8,
     msg: &[u8],
-    t: Taken,
+    start: usize,
     layout: &mut [u8],
-) -> Taken
-    requires { ⌜ (length (now layout) ≡ 154) × (j < count) × (count ≤ 15) × (value ≡ getD (now bits) j 0) × (end ≡ 8 * j + 8) ⌝ }
-    ensures { λ r. ⌜ taking r (now (layout .exit)) ≡ takeWalk message count (now (bits .entry)) (now (msg .entry)) 8 (8 * j) (taking t (now (layout .entry))) ⌝ }
+) -> usize
+    requires { ⌜ (length (now layout) ≡ layoutSize) × (byte ≤ 15) × (end ≡ 8 * byte) × (start ≤ length (now msg)) ⌝ }
+    ensures { λ r. ⌜ (storing r (now (layout .exit)) ≡ inByte (storeEntry (now (msg .entry))) message byte value (storing start (now (layout .entry)))) × (r ≤ length (now (msg .entry))) ⌝ }
 {
-    let n = end - 8 * j;
+    let n = end + 8 - 8 * byte;
     let mut x = value;
     let mut bit: u8 = 0;
-    let mut r = t;
+    let mut at = start;
     while bit < n {
-        r = take_bit(message, j + 1, bit, x, msg, r, layout);
+        at = store_bit(message, byte, bit, x, msg, at, layout);
         x = x / 2;
         bit += 1;
     }
-    r
+    at
 }
 
-// The same for New Order, whose bytes 1, 2, 3, 6 and 10 have listed bits.
-fn take_new_order(
-    bits: &[u8],
-    count: u8,
-    j: u8,
-    value: u8,
-    msg: &[u8],
-    t: Taken,
-    layout: &mut [u8],
-) -> Taken
-    requires { ⌜ (length (now layout) ≡ 154) × (j < count) × (count ≤ 15) × (value ≡ getD (now bits) j 0) ⌝ }
-    ensures { λ r. ⌜ taking r (now (layout .exit)) ≡ takeWalk 0x38 count (now (bits .entry)) (now (msg .entry)) 8 (8 * j) (taking t (now (layout .entry))) ⌝ }
+// The same of any byte: its places follow from it.
+fn store_any(message: u8, byte: u8, value: u8, msg: &[u8], start: usize, layout: &mut [u8]) -> usize
+    requires { ⌜ (length (now layout) ≡ layoutSize) × (byte ≤ 15) × (start ≤ length (now msg)) ⌝ }
+    ensures { λ r. ⌜ (storing r (now (layout .exit)) ≡ inByte (storeEntry (now (msg .entry))) message byte value (storing start (now (layout .entry)))) × (r ≤ length (now (msg .entry))) ⌝ }
 {
-    match j {
-        0 => take_bits(0x38, bits, count, 0, 8, value, msg, t, layout),
-        1 => take_bits(0x38, bits, count, 1, 16, value, msg, t, layout),
-        2 => take_bits(0x38, bits, count, 2, 24, value, msg, t, layout),
-        5 => take_bits(0x38, bits, count, 5, 48, value, msg, t, layout),
-        9 => take_bits(0x38, bits, count, 9, 80, value, msg, t, layout),
-        _ => take_bits(0x38, bits, count, j, 8 * j + 8, value, msg, t, layout),
+    store_bits(message, byte, 8 * byte, value, msg, start, layout)
+}
+
+// The same, with an arm for each byte that a message lists: there the compiler knows message and byte, unrolls the loop and folds the dictionary
+// away. Cancel Order, with its one byte, stands last: of three messages the compiler makes a loop over the bytes for each.
+fn store_byte(message: u8, byte: u8, value: u8, msg: &[u8], at: usize, layout: &mut [u8]) -> usize
+    requires { ⌜ (length (now layout) ≡ layoutSize) × (byte ≤ 15) × (at ≤ length (now msg)) ⌝ }
+    ensures { λ r. ⌜ (storing r (now (layout .exit)) ≡ inByte (storeEntry (now (msg .entry))) message byte value (storing at (now (layout .entry)))) × (r ≤ length (now (msg .entry))) ⌝ }
+{
+    match message {
+        0x38 => match byte {
+            1 => store_bits(message, byte, 8, value, msg, at, layout),
+            2 => store_bits(message, byte, 16, value, msg, at, layout),
+            3 => store_bits(message, byte, 24, value, msg, at, layout),
+            6 => store_bits(message, byte, 48, value, msg, at, layout),
+            10 => store_bits(message, byte, 80, value, msg, at, layout),
+            _ => store_any(message, byte, value, msg, at, layout),
+        },
+        0x25 => match byte {
+            1 => store_bits(message, byte, 8, value, msg, at, layout),
+            2 => store_bits(message, byte, 16, value, msg, at, layout),
+            3 => store_bits(message, byte, 24, value, msg, at, layout),
+            5 => store_bits(message, byte, 40, value, msg, at, layout),
+            _ => store_any(message, byte, value, msg, at, layout),
+        },
+        0x2C => match byte {
+            1 => store_bits(message, byte, 8, value, msg, at, layout),
+            2 => store_bits(message, byte, 16, value, msg, at, layout),
+            3 => store_bits(message, byte, 24, value, msg, at, layout),
+            _ => store_any(message, byte, value, msg, at, layout),
+        },
+        _ => match byte {
+            1 => match message {
+                0x39 => store_bits(message, byte, 8, value, msg, at, layout),
+                _ => store_any(message, byte, value, msg, at, layout),
+            },
+            _ => store_any(message, byte, value, msg, at, layout),
+        },
     }
 }
 
-// The same for Order Acknowledgment: bytes 1, 2, 3 and 5.
-fn take_acknowledgment(
-    bits: &[u8],
-    count: u8,
-    j: u8,
-    value: u8,
-    msg: &[u8],
-    t: Taken,
-    layout: &mut [u8],
-) -> Taken
-    requires { ⌜ (length (now layout) ≡ 154) × (j < count) × (count ≤ 15) × (value ≡ getD (now bits) j 0) ⌝ }
-    ensures { λ r. ⌜ taking r (now (layout .exit)) ≡ takeWalk 0x25 count (now (bits .entry)) (now (msg .entry)) 8 (8 * j) (taking t (now (layout .entry))) ⌝ }
-{
-    match j {
-        0 => take_bits(0x25, bits, count, 0, 8, value, msg, t, layout),
-        1 => take_bits(0x25, bits, count, 1, 16, value, msg, t, layout),
-        2 => take_bits(0x25, bits, count, 2, 24, value, msg, t, layout),
-        4 => take_bits(0x25, bits, count, 4, 40, value, msg, t, layout),
-        _ => take_bits(0x25, bits, count, j, 8 * j + 8, value, msg, t, layout),
-    }
-}
-
-// The same for Order Execution: bytes 1, 2 and 3.
-fn take_execution(
-    bits: &[u8],
-    count: u8,
-    j: u8,
-    value: u8,
-    msg: &[u8],
-    t: Taken,
-    layout: &mut [u8],
-) -> Taken
-    requires { ⌜ (length (now layout) ≡ 154) × (j < count) × (count ≤ 15) × (value ≡ getD (now bits) j 0) ⌝ }
-    ensures { λ r. ⌜ taking r (now (layout .exit)) ≡ takeWalk 0x2C count (now (bits .entry)) (now (msg .entry)) 8 (8 * j) (taking t (now (layout .entry))) ⌝ }
-{
-    match j {
-        0 => take_bits(0x2C, bits, count, 0, 8, value, msg, t, layout),
-        1 => take_bits(0x2C, bits, count, 1, 16, value, msg, t, layout),
-        2 => take_bits(0x2C, bits, count, 2, 24, value, msg, t, layout),
-        _ => take_bits(0x2C, bits, count, j, 8 * j + 8, value, msg, t, layout),
-    }
-}
-
-// The fields of bitfield byte j of any message.
-fn take_byte(
-    message: u8,
-    bits: &[u8],
-    count: u8,
-    j: u8,
-    value: u8,
-    msg: &[u8],
-    t: Taken,
-    layout: &mut [u8],
-) -> Taken
-    requires { ⌜ (length (now layout) ≡ 154) × (j < count) × (count ≤ 15) × (value ≡ getD (now bits) j 0) ⌝ }
-    ensures { λ r. ⌜ taking r (now (layout .exit)) ≡ takeWalk message count (now (bits .entry)) (now (msg .entry)) 8 (8 * j) (taking t (now (layout .entry))) ⌝ }
+// A byte that is zero selects nothing.
+fn store_next(message: u8, byte: u8, value: u8, msg: &[u8], at: usize, layout: &mut [u8]) -> usize
+    requires { ⌜ (length (now layout) ≡ layoutSize) × (byte ≤ 15) × (at ≤ length (now msg)) ⌝ }
+    ensures { λ r. ⌜ (storing r (now (layout .exit)) ≡ inByte (storeEntry (now (msg .entry))) message byte value (storing at (now (layout .entry)))) × (r ≤ length (now (msg .entry))) ⌝ }
 {
     if value == 0 {
-        return t;
+        return at;
     }
-    match message {
-        0x38 => take_new_order(bits, count, j, value, msg, t, layout),
-        0x25 => take_acknowledgment(bits, count, j, value, msg, t, layout),
-        0x2C => take_execution(bits, count, j, value, msg, t, layout),
-        _ => take_bits(message, bits, count, j, 8 * j + 8, value, msg, t, layout),
-    }
+    store_byte(message, byte, value, msg, at, layout)
 }
 
-// All fields that the first `count` bitfield bytes select, into a layout.
-pub fn take_all(message: u8, bits: &[u8], count: u8, msg: &[u8], layout: &mut [u8]) -> Taken
-    requires { ⌜ (length (now layout) ≡ 154) × (count ≤ 15) × (length (now bits) ≡ count) ⌝ }
-    ensures { λ r. ⌜ taking r (now (layout .exit)) ≡ takeWalk message count (now (bits .entry)) (now (msg .entry)) 120 0 (start (now (layout .entry))) ⌝ }
+// All fields that the bitfield bytes select, into a layout: how far the message is stored.
+pub fn store_all(message: u8, bits: &[u8], count: u8, msg: &[u8], layout: &mut [u8]) -> usize
+    requires { ⌜ (length (now layout) ≡ layoutSize) × (length (now bits) ≡ count) × (count ≤ 15) ⌝ }
+    ensures { λ r. ⌜ storing r (now (layout .exit)) ≡ storeWalk message count (now (bits .entry)) (now (msg .entry)) allPlaces 0 (storing 0 (now (layout .entry))) ⌝ }
 {
     let mut j: u8 = 0;
-    let mut r = Taken {
-        at: 0,
-        wrong: 0,
-        bad: 0,
-    };
+    let mut at: usize = 0;
     while j < count {
         let value = bits[j as usize];
-        r = take_byte(message, bits, count, j, value, msg, r, layout);
         j += 1;
+        at = store_next(message, j, value, msg, at, layout);
     }
-    r
+    at
 }

@@ -294,7 +294,7 @@ fn step(line: &[u8], bytes: &mut [u8]) -> bool {
 
 // The answer to `step` of a table's bytes.
 fn stepped(entries: &mut [u8], unit: u8, number: u32) {
-    let refusal = gateway::boe_table_step(entries, unit, number);
+    let refusal = gateway::boe_table_step(unit, number, entries);
     refused(refusal, entries);
 }
 

@@ -10,6 +10,7 @@ use mathlib.Core.Path.{_≡_, sym, ap, _∙_}
 use borrow.Author.Needs.{needs}
 use Rattle.fields.proofs.copy_layout.Statement.{statement}
 use Rattle.fields.proofs.copy_layout.Tie as tie
+use Rattle.fields.specs.Sizes.{layoutSize}
 
 sub-copy : tie.Need-sub-copy
 sub-copy c = search needs
@@ -56,7 +57,7 @@ returns c =
     let d : length (drop 128 s) ≡ length s - 128 = length-drop 128 s in
     let n = length-take-le 26 (drop 128 s) (omega (arith, d, start .pre .0)) in
     puts-then (now (a .to)) _ (take 128 s) (take 26 (drop 128 s)) 128 (length-take-le 128 s (omega (arith, start .pre .0))) (omega (arith, n, start .pre .1)) (first .copy .ensures) (c .before .before .copy2 .ensures)
-    ∙ ap (patched (now (a .to)) 0) (sym (take-add 128 26 s) ∙ take-all 154 s (omega (arith, start .pre .0)))
+    ∙ ap (patched (now (a .to)) 0) (sym (take-add 128 26 s) ∙ take-all layoutSize s (omega (arith, start .pre .0)))
 
 pub copy-layout-spec : {M : Type 1} → statement M
 copy-layout-spec =

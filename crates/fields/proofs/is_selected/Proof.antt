@@ -8,8 +8,8 @@ use Rattle.fields.proofs.is_selected.Tie as tie
 cast-x : tie.Need-cast-x
 cast-x c = search needs
 
-element-copy-out-x : tie.Need-element-copy-out-x
-element-copy-out-x c = search needs
+shared-slice-read-x : tie.Need-shared-slice-read-x
+shared-slice-read-x c = search needs
 
 shr-result : tie.Need-shr-result
 shr-result c = search needs
@@ -23,4 +23,4 @@ unfolding selectedAt
 returns-2 c = rw (le-ltb _ _ (c .if1 .left))
 
 pub is-selected-spec : {M : Type 1} → statement M
-is-selected-spec = tie.close (tie.spec cast-x element-copy-out-x shr-result returns returns-2)
+is-selected-spec = tie.close (tie.spec cast-x shared-slice-read-x shr-result returns returns-2)

@@ -5,9 +5,9 @@ use native.Mathlib.Omega.{arith}
 use borrow.Author.Tests.{eq-eqb, ne-eqb}
 use denote.Ref.{now}
 use Rattle.fields.specs.Dictionaries.{field-fits}
+use Rattle.fields.specs.Loops.{bit-set, bit-unset}
 use Rattle.fields.specs.Walk.{lookEntry}
 use Rattle.gather.specs.State.{looking}
-use Rattle.gather.proofs.One.{set-is, unset-is}
 use borrow.Author.Needs.{needs}
 use Rattle.gather.proofs.look_bit.Statement.{statement}
 use Rattle.gather.proofs.look_bit.Tie as tie
@@ -33,7 +33,7 @@ unfolding lookEntry
 returns c =
     let looked = c .before .before in
     let a = looked .before .before .before .args in (
-      set-is lookEntry _ _ (looking (a .s) (now (a .rest))) (eq-eqb _ _ (looked .before .if1 .taken)) (sym (c .enum-told .given .1) ∙ looked .entry-of .ensures) refl,
+      bit-set lookEntry _ _ (looking (a .s) (now (a .rest))) (eq-eqb _ _ (looked .before .if1 .taken)) (sym (c .enum-told .given .1) ∙ looked .entry-of .ensures) refl,
       omega arith,
     )
 
@@ -47,14 +47,14 @@ returns-2 c =
     let looked = known .before .before in
     let a = looked .before .before .before .args in
     let field = given .look-field .ensures in (
-      set-is lookEntry _ _ (looking (a .s) (now (a .rest))) (eq-eqb _ _ (looked .before .if1 .taken)) (sym (known .e .given .1) ∙ looked .entry-of .ensures) (field .0),
+      bit-set lookEntry _ _ (looking (a .s) (now (a .rest))) (eq-eqb _ _ (looked .before .if1 .taken)) (sym (known .e .given .1) ∙ looked .entry-of .ensures) (field .0),
       field .1,
     )
 
 returns-3 : tie.Need-returns-3
 returns-3 c =
     let a = c .before .before .args in
-    (unset-is lookEntry _ _ (looking (a .s) (now (a .rest))) (ne-eqb _ _ (c .if1 .left)), omega arith)
+    (bit-unset lookEntry _ _ (looking (a .s) (now (a .rest))) (ne-eqb _ _ (c .if1 .left)), omega arith)
 
 pub look-bit-spec : {M : Type 1} → statement M
 look-bit-spec =

@@ -1,10 +1,12 @@
 -- `judge::judge_bit` meets its contract: a bit that is not set changes nothing, and for one that is set the dictionary's entry is known in each
 -- arm. Assumes nothing.
-use Rattle.judge.proofs.One.{refused-is, listed-is, unset-is}
+use Rattle.fields.specs.Loops.{bit-set, bit-unset}
+use Rattle.fields.specs.Walk.{judgeEntry}
 use Rattle.judge.specs.State.{judging}
 use denote.Ref.{now}
+use native.Mathlib.Omega.{arith}
 use borrow.Author.Tests.{eq-eqb, ne-eqb}
-use mathlib.Core.Path.{sym, _∙_}
+use mathlib.Core.Path.{refl, sym, _∙_}
 use borrow.Author.Needs.{needs}
 use Rattle.judge.proofs.judge_bit.Statement.{statement}
 use Rattle.judge.proofs.judge_bit.Tie as tie
@@ -22,23 +24,24 @@ judge-field-requires : tie.Need-judge-field-requires
 judge-field-requires c κs = search needs
 
 returns : tie.Need-returns
+unfolding judgeEntry
 returns c =
-    let start = c .before .before .before .before .before in
-    let a = start .args in
-    refused-is (now (a .msg)) _ _ (judging (a .t)) (eq-eqb _ _ (c .before .before .before .if1 .taken)) (sym (c .enum-told .given .1) ∙ c .before .before .entry-of .ensures)
+    let looked = c .before .before in
+    let a = looked .before .before .before .args in
+    (bit-set (judgeEntry (now (a .msg))) _ _ (judging (a .t)) (eq-eqb _ _ (looked .before .if1 .taken)) (sym (c .enum-told .given .1) ∙ looked .entry-of .ensures) refl, omega arith)
 
 returns-2 : tie.Need-returns-2
+unfolding judgeEntry
 returns-2 c =
-    let taken = c in
-    let known = taken .before .before in
+    let known = c .before .before in
     let looked = known .before .before in
-    let a = looked .before .before .before .args in
-    listed-is (now (a .msg)) _ _ (judging (a .t)) (eq-eqb _ _ (looked .before .if1 .taken)) (sym (known .e .given .1) ∙ looked .entry-of .ensures) (taken .judge-field .ensures)
+    let a = looked .before .before .before .args in (
+      bit-set (judgeEntry (now (a .msg))) _ _ (judging (a .t)) (eq-eqb _ _ (looked .before .if1 .taken)) (sym (known .e .given .1) ∙ looked .entry-of .ensures) (c .judge-field .ensures .0),
+      c .judge-field .ensures .1,
+    )
 
 returns-3 : tie.Need-returns-3
-returns-3 c =
-    let a = c .before .before .args in
-    unset-is (now (a .msg)) _ _ (judging (a .t)) (ne-eqb _ _ (c .if1 .left))
+returns-3 c = let a = c .before .before .args in (bit-unset (judgeEntry (now (a .msg))) _ _ (judging (a .t)) (ne-eqb _ _ (c .if1 .left)), omega arith)
 
 pub judge-bit-spec : {M : Type 1} → statement M
 judge-bit-spec =

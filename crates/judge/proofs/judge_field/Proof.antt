@@ -1,6 +1,6 @@
--- `judge::judge_field` meets its contract. Where the message has no bytes for the field, it is what `lost` ensures; else it is the part of the
--- message that `agrees` is asked of. Assumes nothing.
-use Rattle.judge.proofs.One.{lost-is, judged-is}
+-- `judge::judge_field` meets its contract: the part of the message that `agrees` is asked of is the field, where it is there. Assumes nothing.
+use Rattle.judge.proofs.One.{past-end, there}
+use Rattle.judge.specs.State.{judging}
 use denote.Ref.{now}
 use lib.Dec.{eqb}
 use native.Mathlib.Omega.{arith}
@@ -10,27 +10,11 @@ use borrow.Author.Needs.{needs}
 use Rattle.judge.proofs.judge_field.Statement.{statement}
 use Rattle.judge.proofs.judge_field.Tie as tie
 
-lost-requires : tie.Need-lost-requires
-lost-requires c κs = search needs
-
-returns : tie.Need-returns
-returns c =
-    let a = c .before .before .before .args in
-    lost-is (now (a .msg)) (a .width) (a .kind) (a .t) (c .lost .result) (omega arith) (c .lost .ensures)
-
-sub-if2 : tie.Need-sub-if2
-sub-if2 c = search needs
-
-lost-requires-2 : tie.Need-lost-requires-2
-lost-requires-2 c κs = search needs
-
-returns-2 : tie.Need-returns-2
-returns-2 c =
-    let a = c .before .before .before .before .args in
-    lost-is (now (a .msg)) (a .width) (a .kind) (a .t) (c .lost2 .result) (omega arith) (c .lost2 .ensures)
-
 add-end : tie.Need-add-end
 add-end c = search needs
+
+returns : tie.Need-returns
+returns c = let a = c .before .before .args in (past-end (now (a .msg)) (a .width) (a .kind) (judging (a .t)) (c .if1 .taken), omega arith)
 
 sub-agrees : tie.Need-sub-agrees
 sub-agrees c = search needs
@@ -47,25 +31,23 @@ agrees-requires c κs = search needs
 worse-requires : tie.Need-worse-requires
 worse-requires c κs = search needs
 
-returns-3 : tie.Need-returns-3
-returns-3 c =
-    let a = c .before .before .before .before .before .before .args in
-    judged-is (now (a .msg)) (a .width) (a .kind) (a .t) (omega arith)
-    (c .worse .ensures ∙ ap (λ (b : Bool). b && eqb (a .t .wrong) 0) (c .before .agrees .ensures))
+returns-2 : tie.Need-returns-2
+returns-2 c =
+    let a = c .before .before .before .before .before .args in (
+      there (now (a .msg)) (a .width) (a .kind) (judging (a .t)) (omega arith)
+          (c .worse .ensures ∙ ap (λ (b : Bool). b && eqb (a .t .wrong) 0) (c .before .agrees .ensures)),
+      omega arith,
+    )
 
 pub judge-field-spec : {M : Type 1} → statement M
 judge-field-spec =
     tie.close
     (tie.spec
-    lost-requires
-    returns
-    sub-if2
-    lost-requires-2
-    returns-2
     add-end
+    returns
     sub-agrees
     part-agrees-start
     part-agrees-end
     agrees-requires
     worse-requires
-    returns-3)
+    returns-2)

@@ -6,11 +6,12 @@ use native.Mathlib.Omega.{arith}
 use borrow.Author.Needs.{needs}
 use Rattle.named.proofs.with_part.Statement.{statement}
 use Rattle.named.proofs.with_part.Tie as tie
+use Rattle.fields.specs.Sizes.{fixedSize}
 
 slice-aggregate-put-at : tie.Need-slice-aggregate-put-at
 slice-aggregate-put-at c = search needs
 
-fixed-length : (c : tie.Start) → length (c .args .r .fixed) ≡ 59
+fixed-length : (c : tie.Start) → length (c .args .r .fixed) ≡ fixedSize
 fixed-length c = search needs
 
 put-at-requires : tie.Need-put-at-requires

@@ -6,11 +6,12 @@ use native.Mathlib.Omega.{arith}
 use borrow.Author.Needs.{needs}
 use Rattle.named.proofs.with_slot.Statement.{statement}
 use Rattle.named.proofs.with_slot.Tie as tie
+use Rattle.fields.specs.Sizes.{layoutSize}
 
 slice-aggregate-put-at : tie.Need-slice-aggregate-put-at
 slice-aggregate-put-at c = search needs
 
-slots-length : (c : tie.Start) → length (c .args .r .slots) ≡ 154
+slots-length : (c : tie.Start) → length (c .args .r .slots) ≡ layoutSize
 slots-length c = search needs
 
 put-at-requires : tie.Need-put-at-requires

@@ -1,5 +1,5 @@
 use Rattle.order_reader.proofs.Judging.{judged-is}
-use Rattle.judge.specs.Seen.{judged-all}
+use Rattle.judge.specs.Made.{judged-all}
 use denote.Ref.{now}
 use borrow.Author.Needs.{needs}
 use Rattle.order_reader.proofs.block_refusal.Statement.{statement}
@@ -23,7 +23,7 @@ returns c =
     let all = c .before .judge-all in
     let a = c .before .before .before .before .before .args in
     let k = judged-all (a .message) (a .count) (now (a .bits)) (now (a .optional)) (all .result) (all .ensures) in
-    judged-is (a .message) (a .count) (now (a .bits)) (now (a .fixed)) (now (a .optional)) (all .result) _ k (c .judged .ensures)
+    judged-is (a .message) (a .count) (now (a .bits)) (now (a .fixed)) (now (a .optional)) (all .result) k (c .judged .ensures)
 
 pub block-refusal-spec : {M : Type 1} → statement M
 block-refusal-spec = tie.close (tie.spec judge-all-requires judged-requires returns)

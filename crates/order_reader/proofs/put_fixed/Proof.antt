@@ -13,6 +13,7 @@ use Rattle.order_reader.proofs.put_fixed.Tie as tie
 use Rattle.order_reader.proofs.put_fixed.Reads as reads
 use Rattle.order_reader.proofs.put_fixed.Lts as lts
 use Rattle.order_reader.proofs.put_up_to.Reads as put-up-to-reads
+use Rattle.fields.specs.Sizes.{fixedEnd}
 
 -- src/lib.rt:164:17
 put-up-to-requires : tie.Need-put-up-to-requires
@@ -39,7 +40,7 @@ returns : tie.Need-returns
 returns c =
     let arm = c .before .before .before .before in
     let a = arm .before .before .before .args in
-    c .before .before .put-up-to .ensures ∙ ap (λ (n : ℕ). patched (now (a .tail)) 0 (take (n - 10) (drop 10 (now (a .m))) ++ zeros (69 - n))) (sym (in-new-order _ (arm .match .keys1)))
+    c .before .before .put-up-to .ensures ∙ ap (λ (n : ℕ). patched (now (a .tail)) 0 (take (n - 10) (drop 10 (now (a .m))) ++ zeros (fixedEnd - n))) (sym (in-new-order _ (arm .match .keys1)))
 
 -- src/lib.rt:159:1
 same-length-2 : tie.Need-same-length-2
@@ -50,7 +51,7 @@ returns-2 : tie.Need-returns-2
 returns-2 c =
     let arm = c .before .before .before .before in
     let a = arm .before .before .before .args in
-    c .before .before .put-up-to2 .ensures ∙ ap (λ (n : ℕ). patched (now (a .tail)) 0 (take (n - 10) (drop 10 (now (a .m))) ++ zeros (69 - n))) (sym (in-cancel-order _ (arm .match .keys2)))
+    c .before .before .put-up-to2 .ensures ∙ ap (λ (n : ℕ). patched (now (a .tail)) 0 (take (n - 10) (drop 10 (now (a .m))) ++ zeros (fixedEnd - n))) (sym (in-cancel-order _ (arm .match .keys2)))
 
 -- src/lib.rt:159:1
 same-length-3 : tie.Need-same-length-3
@@ -61,7 +62,7 @@ returns-3 : tie.Need-returns-3
 returns-3 c =
     let arm = c .before .before .before .before in
     let a = arm .before .before .before .args in
-    c .before .before .put-up-to3 .ensures ∙ ap (λ (n : ℕ). patched (now (a .tail)) 0 (take (n - 10) (drop 10 (now (a .m))) ++ zeros (69 - n))) (sym (in-acknowledgment _ (arm .match .keys3)))
+    c .before .before .put-up-to3 .ensures ∙ ap (λ (n : ℕ). patched (now (a .tail)) 0 (take (n - 10) (drop 10 (now (a .m))) ++ zeros (fixedEnd - n))) (sym (in-acknowledgment _ (arm .match .keys3)))
 
 -- src/lib.rt:159:1
 same-length-4 : tie.Need-same-length-4
@@ -72,7 +73,7 @@ returns-4 : tie.Need-returns-4
 returns-4 c =
     let arm = c .before .before .before .before in
     let a = arm .before .before .before .args in
-    c .before .before .put-up-to4 .ensures ∙ ap (λ (n : ℕ). patched (now (a .tail)) 0 (take (n - 10) (drop 10 (now (a .m))) ++ zeros (69 - n))) (sym (in-others _ (arm .match .rest .0 .0 .1) (arm .match .rest .0 .1) (arm .match .rest .1)))
+    c .before .before .put-up-to4 .ensures ∙ ap (λ (n : ℕ). patched (now (a .tail)) 0 (take (n - 10) (drop 10 (now (a .m))) ++ zeros (fixedEnd - n))) (sym (in-others _ (arm .match .rest .0 .0 .1) (arm .match .rest .0 .1) (arm .match .rest .1)))
 
 pub put-fixed-spec : {M : Type 1} → statement M
 put-fixed-spec =

@@ -14,6 +14,7 @@ use Rattle.order_reader.proofs.put_up_to.Reads as reads
 use Rattle.order_reader.proofs.put_up_to.Lts as lts
 use Rattle.fields.proofs.clear.Reads as clear-reads
 use Rattle.fields.proofs.move_field.Reads as move-field-reads
+use Rattle.fields.specs.Sizes.{fixedEnd}
 
 -- src/lib.rt:153:13
 sub-n : tie.Need-sub-n
@@ -66,7 +67,7 @@ returns c =
     let a = start .args in
     let d : length (drop 10 (now (a .m))) ≡ length (now (a .m)) - 10 = length-drop 10 (now (a .m)) in
     let n : length (take (a .at - 10) (drop 10 (now (a .m)))) ≡ a .at - 10 = length-take-le (a .at - 10) (drop 10 (now (a .m))) (omega (arith, d, start .pre .0)) in
-    puts-then (now (a .tail)) _ (take (a .at - 10) (drop 10 (now (a .m)))) (zeros (69 - a .at)) (a .at - 10) n (omega (arith, length-zeros (69 - a .at), start .pre .1, start .pre .2, start .pre .3)) (c .before .before .before .before .before .before .move-field .ensures) (c .before .before .clear .ensures)
+    puts-then (now (a .tail)) _ (take (a .at - 10) (drop 10 (now (a .m)))) (zeros (fixedEnd - a .at)) (a .at - 10) n (omega (arith, length-zeros (fixedEnd - a .at), start .pre .1, start .pre .2, start .pre .3)) (c .before .before .before .before .before .before .move-field .ensures) (c .before .before .clear .ensures)
 
 pub put-up-to-spec : {M : Type 1} → statement M
 put-up-to-spec =

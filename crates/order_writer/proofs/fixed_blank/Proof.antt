@@ -11,6 +11,7 @@ use mathlib.Core.Path.{_≡_, sym, ap, _∙_}
 use borrow.Author.Needs.{needs}
 use Rattle.order_writer.proofs.fixed_blank.Statement.{statement}
 use Rattle.order_writer.proofs.fixed_blank.Tie as tie
+use Rattle.fields.specs.Sizes.{fixedSize}
 
 -- all that stands from a place on, where the part's length is a literal
 rest-from : (a n : ℕ) (s : List ℕ) → length s ≡ a + n → take n (drop a s) ≡ drop a s
@@ -77,7 +78,7 @@ returns-4 : tie.Need-returns-4
 returns-4 c =
     let start = c .before .before in
     let s = now (start .args .fixed) in
-    sym (ap (λ (n : ℕ). allNul (drop (n - 10) s)) (in-others _ (c .match .rest .0 .0 .1) (c .match .rest .0 .1) (c .match .rest .1)) ∙ ap allNul (drop-of-length-le s {i = 59} (omega (arith, start .pre))))
+    sym (ap (λ (n : ℕ). allNul (drop (n - 10) s)) (in-others _ (c .match .rest .0 .0 .1) (c .match .rest .0 .1) (c .match .rest .1)) ∙ ap allNul (drop-of-length-le s {i = fixedSize} (omega (arith, start .pre))))
 
 pub fixed-blank-spec : {M : Type 1} → statement M
 fixed-blank-spec =

@@ -23,7 +23,7 @@ returns c =
     let copied = c .before .before .before .before .before .before in
     let start = c .before .before .before .before .before .before .before .before .before .before .before in
     let a = start .args in
-    fields-put (a .message) (a .count) (now (a .bits)) (now (a .slots)) (now (a .tail)) _ _ _ (start .pre .1) (omega arith) (start .pre .2) (copied .copy-front .ensures) (given .give-all .ensures)
+    fields-put (a .message) (a .count) (now (a .bits)) (now (a .slots)) (now (a .tail)) _ _ _ (start .pre .1) (omega (arith, start .pre .0, start .pre .2)) (start .pre .3) (copied .copy-front .ensures) (given .give-all .ensures)
 
 pub put-fields-spec : {M : Type 1} → statement M
 put-fields-spec = tie.close (tie.spec copy-front-requires give-all-requires same-length returns)

@@ -15,7 +15,7 @@ use Rattle.order_writer.proofs.put_order.Tie as tie
 
 sub-write-header : tie.Need-sub-write-header
 sub-write-header c =
-    let start = c .before .before .before .before in
+    let start = c .before .before .before .before .before in
     omega (arith, start .pre .4, count-bounds (start .args .message) .low)
 
 cast-write-header : tie.Need-cast-write-header
@@ -26,12 +26,12 @@ write-header-requires c κs = search needs
 
 sub-put-rest : tie.Need-sub-put-rest
 sub-put-rest c =
-    let start = c .before .before .before .before .before .before .before in
+    let start = c .before .before .before .before .before .before .before .before in
     omega (arith, start .pre .4, start .pre .5, count-bounds (start .args .message) .low, c .before .before .write-header .kept .0)
 
 part-put-rest-start : tie.Need-part-put-rest-start
 part-put-rest-start c =
-    let start = c .before .before .before .before .before .before .before in
+    let start = c .before .before .before .before .before .before .before .before in
     omega (arith, start .pre .4, start .pre .5, count-bounds (start .args .message) .low, c .before .before .write-header .kept .0)
 
 part-put-rest-end : tie.Need-part-put-rest-end
@@ -39,7 +39,7 @@ part-put-rest-end c = search needs
 
 put-rest-requires : tie.Need-put-rest-requires
 put-rest-requires c κs =
-    let start = c .before .before .before .before .before .before .before .before in
+    let start = c .before .before .before .before .before .before .before .before .before in
     let a = start .args in
     let p = start .pre in
     let low = count-bounds (a .message) .low in
@@ -55,7 +55,7 @@ same-length c = search needs
 
 returns : tie.Need-returns
 returns c =
-    let start = c .before .before .before .before .before .before .before .before .before .before .before in
+    let start = c .before .before .before .before .before .before .before .before .before .before .before .before in
     let a = start .args in
     let p = start .pre in
     let low = count-bounds (a .message) .low in

@@ -20,7 +20,7 @@ unfolding seenRefusal
 returns-2 c = rw (eq-eqb _ 0 (c .before .before .if1 .left), sym (c .before .has-required .ensures) ∙ not-true _ (c .if2 .taken))
 
 fixed-good-requires : tie.Need-fixed-good-requires
-fixed-good-requires c κs = omega (arith, count-bounds (c .before .before .before .before .before .before .args .message) .high)
+fixed-good-requires c κs = omega (arith, count-bounds (c .before .before .before .before .before .before .before .args .message) .high)
 
 returns-3 : tie.Need-returns-3
 unfolding seenRefusal
@@ -35,11 +35,11 @@ unused-zero-requires c κs = search needs
 
 returns-5 : tie.Need-returns-5
 unfolding seenRefusal
-returns-5 c = rw (eq-eqb _ 0 (c .before .before .before .before .before .before .before .before .before .if1 .left), sym (c .before .before .before .before .before .before .before .before .has-required .ensures) ∙ not-false _ (c .before .before .before .before .before .before .before .if2 .left), sym (c .before .before .before .before .before .before .fixed-good .ensures) ∙ not-false _ (c .before .before .before .before .before .if3 .left), eq-eqb _ 0 (c .before .before .before .if4 .left), sym (c .before .unused-zero .ensures) ∙ not-true _ (c .if5 .taken))
+returns-5 c = rw (eq-eqb _ 0 (c .before .before .before .before .before .before .before .before .if1 .left), sym (c .before .before .before .before .before .before .before .has-required .ensures) ∙ not-false _ (c .before .before .before .before .before .before .if2 .left), sym (c .before .before .before .before .before .fixed-good .ensures) ∙ not-false _ (c .before .before .before .before .if3 .left), eq-eqb _ 0 (c .before .before .if4 .left), sym (c .before .unused-zero .ensures) ∙ not-true _ (c .if5 .taken))
 
 returns-6 : tie.Need-returns-6
 unfolding seenRefusal
-returns-6 c = rw (eq-eqb _ 0 (c .before .before .before .before .before .before .before .before .before .if1 .left), sym (c .before .before .before .before .before .before .before .before .has-required .ensures) ∙ not-false _ (c .before .before .before .before .before .before .before .if2 .left), sym (c .before .before .before .before .before .before .fixed-good .ensures) ∙ not-false _ (c .before .before .before .before .before .if3 .left), eq-eqb _ 0 (c .before .before .before .if4 .left), sym (c .before .unused-zero .ensures) ∙ not-false _ (c .if5 .left))
+returns-6 c = rw (eq-eqb _ 0 (c .before .before .before .before .before .before .before .before .if1 .left), sym (c .before .before .before .before .before .before .before .has-required .ensures) ∙ not-false _ (c .before .before .before .before .before .before .if2 .left), sym (c .before .before .before .before .before .fixed-good .ensures) ∙ not-false _ (c .before .before .before .before .if3 .left), eq-eqb _ 0 (c .before .before .if4 .left), sym (c .before .unused-zero .ensures) ∙ not-false _ (c .if5 .left))
 
 pub seen-refusal-spec : {M : Type 1} → statement M
 seen-refusal-spec =

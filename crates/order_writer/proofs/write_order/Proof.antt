@@ -2,29 +2,12 @@
 use Rattle.records.specs.RecordLaws.{record-is}
 use Rattle.orders.specs.Orders.{writeRefusal, writeBuffer}
 use Rattle.orders.specs.declared.Record.{Record}
-use Rattle.numbers.specs.NumberLaws.{patched-part}
 use denote.Ref.{now}
 use lib.ListN.{length}
-use native.Mathlib.Omega.{arith}
 use mathlib.Core.Path.{refl, ap, _∙_}
 use borrow.Author.Needs.{needs}
 use Rattle.order_writer.proofs.write_order.Statement.{statement}
 use Rattle.order_writer.proofs.write_order.Tie as tie
-
-sub-copy : tie.Need-sub-copy
-sub-copy c = search needs
-
-part-copy-start : tie.Need-part-copy-start
-part-copy-start c = search needs
-
-part-copy-end : tie.Need-part-copy-end
-part-copy-end c = search needs
-
-slice-aggregate-copy : tie.Need-slice-aggregate-copy
-slice-aggregate-copy c = search needs
-
-copy-requires : tie.Need-copy-requires
-copy-requires c κs = search needs
 
 read-u32-requires : tie.Need-read-u32-requires
 read-u32-requires c κs = search needs
@@ -56,6 +39,15 @@ part-write-parts-start-2 c = search needs
 part-write-parts-end-2 : tie.Need-part-write-parts-end-2
 part-write-parts-end-2 c = search needs
 
+sub-write-parts-3 : tie.Need-sub-write-parts-3
+sub-write-parts-3 c = search needs
+
+part-write-parts-start-3 : tie.Need-part-write-parts-start-3
+part-write-parts-start-3 c = search needs
+
+part-write-parts-end-3 : tie.Need-part-write-parts-end-3
+part-write-parts-end-3 c = search needs
+
 write-parts-requires : tie.Need-write-parts-requires
 write-parts-requires c κs = search needs
 
@@ -66,22 +58,15 @@ returns : tie.Need-returns
 returns c =
     let wrote = c .before .before in
     let number = wrote .before .before .before .before .before .before .before .before in
-    let copied = number .before .before in
-    let start = copied .before .before .before .before .before in
-    let a = start .args in
+    let a = number .before .before .before .args in
     let s = now (a .given) in
-    let e = record-is s (number .read-u32 .ensures) refl (patched-part _ s 15 66 refl (omega (arith, start .pre)) (copied .copy .ensures)) refl in
+    let e = record-is s (number .read-u32 .ensures) refl refl refl in
     (wrote .write-parts .ensures .0 ∙ ap (λ (r : Record). writeRefusal r (length (now (a .out)))) e, wrote .write-parts .ensures .1 ∙ ap (λ (r : Record). writeBuffer r (now (a .out))) e)
 
 pub write-order-spec : {M : Type 1} → statement M
 write-order-spec =
     tie.close
     (tie.spec
-    sub-copy
-    part-copy-start
-    part-copy-end
-    slice-aggregate-copy
-    copy-requires
     read-u32-requires
     shared-slice-read-write-parts
     shared-slice-read-write-parts-2
@@ -92,6 +77,9 @@ write-order-spec =
     sub-write-parts-2
     part-write-parts-start-2
     part-write-parts-end-2
+    sub-write-parts-3
+    part-write-parts-start-3
+    part-write-parts-end-3
     write-parts-requires
     same-length
     returns)

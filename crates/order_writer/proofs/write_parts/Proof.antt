@@ -21,11 +21,12 @@ use mathlib.Core.Path.{_≡_, refl, sym, ap, _∙_}
 use borrow.Author.Needs.{needs}
 use Rattle.order_writer.proofs.write_parts.Statement.{statement}
 use Rattle.order_writer.proofs.write_parts.Tie as tie
+use Rattle.fields.specs.Sizes.{allPlaces, fixedEnd, layoutSize}
 
 -- a layout copied over zeros
-whole-layout : (v z : List ℕ) → length z ≡ 154 → length v ≡ 154 → patched z 0 (take 154 v) ≡ v
+whole-layout : (v z : List ℕ) → length z ≡ layoutSize → length v ≡ layoutSize → patched z 0 (take layoutSize v) ≡ v
 whole-layout v z e l =
-    let t : take 154 v ≡ v = take-all 154 v (omega (arith, l)) in
+    let t : take layoutSize v ≡ v = take-all layoutSize v (omega (arith, l)) in
     ap (patched z 0) t ∙ patched-whole z v (e ∙ sym l)
 
 -- the record of the parts
@@ -33,27 +34,27 @@ abbrev parts : tie.Start → Record
 parts c = let a = c .args in recordFrom (a .message) (a .unit) (a .number) (now (a .fixed)) (a .count) (now (a .bits)) (now (a .slots))
 
 -- past the top
-top-zero : (c : tie.Else1) → topRefusal (c .before .before .before .before .before .args .message) (c .before .before .before .before .before .args .unit) (c .before .before .before .before .before .args .count) ≡ 0
+top-zero : (c : tie.Else1) → topRefusal (c .before .before .before .before .before .before .args .message) (c .before .before .before .before .before .before .args .unit) (c .before .before .before .before .before .before .args .count) ≡ 0
 top-zero c = sym (c .before .top-refusal .ensures) ∙ c .if1 .left
 
-few : (c : tie.Else1) → c .before .before .before .before .before .args .count ≤ 15
+few : (c : tie.Else1) → c .before .before .before .before .before .before .args .count ≤ 15
 few c =
-    let a = c .before .before .before .before .before .args in
+    let a = c .before .before .before .before .before .before .args in
     count-fits (a .message) (a .unit) (a .count) (top-zero c)
 
 abbrev past-top : tie.After-look-all → tie.Else1
 past-top c = c .before .before .before .before .before .before
 
 abbrev start-of : tie.After-look-all → tie.Start
-start-of c = past-top c .before .before .before .before .before
+start-of c = past-top c .before .before .before .before .before .before
 
 -- what was looked at is a copy of the layout
-looked-at : (c : tie.After-look-all) → looking (c .look-all .result) (c .look-all .last .1 .1 .1 .0) ≡ lookWalk (start-of c .args .message) (start-of c .args .count) (now (start-of c .args .bits)) 120 0 (unseen (now (start-of c .args .slots)))
+looked-at : (c : tie.After-look-all) → looking (c .look-all .result) (c .look-all .last .1 .1 .1 .0) ≡ lookWalk (start-of c .args .message) (start-of c .args .count) (now (start-of c .args .bits)) allPlaces 0 (unseen (now (start-of c .args .slots)))
 looked-at c =
     let start = start-of c in
     let a = start .args in
     let copied = c .before .before .before in
-    c .look-all .ensures ∙ ap (λ (l : List ℕ). lookWalk (a .message) (a .count) (now (a .bits)) 120 0 (unseen l)) (copied .copy .ensures ∙ whole-layout (now (a .slots)) _ refl (start .pre .1))
+    c .look-all .ensures ∙ ap (λ (l : List ℕ). lookWalk (a .message) (a .count) (now (a .bits)) allPlaces 0 (unseen l)) (copied .copy .ensures ∙ whole-layout (now (a .slots)) _ refl (start .pre .1))
 
 -- what was looked at, before what was seen of it was judged
 abbrev look-of : tie.After-seen-refusal → tie.After-look-all
@@ -73,7 +74,7 @@ size c =
     let start = start-of look in
     size-is (parts start) (look .look-all .result) _ (start .pre .1) (looked-at look) (c .count-at .ensures)
 
-small : (c : tie.After-count-at) → (c .count-at .result ≤ 69) × (start-of (look-of (c .before .before)) .args .count ≤ 15) × (look-of (c .before .before) .look-all .result .total ≤ 154)
+small : (c : tie.After-count-at) → (c .count-at .result ≤ fixedEnd) × (start-of (look-of (c .before .before)) .args .count ≤ 15) × (look-of (c .before .before) .look-all .result .total ≤ layoutSize)
 small c =
     let look = look-of (c .before .before) in
     let start = start-of look in
@@ -85,7 +86,7 @@ top-refusal-requires c κs = search needs
 
 returns : tie.Need-returns
 returns c =
-    let start = c .before .before .before .before .before in
+    let start = c .before .before .before .before .before .before in
     let a = start .args in
     let top = c .before .top-refusal in
     let stops = top-stops (parts start) (length (now (a .out))) (λ z. c .if1 .taken (top .ensures ∙ z)) in
@@ -114,8 +115,8 @@ look-all-requires : tie.Need-look-all-requires
 look-all-requires c κs =
     let copied = c .before .before in
     let past = copied .before .before .before in
-    let start = past .before .before .before .before .before in
-    (ap length (copied .copy .ensures ∙ whole-layout (now (start .args .slots)) _ refl (start .pre .1)) ∙ start .pre .1, few past)
+    let start = past .before .before .before .before .before .before in
+    (ap length (copied .copy .ensures ∙ whole-layout (now (start .args .slots)) _ refl (start .pre .1)) ∙ start .pre .1, omega (arith, few past, start .pre .2), few past)
 
 slice-aggregate-seen-refusal : tie.Need-slice-aggregate-seen-refusal
 slice-aggregate-seen-refusal c = search needs
@@ -123,7 +124,7 @@ slice-aggregate-seen-refusal c = search needs
 seen-refusal-requires : tie.Need-seen-refusal-requires
 seen-refusal-requires c κs =
     let look = c .before .before in
-    (start-of look .pre .0, few (past-top look))
+    (start-of look .pre .0, start-of look .pre .2, few (past-top look))
 
 returns-2 : tie.Need-returns-2
 returns-2 c =

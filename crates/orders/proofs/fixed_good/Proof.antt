@@ -6,6 +6,7 @@ use native.Mathlib.Omega.{arith}
 use borrow.Author.Tests.{ne-eqb}
 use Rattle.orders.proofs.fixed_good.Statement.{statement}
 use Rattle.orders.proofs.fixed_good.Tie as tie
+use Rattle.fields.specs.Sizes.{fixedEnd}
 
 -- where the count of each type stands
 count-38 : (message : ℕ) → message ≡ 0x38 → countAt message ≡ 35
@@ -20,7 +21,7 @@ count-25 : (message : ℕ) → message ≡ 0x25 → countAt message ≡ 47
 unfolding countAt
 count-25 message e = rw e
 
-count-other : (message : ℕ) → (message ≡ 0x38 → ⊥) → (message ≡ 0x39 → ⊥) → (message ≡ 0x25 → ⊥) → countAt message ≡ 69
+count-other : (message : ℕ) → (message ≡ 0x38 → ⊥) → (message ≡ 0x39 → ⊥) → (message ≡ 0x25 → ⊥) → countAt message ≡ fixedEnd
 unfolding countAt
 count-other message a b d = rw (ne-eqb message 0x38 a, ne-eqb message 0x39 b, ne-eqb message 0x25 d)
 

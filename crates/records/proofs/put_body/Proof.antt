@@ -7,6 +7,7 @@ use denote.Ref.{now}
 use borrow.Author.Needs.{needs}
 use Rattle.records.proofs.put_body.Statement.{statement}
 use Rattle.records.proofs.put_body.Tie as tie
+use Rattle.fields.specs.Sizes.{fixedSize}
 
 copy-requires : tie.Need-copy-requires
 copy-requires c κs = search needs
@@ -31,7 +32,7 @@ returns c =
     let start = c .before .before .before .before .before .before .before .before .before .before .before .before in
     let a = start .args in
     let n = length-append (now (a .bits)) (now (a .slots)) in
-    puts-then (now (a .tail)) _ (now (a .fixed)) (a .count ∷ (now (a .bits) ++ now (a .slots))) 59 (start .pre .0) (omega (arith, n, start .pre .1, start .pre .2, start .pre .3)) (c .before .before .before .before .before .before .copy .ensures) (c .before .before .put-block .ensures)
+    puts-then (now (a .tail)) _ (now (a .fixed)) (a .count ∷ (now (a .bits) ++ now (a .slots))) fixedSize (start .pre .0) (omega (arith, n, start .pre .1, start .pre .2, start .pre .3)) (c .before .before .before .before .before .before .copy .ensures) (c .before .before .put-block .ensures)
 
 pub put-body-spec : {M : Type 1} → statement M
 put-body-spec =

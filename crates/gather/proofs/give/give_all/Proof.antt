@@ -8,52 +8,51 @@ use denote.Ref.{now}
 use Rattle.fields.specs.Walk.{giveEntry}
 use Rattle.fields.specs.Loops.{byte-turn, bytes-end}
 use Rattle.gather.specs.State.{giving, giveWalk}
+use borrow.Author.Needs.{needs}
 use Rattle.gather.proofs.give.give_all.Statement.{statement}
 use Rattle.gather.proofs.give.give_all.Tie as tie
+use Rattle.fields.specs.Sizes.{allPlaces}
 
 abbrev Inv-loop : tie.InvT-loop
 Inv-loop message bits count layout out₀ start j₀ at₀ out j at =
     (j ≤ count)
     × (length out ≡ length out₀)
     × (at ≤ length out₀)
-    × (giveWalk message count bits layout (120 - 8 * j) (8 * j) (giving at out) ≡ giveWalk message count bits layout 120 0 (giving start out₀))
+    × (giveWalk message count bits layout (allPlaces - 8 * j) (8 * j) (giving at out) ≡ giveWalk message count bits layout allPlaces 0 (giving start out₀))
 
 abbrev μ-loop : tie.MeasureT-loop
 μ-loop message bits count layout out₀ start j₀ at₀ out j at = count - j
 
 loop-holds : tie.Need-loop-holds Inv-loop μ-loop
-loop-holds c = (omega arith, refl, c .before .before .pre .2, refl)
+loop-holds c = (omega arith, refl, c .before .before .before .pre .3, refl)
 
 cast-value : tie.Need-cast-value Inv-loop μ-loop
-cast-value c = omega arith
+cast-value c = search needs
 
-element-copy-out-value : tie.Need-element-copy-out-value Inv-loop μ-loop
-element-copy-out-value c = omega arith
-
-give-byte-requires : tie.Need-give-byte-requires Inv-loop μ-loop
-give-byte-requires c κs =
-    let in-loop = c .before .before in
-    let start = in-loop .before .before .before .before in
-    let inv = in-loop .before .loop .inv in
-    (start .pre .0, in-loop .loop-test .taken, start .pre .1, refl, omega (arith, inv .1, inv .2))
+shared-slice-read-value : tie.Need-shared-slice-read-value Inv-loop μ-loop
+shared-slice-read-value c = search needs
 
 add-j : tie.Need-add-j Inv-loop μ-loop
-add-j c = omega arith
+add-j c = search needs
+
+give-next-requires : tie.Need-give-next-requires Inv-loop μ-loop
+give-next-requires c κs = search needs
 
 loop-less : tie.Need-loop-less Inv-loop μ-loop
-loop-less c = omega arith
+loop-less c = search needs
 
 loop-again : tie.Need-loop-again Inv-loop μ-loop
 loop-again c =
-    let at-loop = c .before .before .before .before .before .before in
-    let start = at-loop .before .before .before in
+    let given = c .before .before in
+    let in-loop = given .before .before .before in
+    let at-loop = in-loop .before in
+    let start = at-loop .before .before .before .before in
     let a = start .args in
-    let inv = at-loop .loop .inv in
-    let given = c .before .before .give-byte in (
+    let inv = at-loop .loop .inv in (
       omega arith,
-      given .kept .1 .1 .1 .1 .1 .1 .0 ∙ inv .1,
-      omega (arith, given .ensures .1, inv .1),
-      byte-turn (giveEntry (now (a .layout))) (a .message) (a .count) (now (a .bits)) (at-loop .loop .j) (giving (at-loop .loop .at) (at-loop .loop .out)) _ _ (omega arith) (given .ensures .0) (inv .3),
+      given .give-next .kept .1 .1 .1 .1 .0 ∙ inv .1,
+      omega (arith, given .give-next .ensures .1, inv .1),
+      byte-turn (giveEntry (now (a .layout))) (a .message) (a .count) (now (a .bits)) (at-loop .loop .j) _ (giving (at-loop .loop .at) (at-loop .loop .out)) _ _ (in-loop .loop-test .taken) (start .pre .2) refl (given .give-next .ensures .0) (inv .3),
     )
 
 same-length : tie.Need-same-length Inv-loop μ-loop
@@ -62,7 +61,7 @@ same-length c = c .before .loop .inv .1
 returns : tie.Need-returns Inv-loop μ-loop
 returns c =
     let at-loop = c .before in
-    let a = at-loop .before .before .before .args in
+    let a = at-loop .before .before .before .before .args in
     bytes-end (giveEntry (now (a .layout))) (a .message) (a .count) (now (a .bits)) (at-loop .loop .j) (giving (at-loop .loop .at) (at-loop .loop .out)) _ (c .loop-test .left) (at-loop .loop .inv .3)
 
 pub give-all-spec : {M : Type 1} → statement M
@@ -73,9 +72,9 @@ give-all-spec =
     μ-loop
     loop-holds
     cast-value
-    element-copy-out-value
-    give-byte-requires
+    shared-slice-read-value
     add-j
+    give-next-requires
     loop-less
     loop-again
     same-length

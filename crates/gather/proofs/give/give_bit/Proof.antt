@@ -6,9 +6,9 @@ use borrow.Author.Tests.{eq-eqb, ne-eqb}
 use borrow.Author.Needs.{needs}
 use denote.Ref.{now}
 use Rattle.fields.specs.Dictionaries.{field-fits}
+use Rattle.fields.specs.Loops.{bit-set, bit-unset}
 use Rattle.fields.specs.Walk.{giveEntry}
 use Rattle.gather.specs.State.{giving}
-use Rattle.gather.proofs.One.{set-is, unset-is}
 use Rattle.gather.proofs.give.give_bit.Statement.{statement}
 use Rattle.gather.proofs.give.give_bit.Tie as tie
 
@@ -33,7 +33,7 @@ unfolding giveEntry
 returns c =
     let looked = c .before .before in
     let a = looked .before .before .before .before .args in
-    (set-is (giveEntry (now (a .layout))) _ _ (giving (a .at) (now (a .out))) (eq-eqb _ _ (looked .before .if1 .taken)) (sym (c .enum-told .given .1) ∙ looked .entry-of .ensures) refl, looked .before .before .before .before .pre .1)
+    (bit-set (giveEntry (now (a .layout))) _ _ (giving (a .at) (now (a .out))) (eq-eqb _ _ (looked .before .if1 .taken)) (sym (c .enum-told .given .1) ∙ looked .entry-of .ensures) refl, looked .before .before .before .before .pre .1)
 
 same-length : tie.Need-same-length
 same-length c = search needs
@@ -45,12 +45,12 @@ returns-2 c =
     let known = given .before .before .before in
     let looked = known .before .before in
     let a = looked .before .before .before .before .args in
-    (set-is (giveEntry (now (a .layout))) _ _ (giving (a .at) (now (a .out))) (eq-eqb _ _ (looked .before .if1 .taken)) (sym (known .e .given .1) ∙ looked .entry-of .ensures) (given .give-field .ensures .0), given .give-field .ensures .1)
+    (bit-set (giveEntry (now (a .layout))) _ _ (giving (a .at) (now (a .out))) (eq-eqb _ _ (looked .before .if1 .taken)) (sym (known .e .given .1) ∙ looked .entry-of .ensures) (given .give-field .ensures .0), given .give-field .ensures .1)
 
 returns-3 : tie.Need-returns-3
 returns-3 c =
     let a = c .before .before .before .args in
-    (unset-is (giveEntry (now (a .layout))) _ _ (giving (a .at) (now (a .out))) (ne-eqb _ _ (c .if1 .left)), c .before .before .before .pre .1)
+    (bit-unset (giveEntry (now (a .layout))) _ _ (giving (a .at) (now (a .out))) (ne-eqb _ _ (c .if1 .left)), c .before .before .before .pre .1)
 
 pub give-bit-spec : {M : Type 1} → statement M
 give-bit-spec =

@@ -7,6 +7,7 @@ use native.Mathlib.Omega.{arith}
 use borrow.Author.Needs.{needs}
 use Rattle.named.proofs.reading.text1_of.Statement.{statement}
 use Rattle.named.proofs.reading.text1_of.Tie as tie
+use Rattle.fields.specs.Sizes.{layoutSize}
 
 optional-requires : tie.Need-optional-requires
 optional-requires c κs = search needs
@@ -14,7 +15,7 @@ optional-requires c κs = search needs
 slice-aggregate-text1-in : tie.Need-slice-aggregate-text1-in
 slice-aggregate-text1-in c = search needs
 
-slots-length : (c : tie.Start) → length (c .args .r .slots) ≡ 154
+slots-length : (c : tie.Start) → length (c .args .r .slots) ≡ layoutSize
 slots-length c = search needs
 
 text1-in-requires : tie.Need-text1-in-requires

@@ -12,15 +12,18 @@ is-open-requires c κs = search needs
 append-requires : tie.Need-append-requires
 append-requires c κs = search needs
 
+booked-requires : tie.Need-booked-requires
+booked-requires c κs = search needs
+
 same-length : tie.Need-same-length
 same-length c = search needs
 
 returns : tie.Need-returns
 returns c =
     let appended = c .before .before .before in
-    let then = appended .before .before .before .before in
+    let then = appended .before .before .before in
     let a = then .before .before .before .before .args in
-    books-it (a .self) (now (a .buffer)) (now (a .bytes)) (sym (then .before .is-open .ensures) ∙ then .if1 .taken) (appended .append .ensures .0) (appended .append .ensures .1)
+    books-it (a .self) (now (a .buffer)) (now (a .bytes)) (sym (then .before .is-open .ensures) ∙ then .if1 .taken) (appended .append .ensures .0) (appended .append .ensures .1) (c .booked .ensures)
 
 returns-2 : tie.Need-returns-2
 returns-2 c =
@@ -28,4 +31,4 @@ returns-2 c =
     unopened (a .self) (now (a .buffer)) (now (a .bytes)) (sym (c .before .is-open .ensures) ∙ c .if1 .left)
 
 pub message-spec : {M : Type 1} → statement M
-message-spec = tie.close (tie.spec is-open-requires append-requires same-length returns returns-2)
+message-spec = tie.close (tie.spec is-open-requires append-requires booked-requires same-length returns returns-2)

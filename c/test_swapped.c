@@ -1,0 +1,38 @@
+/* Calls with two buffers in each other's place, one for each number of SWAPPED: the compiler must refuse each. 0 is the control, in which all
+ * stand in their places. */
+#include "boe.h"
+
+uint8_t call(const uint8_t *bytes, uint8_t *buffer, struct boe_record *record, struct boe_state *state);
+
+uint8_t call(const uint8_t *bytes, uint8_t *buffer, struct boe_record *record, struct boe_state *state) {
+    (void)bytes, (void)buffer, (void)record, (void)state;
+#if SWAPPED == 0
+    return boe_table_step(1, 1, buffer, 1) || boe_read(0, bytes, 1, record, sizeof *record) || boe_write(0, record, sizeof *record, buffer, 1) ||
+           boe_book_open(1, buffer, 1, state, sizeof *state) || boe_book_append(bytes, 1, buffer, 1, state, sizeof *state) ||
+           boe_book_close(buffer, 1, state, sizeof *state) || boe_restart(1, bytes, 1, state, sizeof *state);
+#elif SWAPPED == 1
+    return boe_read(0, record, sizeof *record, bytes, 1);
+#elif SWAPPED == 2
+    return boe_write(0, buffer, 1, record, sizeof *record);
+#elif SWAPPED == 3
+    return boe_book_open(1, state, sizeof *state, buffer, 1);
+#elif SWAPPED == 4
+    return boe_book_append(bytes, 1, state, sizeof *state, buffer, 1);
+#elif SWAPPED == 5
+    return boe_book_append(state, sizeof *state, buffer, 1, bytes, 1);
+#elif SWAPPED == 6
+    return boe_book_append(buffer, 1, bytes, 1, state, sizeof *state);
+#elif SWAPPED == 7
+    return boe_book_close(state, sizeof *state, buffer, 1);
+#elif SWAPPED == 8
+    return boe_restart(1, state, sizeof *state, bytes, 1);
+#elif SWAPPED == 9
+    return boe_read(0, bytes, 1, state, sizeof *state);
+#elif SWAPPED == 10
+    return boe_restart(1, bytes, 1, record, sizeof *record);
+#elif SWAPPED == 11
+    return boe_table_step(1, 1, state, sizeof *state);
+#else
+#error "no such number"
+#endif
+}
