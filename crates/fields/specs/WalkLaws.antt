@@ -29,11 +29,6 @@ module _ {S : Type 0} (selected : ℕ → Bool) (change : ℕ → S → S) where
       ap (λ (b : Bool). walk selected change n (suc k) (pick b (change k st) st)) (z k (omega arith) (omega arith))
       ∙ walk-skip n (suc k) st (λ i h l. z i (omega arith) (omega arith))
 
-  -- one place more in front
-  pub walk-one : (n k : ℕ) (st : S) → walk selected change (suc n) k st ≡ walk selected change n (suc k) (pick (selected k) (change k st) st)
-  unfolding walk
-  walk-one n k st = refl
-
 -- a walk's test of one slot more moves to the front of those of the others
 pub and-move : (a b c : Bool) → (a && (b && c)) ≡ ((b && a) && c)
 and-move a true c = refl
