@@ -7,11 +7,11 @@ use lib.ListN.{length, take, drop, length-append, length-drop}
 use Rattle.numbers.specs.Numbers.{bytesOf, patched}
 use Rattle.numbers.proofs.Tail.{tail-is, puts-then}
 use Rattle.wire.specs.Header.{typeOf, unitOf, numberOf}
-use Rattle.fields.specs.Slots.{zeros}
-use Rattle.fields.specs.SlotLaws.{length-zeros}
-use Rattle.logins.specs.Sessions as sessions
-use Rattle.logins.specs.SessionLaws as sessionLaws
-use Rattle.logins.specs.SessionTrip.{body-small}
+use Rattle.block.specs.Slots.{zeros}
+use Rattle.block.specs.SlotLaws.{length-zeros}
+use Rattle.session_messages.specs.Sessions as sessions
+use Rattle.session_messages.specs.SessionLaws as sessionLaws
+use Rattle.session_messages.specs.SessionTrip.{body-small}
 use Rattle.messages.specs.Messages.{sessionRecordBytes}
 
 module _ (m buffer out₁ : List ℕ) (t u n : ℕ) (least : 10 ≤ length m) (most : length m ≤ 443) (room : 439 ≤ length buffer)

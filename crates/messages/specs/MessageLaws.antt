@@ -11,8 +11,8 @@ use Rattle.wire.specs.Header.{typeOf}
 use Rattle.wire.specs.Frame.{frameRefusal, framed}
 use Rattle.orders.specs.Shapes as orderTypes
 use Rattle.orders.specs.Orders as orders
-use Rattle.records.specs.Records.{recordBytes, recordAt}
-use Rattle.logins.specs.Sessions as sessions
+use Rattle.order_records.specs.Records.{recordBytes, recordAt}
+use Rattle.session_messages.specs.Sessions as sessions
 use Rattle.messages.specs.Messages.{isSession, carries, sessionRecordBytes, sessionAt, ownRefusal, recordOf, readRefusal, readCall, readRecord, ownWrite, messageOf, writeCall, writeOut}
 use Rattle.messages.specs.Stages.{ownRecord, wholeRecord}
 

@@ -11,10 +11,10 @@ use Rattle.wire.specs.Header.{typeOf}
 use Rattle.wire.specs.Frame.{frameRefusal, framed}
 use Rattle.orders.specs.Shapes as orderTypes
 use Rattle.orders.specs.Orders as orders
-use Rattle.records.specs.Records.{recordBytes, recordAt}
-use Rattle.logins.specs.Sessions as sessions
-use Rattle.logins.specs.declared.Record as sessionRecords
-use Rattle.fields.specs.Sizes.{recordSize}
+use Rattle.order_records.specs.Records.{recordBytes, recordAt}
+use Rattle.session_messages.specs.Sessions as sessions
+use Rattle.session_messages.specs.declared.Record as sessionRecords
+use Rattle.block.specs.Sizes.{recordSize}
 
 -- ---- the types
 

@@ -16,16 +16,16 @@ use Rattle.wire.specs.Header.{typeOf, numberOf, totalOf}
 use Rattle.wire.specs.HeaderLaws.{Bytes}
 use Rattle.wire.specs.Frame.{frameRefusal, framed}
 use Rattle.wire.specs.FrameLaws.{Whole, whole, framed-is, framed-length, framed-accepted, framed-again}
-use Rattle.fields.specs.Slots.{zeros}
-use Rattle.fields.specs.SlotLaws.{length-zeros}
+use Rattle.block.specs.Slots.{zeros}
+use Rattle.block.specs.SlotLaws.{length-zeros}
 use Rattle.orders.specs.Orders as orders
 use Rattle.orders.specs.RoundTrip as orderTrip
 use Rattle.orders.specs.declared.Record as orderRecords
-use Rattle.records.specs.Records.{recordBytes, recordAt}
-use Rattle.records.specs.RecordTrip.{record-length, record-again, at-sound, bytes-again, head-again, joined}
-use Rattle.logins.specs.Sessions as sessions
-use Rattle.logins.specs.SessionTrip as sessionTrip
-use Rattle.logins.specs.declared.Record as sessionRecords
+use Rattle.order_records.specs.Records.{recordBytes, recordAt}
+use Rattle.order_records.specs.RecordTrip.{record-length, record-again, at-sound, bytes-again, head-again, joined}
+use Rattle.session_messages.specs.Sessions as sessions
+use Rattle.session_messages.specs.SessionTrip as sessionTrip
+use Rattle.session_messages.specs.declared.Record as sessionRecords
 use Rattle.messages.specs.Messages.{isSession, carries, sessionRecordBytes, sessionAt, ownRefusal, recordOf, readRefusal, readCall, readRecord, ownWrite, messageOf, writeCall, writeOut, heldIn}
 use Rattle.messages.specs.MessageLaws.{own-refusal, own-write}
 

@@ -5,8 +5,8 @@ ghost use mathlib.Core.List.{_++_};
 ghost use Prim.Native.Nat.{_-_, _≤_};
 ghost use lib.ListN.{length};
 ghost use Rattle.numbers.specs.Numbers.{patched};
-ghost use Rattle.fields.specs.Slots.{zeros};
-ghost use Rattle.logins.specs.Sessions as sessions;
+ghost use Rattle.block.specs.Slots.{zeros};
+ghost use Rattle.session_messages.specs.Sessions as sessions;
 ghost use Rattle.messages.specs.Messages.{isSession, carries, sessionRecordBytes, sessionAt, readRefusal, readCall, readRecord, writeCall, writeOut};
 ghost use Rattle.messages.specs.Stages.{ownRecord, wholeRecord};
 
@@ -14,10 +14,10 @@ ghost use Rattle.messages.specs.Stages.{ownRecord, wholeRecord};
 fn is_session(message: u8) -> bool
     ensures { λ r. ⌜ r ≡ isSession message ⌝ }
 {
-    if logins::of_member(message) {
+    if session_messages::of_member(message) {
         return true;
     }
-    logins::of_venue(message)
+    session_messages::of_venue(message)
 }
 
 // Whether a direction has a type.
@@ -28,13 +28,13 @@ fn carries(direction: u8, message: u8) -> bool
         if orders::of_member(message) {
             return true;
         }
-        return logins::of_member(message);
+        return session_messages::of_member(message);
     }
     if direction == 1 {
         if orders::of_venue(message) {
             return true;
         }
-        return logins::of_venue(message);
+        return session_messages::of_venue(message);
     }
     false
 }
@@ -45,8 +45,8 @@ fn put_body(b: &[u8], tail: &mut [u8])
     ensures { λ _. ⌜ now (tail .exit) ≡ patched (now (tail .entry)) 0 (now (b .entry) ++ zeros (433 - length (now (b .entry)))) ⌝ }
 {
     let n = b.len();
-    fields::copy(b, tail);
-    fields::clear(433 - n, &mut tail[n..]);
+    block::copy(b, tail);
+    block::clear(433 - n, &mut tail[n..]);
 }
 
 // A session message's record into the front of a buffer.
@@ -57,7 +57,7 @@ fn put_session(m: &[u8], buffer: &mut [u8])
     let message = wire::header::type_of(m);
     let unit = wire::header::unit_of(m);
     let number = wire::header::number_of(m);
-    records::put_head(message, unit, number, buffer);
+    order_records::put_head(message, unit, number, buffer);
     put_body(&m[10..], &mut buffer[6..]);
 }
 
@@ -66,7 +66,7 @@ fn read_session(m: &[u8], buffer: &mut [u8]) -> u8
     requires { ⌜ 439 ≤ length (now buffer) ⌝ }
     ensures { λ r. ⌜ (r ≡ sessions.readRefusal (now (m .entry))) × (now (buffer .exit) ≡ ownRecord (sessions.readRefusal (now (m .entry))) (sessionRecordBytes (sessions.recordOf (now (m .entry)))) (now (buffer .entry))) ⌝ }
 {
-    let refusal = logins::read_refusal(m);
+    let refusal = session_messages::read_refusal(m);
     if refusal != 0 {
         return refusal;
     }
@@ -123,7 +123,7 @@ fn write_session(given: &[u8], out: &mut [u8]) -> u8
     ensures { λ r. ⌜ (r ≡ sessions.recordRefusal (sessionAt (now (given .entry))) (length (now (out .entry)))) × (now (out .exit) ≡ sessions.recordBuffer (sessionAt (now (given .entry))) (now (out .entry))) ⌝ }
 {
     let number = numbers::read_u32(given, 2);
-    logins::write_body(given[0], given[1], number, &given[6..439], out)
+    session_messages::write_body(given[0], given[1], number, &given[6..439], out)
 }
 
 // Writes a record: 0, and the buffer begins with the message's bytes and is otherwise as it was; or the refusal, 13 for a record under 439

@@ -8,18 +8,18 @@ use lib.ListN.{length, take, drop, length-append, length-drop}
 use lib.Seq.{length-take-le, take-at, drop-at}
 use Rattle.numbers.specs.Numbers.{bytesOf, patched}
 use Rattle.wire.specs.Header.{unitOf, numberOf}
-use Rattle.fields.specs.Slots.{zeros, takes, width, sum, spread}
-use Rattle.fields.specs.SlotLaws.{length-zeros, spread-length}
-use Rattle.fields.specs.Places.{slotsOf}
-use Rattle.fields.specs.Dictionaries.{widths-fit}
-use Rattle.spread.specs.State.{storing, storeWalk}
-use Rattle.spread.specs.Made.{stored-all}
+use Rattle.block.specs.Slots.{zeros, takes, width, sum, spread}
+use Rattle.block.specs.SlotLaws.{length-zeros, spread-length}
+use Rattle.block.specs.Places.{slotsOf}
+use Rattle.block.specs.Dictionaries.{widths-fit}
+use Rattle.block_store.specs.State.{storing, storeWalk}
+use Rattle.block_store.specs.Made.{stored-all}
 use Rattle.orders.specs.Shapes.{countAt}
 use Rattle.orders.specs.Orders.{layoutOf}
 use Rattle.orders.specs.OrderLaws.{count-bounds}
-use Rattle.records.specs.Records.{recordBytes}
+use Rattle.order_records.specs.Records.{recordBytes}
 use Rattle.order_reader.specs.Stages.{frontBytes, thereBytes}
-use Rattle.fields.specs.Sizes.{allPlaces, fixedEnd, fixedSize, layoutSize}
+use Rattle.block.specs.Sizes.{allPlaces, fixedEnd, fixedSize, layoutSize}
 
 -- the bitfields with zeros after them
 pub pad-long : (bits : List ℕ) → length bits ≤ 15 → length (bits ++ zeros (15 - length bits)) ≡ 15

@@ -15,7 +15,7 @@ use Rattle.orders.specs.Shapes.{ofMember, ofVenue, countAt, mostOf, unitGood}
 use Rattle.orders.specs.Orders.{headRefusal, countOf}
 use Rattle.orders.specs.OrderLaws.{count-bounds, most-bound}
 use Rattle.order_reader.specs.Stages.{countRefusal}
-use Rattle.fields.specs.Sizes.{fixedEnd}
+use Rattle.block.specs.Sizes.{fixedEnd}
 
 -- ---- the refusals by their tests
 

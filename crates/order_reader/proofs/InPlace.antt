@@ -14,17 +14,17 @@ use Rattle.numbers.specs.Numbers.{numberAt, patched}
 use Rattle.numbers.proofs.Tail.{tail-is}
 use Rattle.wire.specs.Header.{typeOf, unitOf, numberOf}
 use Rattle.dictionary.specs.declared.Entry.{Entry}
-use Rattle.fields.specs.Slots.{zeros, Slot, slot, takes, width, sum, spread}
-use Rattle.fields.specs.SlotLaws.{length-zeros, drop-zeros}
-use Rattle.fields.specs.Places.{bitSet, selectedAt, entryAt, slotsFrom, slotsOf, hasRequired}
+use Rattle.block.specs.Slots.{zeros, Slot, slot, takes, width, sum, spread}
+use Rattle.block.specs.SlotLaws.{length-zeros, drop-zeros}
+use Rattle.block.specs.Places.{bitSet, selectedAt, entryAt, slotsFrom, slotsOf, hasRequired}
 use Rattle.orders.specs.Shapes.{countAt, newOrderGood, cancelOrderGood, acknowledgmentGood, executionGood, fixedGood}
 use Rattle.orders.specs.declared.Record.{Record}
 use Rattle.orders.specs.Orders.{countOf, bitsOf, fixedOf, optionalOf, headRefusal, blockRefusal, readRefusal, layoutOf, recordOf}
-use Rattle.records.specs.Records.{recordBytes}
+use Rattle.order_records.specs.Records.{recordBytes}
 use Rattle.order_reader.specs.Stages.{thereBytes, readRecord}
 use Rattle.order_reader.proofs.Heads.{good-head}
 use Rattle.order_reader.proofs.Judging.{total-right}
-use Rattle.fields.specs.Sizes.{allPlaces, fixedEnd, layoutSize}
+use Rattle.block.specs.Sizes.{allPlaces, fixedEnd, layoutSize}
 
 -- ---- bitfields with zeros after them
 

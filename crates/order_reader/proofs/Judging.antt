@@ -8,10 +8,10 @@ use lib.ListN.{length}
 use borrow.Author.Tests.{eqb-true, not-false}
 use Rattle.refusals.specs.Names.{wrongTotal, unlistedBit, notSelected, badValue}
 use Rattle.wire.specs.FrameLaws.{passed}
-use Rattle.fields.specs.Slots.{sum, takes, anyBad, agreeSent}
-use Rattle.fields.specs.Places.{slotsOf, hasRequired}
-use Rattle.judge.specs.declared.Judged.{Judged}
-use Rattle.judge.specs.Made.{JudgedAll}
+use Rattle.block.specs.Slots.{sum, takes, anyBad, agreeSent}
+use Rattle.block.specs.Places.{slotsOf, hasRequired}
+use Rattle.block_judge.specs.declared.Judged.{Judged}
+use Rattle.block_judge.specs.Made.{JudgedAll}
 use Rattle.orders.specs.Shapes.{fixedGood}
 use Rattle.orders.specs.Orders.{blockRefusal}
 use Rattle.order_reader.specs.Stages.{judgedOf}

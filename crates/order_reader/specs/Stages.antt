@@ -7,13 +7,13 @@ use lib.ListN.{length, getD, take, drop}
 use Rattle.numbers.specs.Numbers.{bytesOf, patched}
 use Rattle.refusals.specs.Names.{wrongTotal, tooManyBitfields, unlistedBit, notSelected, badValue}
 use Rattle.wire.specs.Header.{typeOf, unitOf, numberOf}
-use Rattle.fields.specs.Places.{hasRequired}
-use Rattle.judge.specs.declared.Judged.{Judged}
+use Rattle.block.specs.Places.{hasRequired}
+use Rattle.block_judge.specs.declared.Judged.{Judged}
 use Rattle.orders.specs.Shapes.{countAt, mostOf, fixedGood}
-use Rattle.fields.specs.Slots.{zeros}
+use Rattle.block.specs.Slots.{zeros}
 use Rattle.orders.specs.Orders.{readRefusal, recordOf}
-use Rattle.records.specs.Records.{recordBytes}
-use Rattle.fields.specs.Sizes.{fixedEnd}
+use Rattle.order_records.specs.Records.{recordBytes}
+use Rattle.block.specs.Sizes.{fixedEnd}
 
 -- 7; 6 if the bitfields do not fit, where the count byte stands at `at`
 unfoldable pub countRefusal : ℕ → ℕ → List ℕ → ℕ

@@ -5,13 +5,13 @@ ghost use Prim.Native.Nat.{_+_, _-_, _≤_, _<_};
 ghost use lib.ListN.{length, take, drop};
 ghost use Rattle.numbers.specs.Numbers.{patched};
 ghost use Rattle.wire.specs.Header.{typeOf};
-ghost use Rattle.fields.specs.Slots.{zeros, takes, sum};
-ghost use Rattle.fields.specs.Places.{slotsOf};
+ghost use Rattle.block.specs.Slots.{zeros, takes, sum};
+ghost use Rattle.block.specs.Places.{slotsOf};
 ghost use Rattle.orders.specs.Shapes.{countAt};
 ghost use Rattle.orders.specs.Orders.{headRefusal, blockRefusal, layoutOf, readRefusal};
 ghost use Rattle.order_reader.specs.Stages.{countRefusal, judgedOf, frontBytes, thereBytes, readRecord};
-ghost use Rattle.fields.specs.Sizes.{fixedEnd, fixedSize, layoutSize, recordSize};
-use judge::Judged;
+ghost use Rattle.block.specs.Sizes.{fixedEnd, fixedSize, layoutSize, recordSize};
+use block_judge::Judged;
 
 // 4; 5; 6 if the message ends before its count byte is whole; 7; 6 if the bitfields do not fit.
 fn head_refusal(m: &[u8]) -> u8
@@ -56,7 +56,7 @@ fn judged(message: u8, bits: &[u8], count: u8, fixed: &[u8], t: Judged, have: us
     if t.bad != 0 {
         return refusals::UNLISTED_BIT;
     }
-    if !fields::has_required(message, bits, count) {
+    if !block::has_required(message, bits, count) {
         return refusals::NOT_SELECTED;
     }
     if t.at != have {
@@ -76,7 +76,7 @@ fn block_refusal(message: u8, bits: &[u8], count: u8, fixed: &[u8], optional: &[
     requires { ⌜ (length (now bits) ≡ count) × (count ≤ 15) × (countAt message ≤ length (now fixed) + 10) ⌝ }
     ensures { λ r. ⌜ r ≡ blockRefusal message count (now (bits .entry)) (now (fixed .entry)) (now (optional .entry)) ⌝ }
 {
-    let t = judge::judge_all(message, bits, count, optional);
+    let t = block_judge::judge_all(message, bits, count, optional);
     judged(message, bits, count, fixed, t, optional.len())
 }
 
@@ -109,8 +109,8 @@ fn put_bits(bits: &[u8], tail: &mut [u8])
     requires { ⌜ (length (now bits) ≤ 15) × (15 ≤ length (now tail)) ⌝ }
     ensures { λ _. ⌜ now (tail .exit) ≡ patched (now (tail .entry)) 0 (now (bits .entry) ++ zeros (15 - length (now (bits .entry)))) ⌝ }
 {
-    fields::clear(15, tail);
-    fields::copy(bits, tail);
+    block::clear(15, tail);
+    block::copy(bits, tail);
 }
 
 // The count, and these after it.
@@ -128,8 +128,8 @@ fn put_up_to(m: &[u8], at: usize, tail: &mut [u8])
     ensures { λ _. ⌜ now (tail .exit) ≡ patched (now (tail .entry)) 0 (take (at - 10) (drop 10 (now (m .entry))) ++ zeros (fixedEnd - at)) ⌝ }
 {
     let n = at - 10;
-    fields::move_field(&m[10..at], tail);
-    fields::clear(fields::FIXED_END - at, &mut tail[n..]);
+    block::move_field(&m[10..at], tail);
+    block::clear(block::FIXED_END - at, &mut tail[n..]);
 }
 
 // The same; its length is a literal, so that the copy is a few moves.
@@ -151,7 +151,7 @@ fn put_body(m: &[u8], message: u8, count: u8, bits: &[u8], tail: &mut [u8])
     ensures { λ _. ⌜ now (tail .exit) ≡ patched (now (tail .entry)) 0 ((take (countAt message - 10) (drop 10 (now (m .entry))) ++ zeros (fixedEnd - countAt message)) ++ (count ∷ (now (bits .entry) ++ zeros (15 - length (now (bits .entry)))))) ⌝ }
 {
     put_fixed(m, message, tail);
-    put_block(count, bits, &mut tail[fields::FIXED..]);
+    put_block(count, bits, &mut tail[block::FIXED..]);
 }
 
 // A message's record up to its layout, straight from the message.
@@ -161,7 +161,7 @@ fn put_front(m: &[u8], message: u8, count: u8, bits: &[u8], buffer: &mut [u8])
 {
     let unit = wire::header::unit_of(m);
     let number = wire::header::number_of(m);
-    records::put_head(message, unit, number, buffer);
+    order_records::put_head(message, unit, number, buffer);
     put_body(m, message, count, bits, &mut buffer[6..]);
 }
 
@@ -170,8 +170,8 @@ fn put_layout(message: u8, bits: &[u8], count: u8, optional: &[u8], tail: &mut [
     requires { ⌜ (length (now bits) ≡ count) × (count ≤ 15) × (sum takes (slotsOf message count (now bits)) ≡ length (now optional)) × (layoutSize ≤ length (now tail)) ⌝ }
     ensures { λ _. ⌜ now (tail .exit) ≡ patched (now (tail .entry)) 0 (layoutOf message count (now (bits .entry)) (now (optional .entry))) ⌝ }
 {
-    fields::clear(fields::LAYOUT, tail);
-    spread::store_all(message, bits, count, optional, &mut tail[0..fields::LAYOUT]);
+    block::clear(block::LAYOUT, tail);
+    block_store::store_all(message, bits, count, optional, &mut tail[0..block::LAYOUT]);
 }
 
 // A message's record, of which each part is lent where it stands.

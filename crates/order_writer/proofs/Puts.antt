@@ -7,17 +7,17 @@ use lib.ListN.{length, take, drop, length-append}
 use lib.Seq.{length-take-le}
 use Rattle.numbers.specs.Numbers.{patched}
 use Rattle.numbers.specs.NumberLaws.{patched-length, patched-join}
-use Rattle.fields.specs.Slots.{takes, sum, gathered}
-use Rattle.fields.specs.SlotLaws.{gathered-length}
-use Rattle.fields.specs.Places.{selectedAt, entryAt, slotsOf}
-use Rattle.fields.specs.Walk.{Giving}
-use Rattle.fields.specs.Dictionaries.{before, before-none, dictionary-placed, widths-fit}
-use Rattle.fields.specs.Gives.{gave}
-use Rattle.gather.specs.State.{giving, giveWalk}
+use Rattle.block.specs.Slots.{takes, sum, gathered}
+use Rattle.block.specs.SlotLaws.{gathered-length}
+use Rattle.block.specs.Places.{selectedAt, entryAt, slotsOf}
+use Rattle.block.specs.Walk.{Giving}
+use Rattle.block.specs.Dictionaries.{before, before-none, dictionary-placed, widths-fit}
+use Rattle.block.specs.Gives.{gave}
+use Rattle.block_write.specs.State.{giving, giveWalk}
 use Rattle.orders.specs.Shapes.{countAt}
 use Rattle.orders.specs.OrderLaws.{count-bounds}
 use Rattle.order_writer.specs.Stages.{fieldBytes, restBytes}
-use Rattle.fields.specs.Sizes.{allPlaces, fixedSize, layoutSize}
+use Rattle.block.specs.Sizes.{allPlaces, fixedSize, layoutSize}
 
 -- the selected fields given at a place
 pub fields-given : (message count : ℕ) (bits v out out′ : List ℕ) (at r : ℕ) → length v ≡ layoutSize → at + sum takes (slotsOf message count bits) ≤ length out

@@ -14,20 +14,20 @@ use Rattle.numbers.specs.Numbers.{patched}
 use Rattle.kinds.specs.Kinds.{allNul}
 use Rattle.wire.specs.Header.{headerBytes}
 use Rattle.wire.specs.FrameLaws.{passed}
-use Rattle.fields.specs.Slots.{takes, width, sum, anyBad, agreeHeld}
-use Rattle.fields.specs.Places.{selectedAt, entryAt, slotsOf, hasRequired}
-use Rattle.fields.specs.Walk.{Looking}
-use Rattle.fields.specs.SlotLaws.{takes-below}
-use Rattle.fields.specs.Dictionaries.{before-none, dictionary-placed, widths-fit}
-use Rattle.fields.specs.Looks.{Looked, looked, cleared, zero-by-clearing}
-use Rattle.gather.specs.declared.Seen.{Seen}
-use Rattle.gather.specs.State.{looking, unseen, lookWalk}
+use Rattle.block.specs.Slots.{takes, width, sum, anyBad, agreeHeld}
+use Rattle.block.specs.Places.{selectedAt, entryAt, slotsOf, hasRequired}
+use Rattle.block.specs.Walk.{Looking}
+use Rattle.block.specs.SlotLaws.{takes-below}
+use Rattle.block.specs.Dictionaries.{before-none, dictionary-placed, widths-fit}
+use Rattle.block.specs.Looks.{Looked, looked, cleared, zero-by-clearing}
+use Rattle.block_write.specs.declared.Seen.{Seen}
+use Rattle.block_write.specs.State.{looking, unseen, lookWalk}
 use Rattle.orders.specs.Shapes.{ofMember, ofVenue, countAt, mostOf, unitGood, fixedGood}
 use Rattle.orders.specs.Orders.{writeSlots, zeroUnused, sizeOf, orderBytes, writeRefusal, writeBuffer}
 use Rattle.orders.specs.OrderLaws.{most-bound}
 use Rattle.orders.specs.declared.Record.{Record}
 use Rattle.order_writer.specs.Stages.{topRefusal, unusedZero, seenRefusal, fieldBytes, restBytes}
-use Rattle.fields.specs.Sizes.{allPlaces, layoutSize}
+use Rattle.block.specs.Sizes.{allPlaces, layoutSize}
 
 -- ---- the stages in a row
 

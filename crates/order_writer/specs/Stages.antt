@@ -6,9 +6,9 @@ use lib.Dec.{ltb, eqb}
 use lib.ListN.{take, drop}
 use Rattle.refusals.specs.Names.{unknownType, badUnit, tooManyBitfields, unlistedBit, notSelected, badValue, notZero}
 use Rattle.kinds.specs.Kinds.{allNul}
-use Rattle.fields.specs.Slots.{gathered}
-use Rattle.fields.specs.Places.{slotsOf, hasRequired}
-use Rattle.gather.specs.declared.Seen.{Seen}
+use Rattle.block.specs.Slots.{gathered}
+use Rattle.block.specs.Places.{slotsOf, hasRequired}
+use Rattle.block_write.specs.declared.Seen.{Seen}
 use Rattle.orders.specs.declared.Record.{Record}
 use Rattle.orders.specs.Shapes.{ofMember, ofVenue, countAt, mostOf, unitGood, fixedGood}
 

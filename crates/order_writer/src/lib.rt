@@ -6,14 +6,14 @@ ghost use lib.ListN.{length, take, drop};
 ghost use Rattle.kinds.specs.Kinds.{allNul};
 ghost use Rattle.numbers.specs.Numbers.{patched};
 ghost use Rattle.wire.specs.Header.{headerBytes};
-ghost use Rattle.fields.specs.Slots.{takes, sum};
-ghost use Rattle.fields.specs.Places.{slotsOf};
+ghost use Rattle.block.specs.Slots.{takes, sum};
+ghost use Rattle.block.specs.Places.{slotsOf};
 ghost use Rattle.orders.specs.Shapes.{countAt};
 ghost use Rattle.orders.specs.Orders.{writeRefusal, writeBuffer};
-ghost use Rattle.records.specs.Records.{recordAt};
+ghost use Rattle.order_records.specs.Records.{recordAt};
 ghost use Rattle.order_writer.specs.Stages.{recordFrom, topRefusal, unusedZero, seenRefusal, fieldBytes, restBytes};
-ghost use Rattle.fields.specs.Sizes.{fixedSize, layoutSize, recordSize};
-use gather::Seen;
+ghost use Rattle.block.specs.Sizes.{fixedSize, layoutSize, recordSize};
+use block_write::Seen;
 
 // 4, 5, 7.
 fn top_refusal(message: u8, unit: u8, count: u8) -> u8
@@ -37,9 +37,9 @@ fn fixed_blank(message: u8, fixed: &[u8]) -> bool
     ensures { λ r. ⌜ r ≡ allNul (drop (countAt message - 10) (now (fixed .entry))) ⌝ }
 {
     match message {
-        0x38 => kinds::is_blank(&fixed[25..fields::FIXED]),
-        0x39 => kinds::is_blank(&fixed[20..fields::FIXED]),
-        0x25 => kinds::is_blank(&fixed[37..fields::FIXED]),
+        0x38 => kinds::is_blank(&fixed[25..block::FIXED]),
+        0x39 => kinds::is_blank(&fixed[20..block::FIXED]),
+        0x25 => kinds::is_blank(&fixed[37..block::FIXED]),
         _ => true,
     }
 }
@@ -67,7 +67,7 @@ fn seen_refusal(message: u8, count: u8, fixed: &[u8], bits: &[u8], rest: &[u8], 
     if s.bad != 0 {
         return refusals::UNLISTED_BIT;
     }
-    if !fields::has_required(message, bits, count) {
+    if !block::has_required(message, bits, count) {
         return refusals::NOT_SELECTED;
     }
     if !orders::fixed_good(message, fixed) {
@@ -88,8 +88,8 @@ fn put_fields(message: u8, count: u8, bits: &[u8], slots: &[u8], tail: &mut [u8]
     ensures { λ _. ⌜ now (tail .exit) ≡ patched (now (tail .entry)) 0 (fieldBytes message count (now (bits .entry)) (now (slots .entry))) ⌝ }
 {
     let n = count as usize;
-    fields::copy_front(bits, n, tail);
-    gather::give::give_all(message, bits, count, slots, tail, n);
+    block::copy_front(bits, n, tail);
+    block_write::give::give_all(message, bits, count, slots, tail, n);
 }
 
 // The count, and these after it.
@@ -106,7 +106,7 @@ fn put_part(message: u8, n: usize, fixed: &[u8], tail: &mut [u8])
     requires { ⌜ (n ≡ countAt message - 10) × (length (now fixed) ≡ fixedSize) × (countAt message - 10 ≤ length (now tail)) ⌝ }
     ensures { λ _. ⌜ now (tail .exit) ≡ patched (now (tail .entry)) 0 (take (countAt message - 10) (now (fixed .entry))) ⌝ }
 {
-    fields::move_field(&fixed[0..n], tail);
+    block::move_field(&fixed[0..n], tail);
 }
 
 // The same, with an arm for each message: there the compiler knows how many bytes are moved.
@@ -169,9 +169,9 @@ fn write_parts(
     if top != 0 {
         return top;
     }
-    let mut rest = [0u8; fields::LAYOUT];
-    fields::copy(&slots[0..fields::LAYOUT], &mut rest);
-    let s = gather::look_all(message, bits, count, &mut rest);
+    let mut rest = [0u8; block::LAYOUT];
+    block::copy(&slots[0..block::LAYOUT], &mut rest);
+    let s = block_write::look_all(message, bits, count, &mut rest);
     let seen = seen_refusal(message, count, fixed, bits, &rest, s);
     if seen != 0 {
         return seen;
@@ -198,7 +198,7 @@ pub fn write_order(given: &[u8], out: &mut [u8]) -> u8
         &given[6..65],
         given[65],
         &given[66..81],
-        &given[81..fields::RECORD],
+        &given[81..block::RECORD],
         out,
     )
 }

@@ -10,13 +10,13 @@ use borrow.Author.Tests.{lt-leb, le-ltb, ltb-false, eq-eqb, ne-eqb, eqb-true, eq
 use Rattle.kinds.specs.Kinds.{allNul}
 use Rattle.wire.specs.Header.{typeOf, unitOf}
 use Rattle.wire.specs.FrameLaws.{passed}
-use Rattle.fields.specs.Slots.{takes, sum, anyBad, agreeSent, agreeHeld, zeroElsewhere}
-use Rattle.fields.specs.SlotLaws.{both-true}
-use Rattle.fields.specs.Places.{slotsOf, hasRequired}
+use Rattle.block.specs.Slots.{takes, sum, anyBad, agreeSent, agreeHeld, zeroElsewhere}
+use Rattle.block.specs.SlotLaws.{both-true}
+use Rattle.block.specs.Places.{slotsOf, hasRequired}
 use Rattle.orders.specs.Shapes.{ofMember, ofVenue, countAt, mostOf, unitGood, fixedGood}
 use Rattle.orders.specs.Orders.{countOf, bitsOf, optionalOf, fixedOf, headRefusal, blockRefusal, readRefusal, writeSlots, zeroUnused, sizeOf, writeRefusal}
 use Rattle.orders.specs.declared.Record.{Record}
-use Rattle.fields.specs.Sizes.{fixedEnd}
+use Rattle.block.specs.Sizes.{fixedEnd}
 
 -- ---- shapes
 

@@ -8,11 +8,11 @@ use Rattle.refusals.specs.Names.{unknownType, badUnit, wrongTotal, tooManyBitfi
 use Rattle.kinds.specs.Kinds.{allNul}
 use Rattle.numbers.specs.Numbers.{patched}
 use Rattle.wire.specs.Header.{headerBytes, typeOf, unitOf, numberOf}
-use Rattle.fields.specs.Slots.{zeros, Slot, takes, width, sum, anyBad, spread, gathered, agreeSent, agreeHeld, zeroElsewhere}
-use Rattle.fields.specs.Places.{slotsOf, hasRequired}
+use Rattle.block.specs.Slots.{zeros, Slot, takes, width, sum, anyBad, spread, gathered, agreeSent, agreeHeld, zeroElsewhere}
+use Rattle.block.specs.Places.{slotsOf, hasRequired}
 use Rattle.orders.specs.Shapes.{ofMember, ofVenue, countAt, mostOf, unitGood, fixedGood}
 use Rattle.orders.specs.declared.Record.{Record}
-use Rattle.fields.specs.Sizes.{fixedEnd, fixedSize, layoutSize}
+use Rattle.block.specs.Sizes.{fixedEnd, fixedSize, layoutSize}
 
 -- ---- reading a whole message m
 

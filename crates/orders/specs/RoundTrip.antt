@@ -15,15 +15,15 @@ use Rattle.wire.specs.Header.{headerBytes, lengthOf, typeOf, unitOf, numberOf, 
 use Rattle.wire.specs.HeaderLaws.{Bytes, header-length, header-number, header-total, header-again}
 use Rattle.wire.specs.Frame.{frameRefusal, framed}
 use Rattle.wire.specs.FrameLaws.{Whole, accepted, framed-is}
-use Rattle.fields.specs.Slots.{zeros, Slot, takes, width, sum, anyBad, spread, gathered, agreeSent}
-use Rattle.fields.specs.SlotLaws.{length-zeros, zeros-are-nul, zeros-after, takes-below, spread-length, gathered-length, gathered-front, back, forth, spread-zero, agree-spread, agree-gathered}
-use Rattle.fields.specs.Places.{slotsOf, hasRequired}
-use Rattle.fields.specs.Dictionaries.{widths-fit}
+use Rattle.block.specs.Slots.{zeros, Slot, takes, width, sum, anyBad, spread, gathered, agreeSent}
+use Rattle.block.specs.SlotLaws.{length-zeros, zeros-are-nul, zeros-after, takes-below, spread-length, gathered-length, gathered-front, back, forth, spread-zero, agree-spread, agree-gathered}
+use Rattle.block.specs.Places.{slotsOf, hasRequired}
+use Rattle.block.specs.Dictionaries.{widths-fit}
 use Rattle.orders.specs.Shapes.{ofMember, ofVenue, countAt, unitGood, fixedGood}
 use Rattle.orders.specs.Orders.{countOf, bitsOf, optionalOf, fixedOf, layoutOf, readRefusal, recordOf, writeSlots, sizeOf, orderBytes, writeRefusal}
 use Rattle.orders.specs.OrderLaws.{count-bounds, most-bound, good, is-read, fit, is-written}
 use Rattle.orders.specs.declared.Record.{Record}
-use Rattle.fields.specs.Sizes.{fixedEnd, fixedSize, layoutSize}
+use Rattle.block.specs.Sizes.{fixedEnd, fixedSize, layoutSize}
 
 -- ---- five parts one after the other
 

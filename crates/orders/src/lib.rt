@@ -14,10 +14,10 @@ pub struct Record {
     pub message: u8,
     pub unit: u8,
     pub number: u32,
-    pub fixed: [u8; fields::FIXED],
+    pub fixed: [u8; block::FIXED],
     pub count: u8,
     pub bits: [u8; 15],
-    pub slots: [u8; fields::LAYOUT],
+    pub slots: [u8; block::LAYOUT],
 }
 
 // A type of the member's.
@@ -151,9 +151,9 @@ pub fn blank_record() -> Record
         message: 0,
         unit: 0,
         number: 0,
-        fixed: [0; fields::FIXED],
+        fixed: [0; block::FIXED],
         count: 0,
         bits: [0; 15],
-        slots: [0; fields::LAYOUT],
+        slots: [0; block::LAYOUT],
     }
 }

@@ -13,12 +13,12 @@ use Rattle.wire.specs.Frame.{notBA, startsBad, lengthBad, cutShort, frameRefusa
 use Rattle.table.specs.Table.{unitRefusal, entryRefusal, entryOf, zeroTable, stepRefusal, stepOf}
 use Rattle.pulse.specs.Pulse.{elapsedOf, heartbeatDue}
 use Rattle.dictionary.specs.Dictionary as dictionary
-use Rattle.fields.specs.Slots.{zeros, Slot, takes, width, sum}
-use Rattle.fields.specs.Places.{selectedAt, entryAt, slotsFrom, slotsOf, hasRequired}
+use Rattle.block.specs.Slots.{zeros, Slot, takes, width, sum}
+use Rattle.block.specs.Places.{selectedAt, entryAt, slotsFrom, slotsOf, hasRequired}
 use Rattle.orders.specs.Shapes.{countAt, mostOf, unitGood, fixedGood}
 use Rattle.orders.specs.Orders as orders
-use Rattle.groups.specs.Groups as groups
-use Rattle.logins.specs.Sessions as sessions
+use Rattle.session_groups.specs.Groups as groups
+use Rattle.session_messages.specs.Sessions as sessions
 use Rattle.messages.specs.Messages.{carries, sessionRecordBytes, ownRefusal, recordOf, readRefusal}
 
 -- a line of the table: the example's number, what the definitions answer, what document 01 says

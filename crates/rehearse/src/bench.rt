@@ -90,7 +90,7 @@ pub fn length_of(b: Bench) -> u32 {
 fn asks(b: Bench, up: &mut [u8]) -> Bench {
     let s = b.session;
     let answer = s.login(
-        login_requests::no_choice(),
+        session_logins::no_choice(),
         written::names(),
         written::acknowledgment_fields(),
         written::execution_fields(),

@@ -4,7 +4,7 @@ use crate::bench::Bench;
 use crate::bench::Room;
 use crate::say;
 use asking::writing;
-use lines::Line;
+use book_lines::Line;
 
 // The first n bytes of a book, as far as they are lent.
 fn first_part(book: &[u8], n: usize) -> &[u8] {
@@ -33,7 +33,7 @@ pub fn power_fails(b: Bench, n: u32) -> Bench {
 
 // Our gateway restarts for a date from the first n bytes of a book.
 pub fn restarts(b: Bench, date: u32, book: &Room, n: u32) -> Bench {
-    let answer = restart::restart(date, first_part(book, n as usize));
+    let answer = book_restart::restart(date, first_part(book, n as usize));
     say::count(b" and restarts for ", date as u64, b": ");
     if answer.refusal != 0 {
         say::refusal(answer.refusal);
@@ -68,11 +68,11 @@ fn put(l: Line) {
 // The listing of our book.
 pub fn lists(b: Bench, book: &Room) {
     let part = first_part(book, bench::length_of(b) as usize);
-    let mut at = listing::start();
+    let mut at = book_listing::start();
     let mut place: usize = 0;
     loop {
         let left = &part[place..];
-        let stepped = listing::step(at, left, true);
+        let stepped = book_listing::step(at, left, true);
         put(stepped.line);
         let taken = stepped.taken;
         let next = stepped.listing;

@@ -8,29 +8,29 @@ use orders::Record;
 pub fn record_of(bytes: &[u8]) -> Record {
     let mut record = [0u8; 235];
     order_reader::read_order(wire::frame(bytes), &mut record);
-    records::load(&record)
+    order_records::load(&record)
 }
 
 // What an acknowledgment says.
 fn acknowledged(r: Record) {
-    let id = named::acknowledgment::cl_ord_id(r);
+    let id = order_fields::acknowledgment::cl_ord_id(r);
     let bytes = id.bytes;
     say::name(&bytes);
     writing::text(b" acknowledged at ");
-    let price = named::acknowledgment::price(r);
+    let price = order_fields::acknowledgment::price(r);
     writing::price(price.value);
 }
 
 // What an execution says.
 fn executed(r: Record) {
-    let id = named::execution::cl_ord_id(r);
+    let id = order_fields::execution::cl_ord_id(r);
     let bytes = id.bytes;
     say::name(&bytes);
-    let shares = named::execution::last_shares(r);
+    let shares = order_fields::execution::last_shares(r);
     say::count(b" executed, ", shares.value as u64, b" shares at ");
-    let price = named::execution::last_px(r);
+    let price = order_fields::execution::last_px(r);
     writing::price(price.value);
-    let left = named::execution::leaves_qty(r);
+    let left = order_fields::execution::leaves_qty(r);
     say::count(b", ", left.value as u64, b" left");
 }
 
@@ -71,22 +71,22 @@ fn side(b: u8) {
 // What a New Order says.
 fn new_order(r: Record) {
     writing::text(b"New Order ");
-    let id = named::new_order::cl_ord_id(r);
+    let id = order_fields::new_order::cl_ord_id(r);
     let bytes = id.bytes;
     say::name(&bytes);
-    let sided = named::new_order::side(r);
+    let sided = order_fields::new_order::side(r);
     side(sided.bytes[0]);
-    let quantity = named::new_order::order_qty(r);
+    let quantity = order_fields::new_order::order_qty(r);
     writing::decimal(quantity.value as u64);
     writing::text(b" at ");
-    let price = named::new_order::price(r);
+    let price = order_fields::new_order::price(r);
     writing::price(price.value);
 }
 
 // What a Cancel Order says.
 fn cancel(r: Record) {
     writing::text(b"Cancel Order of ");
-    let id = named::cancel_order::orig_cl_ord_id(r);
+    let id = order_fields::cancel_order::orig_cl_ord_id(r);
     let bytes = id.bytes;
     say::name(&bytes);
 }
@@ -103,7 +103,7 @@ pub fn order(r: Record) {
 // The Login Response: its status and text, and the last order that the venue has of ours.
 pub fn response(bytes: &[u8]) {
     let m = wire::frame(bytes);
-    let read = logins::read_session(m);
+    let read = session_messages::read_session(m);
     let r = read.session;
     let status = session_fields::login_response::status(r);
     let letter = status.bytes;
@@ -121,7 +121,7 @@ pub fn response(bytes: &[u8]) {
 // The Logout: its reason and text.
 pub fn logout(bytes: &[u8]) {
     let m = wire::frame(bytes);
-    let read = logins::read_session(m);
+    let read = session_messages::read_session(m);
     let r = read.session;
     let reason = session_fields::logout::reason(r);
     let letter = reason.bytes;

@@ -1,6 +1,6 @@
 // The bytes of the rehearsal's messages: each is a record, field by field by name, that the proved writer writes into a lent buffer.
-use login_requests::Bitfields;
 use orders::Record;
+use session_logins::Bitfields;
 use table::OutgoingNumber;
 
 // Buy and sell, as the field Side has them.
@@ -12,7 +12,7 @@ pub const SELL: u8 = b'2';
 fn identifier(text: &[u8]) -> [u8; 20] {
     let mut field = [0u8; 20];
     if text.len() <= 20 {
-        fields::copy(text, &mut field);
+        block::copy(text, &mut field);
     }
     field
 }
@@ -29,17 +29,17 @@ fn started(message: u8, unit: u8, number: u32) -> Record {
 // Writes a record's message.
 fn write(r: Record, out: &mut [u8]) {
     let mut given = [0u8; 235];
-    records::store(r, &mut given);
+    order_records::store(r, &mut given);
     order_writer::write_order(&given, out);
 }
 
 // An Order Acknowledgment: the venue has the order, at this price.
 pub fn acknowledgment(unit: u8, number: u32, id: &[u8], price: i64, out: &mut [u8]) {
     let r = started(0x25, unit, number);
-    let timed = named::acknowledgment::with_transaction_time(r, 1755590400000000000);
-    let named = named::acknowledgment::with_cl_ord_id(timed, identifier(id));
-    let known = named::acknowledgment::with_order_id(named, 700000 + (number as u64));
-    let priced = named::acknowledgment::with_price(known, price);
+    let timed = order_fields::acknowledgment::with_transaction_time(r, 1755590400000000000);
+    let named = order_fields::acknowledgment::with_cl_ord_id(timed, identifier(id));
+    let known = order_fields::acknowledgment::with_order_id(named, 700000 + (number as u64));
+    let priced = order_fields::acknowledgment::with_price(known, price);
     write(priced, out);
 }
 
@@ -54,37 +54,37 @@ pub fn execution(
     out: &mut [u8],
 ) {
     let r = started(0x2C, unit, number);
-    let timed = named::execution::with_transaction_time(r, 1755590400000000000);
-    let named = named::execution::with_cl_ord_id(timed, identifier(id));
-    let known = named::execution::with_exec_id(named, 900000 + (number as u64));
-    let filled = named::execution::with_last_shares(known, shares);
-    let priced = named::execution::with_last_px(filled, price);
-    let rest = named::execution::with_leaves_qty(priced, left);
+    let timed = order_fields::execution::with_transaction_time(r, 1755590400000000000);
+    let named = order_fields::execution::with_cl_ord_id(timed, identifier(id));
+    let known = order_fields::execution::with_exec_id(named, 900000 + (number as u64));
+    let filled = order_fields::execution::with_last_shares(known, shares);
+    let priced = order_fields::execution::with_last_px(filled, price);
+    let rest = order_fields::execution::with_leaves_qty(priced, left);
     write(rest, out);
 }
 
 // A New Order's record, as our desk hands it over: its number is given by the session.
 pub fn new_order(id: &[u8], side: u8, quantity: u32, price: i64) -> Record {
     let r = started(0x38, 0, 0);
-    let named = named::new_order::with_cl_ord_id(r, identifier(id));
-    let sided = named::new_order::with_side(named, [side]);
-    let sized = named::new_order::with_order_qty(sided, quantity);
-    let priced = named::new_order::with_price(sized, price);
+    let named = order_fields::new_order::with_cl_ord_id(r, identifier(id));
+    let sided = order_fields::new_order::with_side(named, [side]);
+    let sized = order_fields::new_order::with_order_qty(sided, quantity);
+    let priced = order_fields::new_order::with_price(sized, price);
     let symbol = [b'Z', b'V', b'Z', b'Z', b'T', 0, 0, 0];
-    let listed = named::new_order::with_symbol(priced, symbol);
-    named::new_order::with_capacity(listed, [b'A'])
+    let listed = order_fields::new_order::with_symbol(priced, symbol);
+    order_fields::new_order::with_capacity(listed, [b'A'])
 }
 
 // A Cancel Order's record.
 pub fn cancel(id: &[u8]) -> Record {
     let r = started(0x39, 0, 0);
-    named::cancel_order::with_orig_cl_ord_id(r, identifier(id))
+    order_fields::cancel_order::with_orig_cl_ord_id(r, identifier(id))
 }
 
 // The login's SessionSubID, Username and Password.
 pub fn names() -> [u8; 18] {
     let mut field = [0u8; 18];
-    fields::copy(b"0001TESTTESTING", &mut field);
+    block::copy(b"0001TESTTESTING", &mut field);
     field
 }
 
@@ -107,8 +107,8 @@ pub fn execution_fields() -> Bitfields {
 }
 
 // A session message's record with nothing said yet.
-fn session_record(message: u8) -> logins::Record {
-    logins::Record {
+fn session_record(message: u8) -> session_messages::Record {
+    session_messages::Record {
         message: message,
         unit: 0,
         number: 0,
@@ -118,16 +118,16 @@ fn session_record(message: u8) -> logins::Record {
 
 // A Server Heartbeat.
 pub fn server_heartbeat(out: &mut [u8]) {
-    logins::write_session(session_record(0x09), out);
+    session_messages::write_session(session_record(0x09), out);
 }
 
 // A Logout at the end of the day.
 pub fn logout(received: OutgoingNumber, out: &mut [u8]) {
     let mut text = [0u8; 60];
-    fields::copy(b"End of Day", &mut text);
+    block::copy(b"End of Day", &mut text);
     let r = session_record(0x08);
     let reasoned = session_fields::logout::with_reason(r, [b'E']);
     let told = session_fields::logout::with_text(reasoned, text);
     let counted = session_fields::logout::with_last_received(told, received);
-    logins::write_session(counted, out);
+    session_messages::write_session(counted, out);
 }

@@ -1,8 +1,8 @@
 // The login of a question: the choice of units, the names, and the bitfields of two types.
 ghost use Prim.Native.Nat.{_≤_};
 use asking::words;
-use login_requests::Bitfields;
-use login_requests::Choice;
+use session_logins::Bitfields;
+use session_logins::Choice;
 
 // A choice of units of a question.
 pub struct Units {

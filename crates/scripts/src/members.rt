@@ -4,10 +4,10 @@ use crate::parts;
 use asking::words;
 use asking::writing;
 use book::Book;
-use login_requests::Bitfields;
-use login_requests::Choice;
 use session::Phase;
 use session::Session;
+use session_logins::Bitfields;
+use session_logins::Choice;
 use table::OutgoingNumber;
 
 // Whether a line was a question, and the session after it.
@@ -118,7 +118,7 @@ fn restart(line: &[u8], s: Session, book: &[u8]) -> Told {
     let count = words::read_number(words::word(line, 2), book.len() as u64);
     if date.ok && count.ok {
         let n = count.value as usize;
-        let a = restart::restart(date.value as u32, &book[0..n]);
+        let a = book_restart::restart(date.value as u32, &book[0..n]);
         return begun(a, s);
     }
     unknown(s)

@@ -2,7 +2,7 @@
 -- the same book in front.
 --     receive-any-rest    any bytes from the venue
 --     break-any-rest      a break
--- So the day of demand 3, which lends zeros after the book (`lent`, line/specs/Lent.antt), speaks of every buffer. Assumes nothing.
+-- So the day of demand 3, which lends zeros after the book (`lent`, day_line/specs/Lent.antt), speaks of every buffer. Assumes nothing.
 use Prim.Native.Nat.{ℕ, _+_, _-_, _≤_, _<_}
 use mathlib.Core.Logic.{⊎-elim}
 use mathlib.Core.Path.{_≡_, sym, ap, _∙_}
@@ -18,7 +18,7 @@ use Rattle.wire.specs.Frame.{framed}
 use Rattle.wire.specs.FrameLaws.{lt-or-le}
 use Rattle.book.specs.declared.Book.{Book}
 use Rattle.book.specs.Books.{pickBook, markBytes, roomless, appendedBy, marked, closeOf, closeBuffer}
-use Rattle.restart.specs.Steps.{mark-long}
+use Rattle.book_restart.specs.Steps.{mark-long}
 use Rattle.session.specs.declared.Phase.the-variants.{Replaying, Live}
 use Rattle.session.specs.declared.Session.{Session}
 use Rattle.session.specs.Sessions.{pickSession, inPhase, withBook, isClosed, endedBy, brokenBy, brokenBuffer, respondedBy, respondedBuffer, statusIn, receivedIn, receiveRefusal, receivedBy, receiveOf, receivedBuffer, receiveBuffer}

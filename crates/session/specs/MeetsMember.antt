@@ -14,24 +14,24 @@ use Rattle.numbers.specs.NumberLaws.{patched-take}
 use Rattle.wire.specs.Frame.{framed}
 use Rattle.wire.specs.Header.{unitOf}
 use Rattle.wire.specs.FrameLaws.{lt-or-le}
-use Rattle.fields.specs.Slots.{zeros}
+use Rattle.block.specs.Slots.{zeros}
 use Rattle.table.specs.declared.OutgoingNumber.{OutgoingNumber}
 use Rattle.table.specs.Table.{lastOf, zeroTable}
-use Rattle.logins.specs.Sessions as logins
+use Rattle.session_messages.specs.Sessions as logins
 use Rattle.calendar.specs.Calendar.{isDay, dayRefusal}
 use Rattle.book.specs.declared.Book.{Book}
 use Rattle.book.specs.declared.Answer as bookAnswers
 use Rattle.book.specs.Books.{answer, openedBook, markBytes, openRefusal, openOf, openBuffer}
-use Rattle.restart.specs.Restarts as restarts
-use Rattle.restart.specs.Cut.{Made, opens, books, marks, cut, cut-22}
-use Rattle.restart.specs.Kept.{none-yet, open-holds, ofUnit, counted, messages, count-is}
-use Rattle.restart.specs.Steps.{mark-long}
-use Rattle.day.specs.Model.{Item, Table, Member, Restart, closed, restartOf, restarted, start, short, good}
-use Rattle.day.specs.Model as day
-use Rattle.day.specs.Halves.{MeetsMember}
-use Rattle.line.specs.Lines.{Fields, Fine, says, ourLine, loginOfTable}
-use Rattle.line.specs.OurLogins.{our-lists}
-use Rattle.line.specs.Lent.{kept}
+use Rattle.book_restart.specs.Restarts as restarts
+use Rattle.book_restart.specs.Cut.{Made, opens, books, marks, cut, cut-22}
+use Rattle.book_restart.specs.Kept.{none-yet, open-holds, ofUnit, counted, messages, count-is}
+use Rattle.book_restart.specs.Steps.{mark-long}
+use Rattle.day_model.specs.Model.{Item, Table, Member, Restart, closed, restartOf, restarted, start, short, good}
+use Rattle.day_model.specs.Model as day
+use Rattle.day_model.specs.Halves.{MeetsMember}
+use Rattle.day_line.specs.Lines.{Fields, Fine, says, ourLine, loginOfTable}
+use Rattle.day_line.specs.OurLogins.{our-lists}
+use Rattle.day_line.specs.Lent.{kept}
 use Rattle.session.specs.declared.Phase.{Phase}
 use Rattle.session.specs.declared.Phase.the-variants.{Closed, Asked, Replaying, Live}
 use Rattle.session.specs.Sessions.{closedWith, isClosed, brokenBy, brokenBuffer, loginRefusal, loginOf, orderRefusal, orderOf}

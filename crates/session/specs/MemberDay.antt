@@ -5,18 +5,18 @@ use mathlib.Core.List.{List, []}
 use lib.Dec.{eqb, ltb}
 use lib.ListN.{length, take}
 use Rattle.wire.specs.Header.{typeOf, unitOf, numberOf}
-use Rattle.fields.specs.Slots.{zeros}
+use Rattle.block.specs.Slots.{zeros}
 use Rattle.table.specs.Table.{lastOf}
 use Rattle.orders.specs.Shapes.{ofVenue}
-use Rattle.logins.specs.Sessions as logins
+use Rattle.session_messages.specs.Sessions as logins
 use Rattle.book.specs.declared.Answer.{Answer}
 use Rattle.book.specs.Books.{limit, blankBook, openOf, openBuffer}
-use Rattle.restart.specs.Restarts as restarts
-use Rattle.day.specs.Model.{closed, asked, replaying, live}
-use Rattle.day.specs.Model as day
-use Rattle.day.specs.Halves.{MemberCode}
-use Rattle.line.specs.Lines.{Fields, loginOfTable}
-use Rattle.line.specs.Lent.{lent, kept}
+use Rattle.book_restart.specs.Restarts as restarts
+use Rattle.day_model.specs.Model.{closed, asked, replaying, live}
+use Rattle.day_model.specs.Model as day
+use Rattle.day_model.specs.Halves.{MemberCode}
+use Rattle.day_line.specs.Lines.{Fields, loginOfTable}
+use Rattle.day_line.specs.Lent.{lent, kept}
 use Rattle.session.specs.declared.Phase.{Phase}
 use Rattle.session.specs.declared.Phase.the-variants.{Closed, Asked, Replaying, Live}
 use Rattle.session.specs.declared.Session.{Session}

@@ -17,11 +17,11 @@ use Rattle.messages.specs.Messages.{readRefusal}
 use Rattle.book.specs.declared.Book.{Book}
 use Rattle.book.specs.Books.{limit, roomless, appendRefusal, appendedBy, closeBuffer}
 use Rattle.book.specs.BookLaws.{next}
-use Rattle.restart.specs.Cut.{Made, books, appended-has}
-use Rattle.restart.specs.Kept.{table-long}
-use Rattle.day.specs.Model.{Item, entry, size, Table, bump, Sent, response, message, complete, heartbeat, logout, Member, ends, takes, got, full}
-use Rattle.line.specs.Lines.{msgOf, says, Fine}
-use Rattle.line.specs.Lent.{lent, lent-long}
+use Rattle.book_restart.specs.Cut.{Made, books, appended-has}
+use Rattle.book_restart.specs.Kept.{table-long}
+use Rattle.day_model.specs.Model.{Item, entry, size, Table, bump, Sent, response, message, complete, heartbeat, logout, Member, ends, takes, got, full}
+use Rattle.day_line.specs.Lines.{msgOf, says, Fine}
+use Rattle.day_line.specs.Lent.{lent, lent-long}
 use Rattle.session.specs.declared.Phase.{Phase}
 use Rattle.session.specs.declared.Phase.the-variants.{Closed, Asked, Replaying, Live}
 use Rattle.session.specs.declared.Session.{Session}

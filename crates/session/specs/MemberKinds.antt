@@ -18,7 +18,7 @@ use Rattle.messages.specs.Messages.{carries, ownRefusal}
 use Rattle.book.specs.declared.Book.{Book}
 use Rattle.book.specs.Books.{limit, messageRefusal, nextRefusal, roomless, appendRefusal}
 use Rattle.book.specs.BookLaws.{past-buffer, past-limit, by-count}
-use Rattle.line.specs.Lines.{Fine}
+use Rattle.day_line.specs.Lines.{Fine}
 use Rattle.session.specs.SessionLaws.{framed-and-carried, own-order, read-is-good}
 
 -- ---- the types

@@ -13,10 +13,10 @@ use Rattle.table.specs.Table.{lastOf}
 use Rattle.book.specs.declared.Book.{Book}
 use Rattle.book.specs.Books.{limit, markBytes, roomless, appendRefusal, appendedBy, marked, closeOf, closeBuffer}
 use Rattle.book.specs.BookLaws.{has-room}
-use Rattle.restart.specs.Steps.{mark-long}
-use Rattle.restart.specs.Cut.{Made, marks, sound}
-use Rattle.day.specs.Model.{Item, mark, size, messages, Member, withMark, ends, closed}
-use Rattle.line.specs.Lent.{lent, kept, lent-long, kept-same, kept-more}
+use Rattle.book_restart.specs.Steps.{mark-long}
+use Rattle.book_restart.specs.Cut.{Made, marks, sound}
+use Rattle.day_model.specs.Model.{Item, mark, size, messages, Member, withMark, ends, closed}
+use Rattle.day_line.specs.Lent.{lent, kept, lent-long, kept-same, kept-more}
 use Rattle.session.specs.declared.Phase.{Phase}
 use Rattle.session.specs.declared.Phase.the-variants.{Closed}
 use Rattle.session.specs.Sessions.{endedBy}

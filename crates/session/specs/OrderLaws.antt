@@ -13,13 +13,13 @@ use Rattle.numbers.specs.NumberLaws.{put-stores}
 use Rattle.orders.specs.Shapes as orderTypes
 use Rattle.orders.specs.declared.Record.{Record}
 use Rattle.orders.specs.Orders as orders
-use Rattle.records.specs.Records.{recordAt}
+use Rattle.order_records.specs.Records.{recordAt}
 use Rattle.session.specs.declared.Session.{Session}
 use Rattle.session.specs.declared.Answer.{Answer}
 use Rattle.session.specs.Sessions.{answer, isLive, numbered, nextOutgoing, orderRefusal, orderOf, orderOut}
 use Rattle.session.specs.Stages.{gateRefusal}
 use Rattle.session.specs.SessionLaws.{refuses, accepts}
-use Rattle.fields.specs.Sizes.{fixedSize, layoutSize, recordSize}
+use Rattle.block.specs.Sizes.{fixedSize, layoutSize, recordSize}
 
 -- ---- the record under its number
 

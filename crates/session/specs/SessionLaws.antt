@@ -12,8 +12,8 @@ use Rattle.wire.specs.Header.{typeOf}
 use Rattle.wire.specs.Frame.{frameRefusal, framed}
 use Rattle.orders.specs.Shapes as orderTypes
 use Rattle.orders.specs.Orders as orders
-use Rattle.logins.specs.declared.Record as sessionRecords
-use Rattle.logins.specs.Sessions as logins
+use Rattle.session_messages.specs.declared.Record as sessionRecords
+use Rattle.session_messages.specs.Sessions as logins
 use Rattle.messages.specs.Messages.{carries, isSession, ownRefusal, readRefusal}
 use Rattle.book.specs.declared.Book.{Book}
 use Rattle.book.specs.declared.Answer.{Answer as BookAnswer}

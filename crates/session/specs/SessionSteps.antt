@@ -22,8 +22,8 @@ use Rattle.numbers.specs.Numbers.{patched}
 use Rattle.wire.specs.Header.{typeOf}
 use Rattle.wire.specs.Frame.{framed}
 use Rattle.orders.specs.Shapes.{ofVenue}
-use Rattle.logins.specs.declared.Record.{Record}
-use Rattle.logins.specs.Sessions as logins
+use Rattle.session_messages.specs.declared.Record.{Record}
+use Rattle.session_messages.specs.Sessions as logins
 use Rattle.messages.specs.Messages.{readRefusal}
 use Rattle.book.specs.Books.{appendOf, appendBuffer, closeBuffer}
 use Rattle.session.specs.declared.Phase.{Phase}

@@ -8,13 +8,13 @@ use Rattle.refusals.specs.Names.{unknownType, noRoom, outOfPhase, numbersUsedUp
 use Rattle.numbers.specs.Numbers.{numberAt, patched}
 use Rattle.wire.specs.Header.{typeOf}
 use Rattle.wire.specs.Frame.{framed}
-use Rattle.fields.specs.Slots.{zeros}
+use Rattle.block.specs.Slots.{zeros}
 use Rattle.orders.specs.Shapes as orderTypes
 use Rattle.orders.specs.declared.Record as orderRecords
 use Rattle.orders.specs.Orders as orders
-use Rattle.records.specs.Records.{recordAt}
-use Rattle.logins.specs.declared.Record as sessionRecords
-use Rattle.logins.specs.Sessions as logins
+use Rattle.order_records.specs.Records.{recordAt}
+use Rattle.session_messages.specs.declared.Record as sessionRecords
+use Rattle.session_messages.specs.Sessions as logins
 use Rattle.messages.specs.Messages.{readRefusal}
 use Rattle.book.specs.declared.Book.{Book}
 use Rattle.book.specs.Books.{appendRefusal, appendedBy, appendBuffer, closeOf, closeBuffer}
@@ -22,7 +22,7 @@ use Rattle.session.specs.declared.Phase.{Phase}
 use Rattle.session.specs.declared.Phase.the-variants.{Closed, Asked, Replaying, Live}
 use Rattle.session.specs.declared.Session.{Session}
 use Rattle.session.specs.declared.Answer.{Answer}
-use Rattle.fields.specs.Sizes.{recordSize}
+use Rattle.block.specs.Sizes.{recordSize}
 
 -- one of two, by a test
 abbrev pub pickSession : Bool → Session → Session → Session

@@ -13,7 +13,7 @@ use Rattle.session.specs.declared.Phase.the-variants.{Live}
 use Rattle.session.specs.declared.Session.{Session}
 use Rattle.session.specs.declared.Answer.{Answer}
 use Rattle.session.specs.Sessions.{pickSession, answer, inPhase, withBook, isLive, endedBy, respondedBy, respondedBuffer, statusIn, receivedIn}
-use Rattle.fields.specs.Sizes.{recordSize}
+use Rattle.block.specs.Sizes.{recordSize}
 
 -- what appending answered, told of the session
 abbrev pub bookedAs : Session → BookAnswer → Answer

@@ -16,8 +16,8 @@ use native.Mathlib.Omega.{arith}
 use lib.Dec.{eqb}
 use lib.ListN.{length}
 use borrow.Author.Tests.{ne-eqb, eq-eqb}
-use Rattle.logins.specs.declared.Record.{Record}
-use Rattle.logins.specs.Sessions as logins
+use Rattle.session_messages.specs.declared.Record.{Record}
+use Rattle.session_messages.specs.Sessions as logins
 use Rattle.book.specs.Books.{pickBook, roomless, marked, appendRefusal, appendBuffer, closeOf}
 use Rattle.session.specs.declared.Phase.the-variants.{Closed, Asked}
 use Rattle.session.specs.declared.Session.{Session}

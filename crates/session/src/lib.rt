@@ -9,15 +9,15 @@ ghost use Rattle.wire.specs.Header.{typeOf};
 ghost use Rattle.wire.specs.Frame.{framed};
 ghost use Rattle.orders.specs.Shapes.{ofVenue};
 ghost use Rattle.orders.specs.Orders.{writeRefusal, writeBuffer};
-ghost use Rattle.login_requests.specs.LoginRequests.{loginRecord};
+ghost use Rattle.session_logins.specs.LoginRequests.{loginRecord};
 ghost use Rattle.messages.specs.Messages.{readRefusal};
 ghost use Rattle.book.specs.Books.{closeBuffer};
 ghost use Rattle.session.specs.Sessions.{closedWith, inPhase, isClosed, isOpen, endedBy, brokenBy, brokenBuffer, respondedBy, respondedBuffer, responseOf, responseBuffer, messageOf, messageBuffer, receiveOf, receiveBuffer, loginOf, loginOut, heartbeatOf, heartbeatOut, numbered, orderOf, orderOut};
 ghost use Rattle.session.specs.Stages.{bookedAs, gateRefusal, heardBy, heardBuffer};
-ghost use Rattle.fields.specs.Sizes.{recordSize};
+ghost use Rattle.block.specs.Sizes.{recordSize};
 use book::Book;
-use login_requests::Bitfields;
-use login_requests::Choice;
+use session_logins::Bitfields;
+use session_logins::Choice;
 use table::OutgoingNumber;
 
 // The phases: no session; a login sent and not yet answered; the venue replays; the venue has replayed.
@@ -57,8 +57,8 @@ fn write_numbered(given: &[u8], number: u32, out: &mut [u8]) -> u8
     requires { ⌜ recordSize ≤ length (now given) ⌝ }
     ensures { λ r. ⌜ (r ≡ writeRefusal (numbered (now (given .entry)) number) (length (now (out .entry)))) × (now (out .exit) ≡ writeBuffer (numbered (now (given .entry)) number) (now (out .entry))) ⌝ }
 {
-    let mut scratch = [0u8; fields::RECORD];
-    fields::copy(&given[0..fields::RECORD], &mut scratch);
+    let mut scratch = [0u8; block::RECORD];
+    block::copy(&given[0..block::RECORD], &mut scratch);
     numbers::write_u32(&mut scratch, 2, number);
     order_writer::write_order(&scratch, out)
 }
@@ -258,7 +258,7 @@ impl Session {
         if phases::is_closed(phase) {
             let book = self.book;
             let table = book.table;
-            let refusal = login_requests::write_login(
+            let refusal = session_logins::write_login(
                 table,
                 choice,
                 names,
@@ -291,7 +291,7 @@ impl Session {
         let phase = self.phase;
         if phases::is_open(phase) {
             let body = [0u8; 433];
-            let refusal = logins::write_body(0x03, 0, 0, &body, out);
+            let refusal = session_messages::write_body(0x03, 0, 0, &body, out);
             return Answer {
                 refusal: refusal,
                 session: self,
@@ -314,7 +314,7 @@ impl Session {
         if self.outgoing.0 == 4294967295 {
             return refusals::NUMBERS_USED_UP;
         }
-        if given.len() < fields::RECORD {
+        if given.len() < block::RECORD {
             return refusals::NO_ROOM;
         }
         if !orders::of_member(given[0]) {

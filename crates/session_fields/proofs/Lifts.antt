@@ -11,8 +11,8 @@ use lib.Seq.{length-take-le}
 use borrow.Author.Tests.{le-leb, lt-leb, leb-true}
 use Rattle.numbers.specs.Numbers.{patched}
 use Rattle.numbers.specs.NumberLaws.{patched-part}
-use Rattle.fields.specs.Slots.{zeros}
-use Rattle.fields.specs.SlotLaws.{put-in-zeros, both-true}
+use Rattle.block.specs.Slots.{zeros}
+use Rattle.block.specs.SlotLaws.{put-in-zeros, both-true}
 use Rattle.session_fields.specs.SessionFields.{liftedOf, frontOf, hasBits, bitsIn}
 
 module _ (at : ℕ) (s to : List ℕ) where

@@ -11,9 +11,9 @@ use lib.ListN.{length, getD, take, drop}
 use Rattle.numbers.specs.Numbers.{numberAt}
 use lib.Seq.{getD-drop}
 use borrow.Author.Tests.{eqb-true}
-use Rattle.groups.specs.Groups.{free, groupKey, sizeBy, listGood, groupSize, nextSize}
-use Rattle.fields.specs.Slots.{zeros}
-use Rattle.logins.specs.declared.Record.{Record}
+use Rattle.session_groups.specs.Groups.{free, groupKey, sizeBy, listGood, groupSize, nextSize}
+use Rattle.block.specs.Slots.{zeros}
+use Rattle.session_messages.specs.declared.Record.{Record}
 use Rattle.session_fields.specs.SessionFields.{isOf, byteIn, pairIn, listedIn, groupIs, groupFrom, requestGroup, responseGroup, responseCount}
 use Rattle.session_fields.specs.SessionFields.{groupFlag, hasEntry, groupPair, listedFrom, listedAt, groupListed, hasBits, bitsIn, groupBits, settingOf}
 use Rattle.session_fields.specs.SessionFieldLaws.{Part, byte-stays, same-bytes, same-type, set-length}

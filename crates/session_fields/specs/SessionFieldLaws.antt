@@ -11,8 +11,8 @@ use lib.Seq.{length-take-le, getD-at, getD-take, getD-drop, ext-getD}
 use borrow.Author.Tests.{eq-eqb}
 use Rattle.numbers.specs.Numbers.{numberAt, bytesOf, patched, putBuffer}
 use Rattle.numbers.specs.NumberLaws.{put-is-there, read-of-written, put-stores, patched-length, patched-before, patched-after, number-before, number-beyond}
-use Rattle.fields.specs.Slots.{zeros}
-use Rattle.logins.specs.declared.Record.{Record}
+use Rattle.block.specs.Slots.{zeros}
+use Rattle.session_messages.specs.declared.Record.{Record}
 use Rattle.session_fields.specs.SessionFields.{isOf, bytesIn, byteIn, outgoingIn}
 use Rattle.session_fields.specs.SessionFields.{byteOf, outgoingOf, hasPair, pairOf, text1Of, text4Of, text10Of, text60Of, choose, storing, settingOf}
 

@@ -6,8 +6,8 @@ use mathlib.Core.List.{List, _++_}
 use lib.Dec.{leb, ltb, eqb}
 use lib.ListN.{length, getD, take, drop}
 use Rattle.numbers.specs.Numbers.{numberAt, patched, putBuffer}
-use Rattle.fields.specs.Slots.{zeros}
-use Rattle.logins.specs.declared.Record.{Record}
+use Rattle.block.specs.Slots.{zeros}
+use Rattle.session_messages.specs.declared.Record.{Record}
 use Rattle.session_fields.specs.declared.BitsField.{BitsField}
 use Rattle.session_fields.specs.declared.ByteField.{ByteField}
 use Rattle.session_fields.specs.declared.ListedField.{ListedField}

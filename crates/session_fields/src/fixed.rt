@@ -6,7 +6,7 @@ use crate::Text1;
 use crate::Text4;
 use crate::Text10;
 use crate::Text60;
-use logins::Record;
+use session_messages::Record;
 
 // As many bytes of s from a place on as the buffer has; where there are fewer, the buffer stays as it is.
 fn lift(s: &[u8], at: usize, to: &mut [u8])
@@ -19,7 +19,7 @@ fn lift(s: &[u8], at: usize, to: &mut [u8])
         return;
     }
     let n = at + to.len();
-    fields::copy(&s[at..n], to);
+    block::copy(&s[at..n], to);
 }
 
 // The byte at a place of a message of the type.

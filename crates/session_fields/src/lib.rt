@@ -11,7 +11,7 @@ ghost use mathlib.Core.List.{[], _∷_};
 ghost use Rattle.numbers.specs.Numbers.{bytesOf, putBuffer};
 ghost use Rattle.session_fields.specs.SessionFields.{outgoingOf, pairIn, hasPair, pairOf, storing, settingOf};
 ghost use Rattle.session_fields.specs.SessionFields.{groupIs, groupFrom, requestGroup, responseGroup, groupFlag, hasEntry, groupPair, listedFrom, listedAt, listedIn, groupListed, responseGroups, frontOf, hasBits, groupBits};
-use logins::Record;
+use session_messages::Record;
 use table::OutgoingNumber;
 use table::Unit;
 use table::UnitNumber;
@@ -310,7 +310,7 @@ fn lift_front(n: usize, at: usize, s: &[u8], to: &mut [u8])
     if to.len() < n {
         return;
     }
-    fields::copy(&s[at..at + n], to);
+    block::copy(&s[at..at + n], to);
 }
 
 // Whether a group of bitfields, by its place and one, has up to 15 of them, all within the body.
@@ -359,7 +359,7 @@ fn put_at(to: &mut [u8], at: usize, bytes: &[u8])
     if to.len() - at < bytes.len() {
         return;
     }
-    fields::copy(bytes, &mut to[at..]);
+    block::copy(bytes, &mut to[at..]);
 }
 
 // The record with bytes in its body.

@@ -8,7 +8,7 @@ use crate::ListedField;
 use crate::PairField;
 use crate::Text4;
 use crate::Text10;
-use logins::Record;
+use session_messages::Record;
 use table::Unit;
 
 // SessionSubID.

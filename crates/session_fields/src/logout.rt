@@ -7,7 +7,7 @@ use crate::OutgoingField;
 use crate::PairField;
 use crate::Text1;
 use crate::Text60;
-use logins::Record;
+use session_messages::Record;
 use table::OutgoingNumber;
 
 // LogoutReason.

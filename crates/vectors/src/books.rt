@@ -5,7 +5,7 @@ use crate::answers;
 use asking::words;
 use asking::writing;
 use book::Book;
-use lines::Line;
+use book_lines::Line;
 use table::Unit;
 
 // `open DATE BYTES`: the refusal and the buffer after the call.
@@ -40,7 +40,7 @@ pub fn restart(line: &[u8], bytes: &mut [u8]) -> bool {
 
 // The answer to `restart` of a book.
 fn restarted(date: u32, s: &[u8]) {
-    let answer = restart::restart(date, s);
+    let answer = book_restart::restart(date, s);
     writing::decimal(answer.refusal as u64);
     if answer.refusal == 0 {
         writing::next_decimal(answer.book.length as u64);
@@ -102,7 +102,7 @@ pub fn append(line: &[u8], bytes: &mut [u8]) -> bool {
 fn appended(date: u32, n: usize, message: &[u8], buffer: &mut [u8])
     requires { ⌜ n ≤ length (now buffer) ⌝ }
 {
-    let from = restart::restart(date, &buffer[0..n]);
+    let from = book_restart::restart(date, &buffer[0..n]);
     writing::decimal(from.refusal as u64);
     if from.refusal == 0 {
         let answer = from.book.append(message, buffer);
@@ -135,7 +135,7 @@ pub fn close(line: &[u8]) -> bool {
 fn closed(date: u32, n: usize, buffer: &mut [u8])
     requires { ⌜ n ≤ length (now buffer) ⌝ }
 {
-    let from = restart::restart(date, &buffer[0..n]);
+    let from = book_restart::restart(date, &buffer[0..n]);
     writing::decimal(from.refusal as u64);
     if from.refusal == 0 {
         let after = from.book.close(buffer);
@@ -158,11 +158,11 @@ pub fn list(line: &[u8], bytes: &mut [u8]) -> bool {
 
 // The answer to `list` of a book. A proved loop has to end, so it counts its lines down from more than a question's book has.
 fn listed(s: &[u8]) {
-    let mut at = listing::start();
+    let mut at = book_listing::start();
     let mut pos: usize = 0;
     let mut lines: u32 = 8192;
     while lines > 0 {
-        let stepped = listing::step(at, rest(s, pos), true);
+        let stepped = book_listing::step(at, rest(s, pos), true);
         listed_line(stepped.line, lines == 8192);
         pos = next_place(pos, stepped.taken, s.len());
         let next = stepped.listing;

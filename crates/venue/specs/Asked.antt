@@ -14,13 +14,13 @@ use Rattle.numbers.specs.Numbers.{numberAt, bytesOf}
 use Rattle.numbers.specs.NumberLaws.{number-back, number-after}
 use Rattle.wire.specs.Header.{typeOf}
 use Rattle.wire.specs.HeaderLaws.{Bytes}
-use Rattle.fields.specs.Slots.{zeros}
+use Rattle.block.specs.Slots.{zeros}
 use Rattle.table.specs.Table.{lastOf}
-use Rattle.groups.specs.Values.{Pair, pairBytes, pairsBytes, NumbersFit, Group, groupBytes, groupsBytes, EachInOrder}
-use Rattle.groups.specs.Values.Group.{units, bits}
-use Rattle.groups.specs.GroupLaws.{at-front}
-use Rattle.groups.specs.ValueLaws.{GroupsValue, groups-are-a-value}
-use Rattle.logins.specs.Sessions.{readRefusal, bodyOf, recordOf}
+use Rattle.session_groups.specs.Values.{Pair, pairBytes, pairsBytes, NumbersFit, Group, groupBytes, groupsBytes, EachInOrder}
+use Rattle.session_groups.specs.Values.Group.{units, bits}
+use Rattle.session_groups.specs.GroupLaws.{at-front}
+use Rattle.session_groups.specs.ValueLaws.{GroupsValue, groups-are-a-value}
+use Rattle.session_messages.specs.Sessions.{readRefusal, bodyOf, recordOf}
 use Rattle.session_fields.specs.SessionFields.{groupFrom, requestGroup, groupFlag, listedFrom, listedAt, groupListed}
 use Rattle.venue.specs.Venues.{thresholdOf, thresholdsOf}
 use Rattle.venue.specs.Responses.{login-long, login-short, groups-end}

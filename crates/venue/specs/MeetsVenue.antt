@@ -1,8 +1,8 @@
 -- The bench venue is such a venue as demand 3 speaks of. Assumes nothing.
 use mathlib.Core.List.{map, [], _∷_}
 use mathlib.Core.Path.{refl, ap, _∙_}
-use Rattle.day.specs.Halves.{MeetsVenue}
-use Rattle.line.specs.Lines.{ourLine, says}
+use Rattle.day_model.specs.Halves.{MeetsVenue}
+use Rattle.day_line.specs.Lines.{ourLine, says}
 use Rattle.venue.specs.VenueDay.{ourVenue}
 use Rattle.venue.specs.VenueView.{viewV, GoodV}
 use Rattle.venue.specs.VenueCalls.{empty-good, empty-is, hears-good, hears-is, stop-good, stop-is}

@@ -23,9 +23,9 @@ use Rattle.wire.specs.Frame.{notBA, startsBad, lengthBad, cutShort, frameRefusa
 use Rattle.wire.specs.FrameLaws.{refused-is-empty}
 use Rattle.orders.specs.Shapes as orderTypes
 use Rattle.orders.specs.Orders as orders
-use Rattle.logins.specs.Sessions as logins
-use Rattle.logins.specs.SessionLaws.{header-alone}
-use Rattle.logins.specs.SessionTrip.{read-accepts, framed-after, framed-as-written}
+use Rattle.session_messages.specs.Sessions as logins
+use Rattle.session_messages.specs.SessionLaws.{header-alone}
+use Rattle.session_messages.specs.SessionTrip.{read-accepts, framed-after, framed-as-written}
 use Rattle.messages.specs.Messages as messages
 use Rattle.venue.specs.declared.Venue.{Venue}
 use Rattle.venue.specs.Venues.{loginReadRefusal, responseRecord, loginRefusal, held, placeOf, tellsAt, completeBytes, bytesAt, nextBytes}

@@ -13,18 +13,18 @@ use borrow.Author.Tests.{ne-eqb, eqb-true, lt-ltb, le-ltb, le-leb, ltb-true}
 use Rattle.kinds.specs.Kinds.{allNul}
 use Rattle.numbers.specs.Numbers.{numberAt}
 use Rattle.wire.specs.Header.{headerBytes, typeOf}
-use Rattle.fields.specs.Slots.{zeros}
-use Rattle.fields.specs.SlotLaws.{length-zeros, zeros-are-nul}
+use Rattle.block.specs.Slots.{zeros}
+use Rattle.block.specs.SlotLaws.{length-zeros, zeros-are-nul}
 use Rattle.table.specs.declared.Table.{Table}
-use Rattle.groups.specs.Groups.{unitsFrom, pairsGood, keyOf, groupKey, nextSize, mark, groupsFrom, groupsEnd}
-use Rattle.groups.specs.GroupLaws.{first-of, taken-of, groups-steady}
-use Rattle.groups.specs.Values.{pairsBytes}
-use Rattle.logins.specs.declared.Record.{Record}
-use Rattle.logins.specs.Sessions.{fixedSize, flagGood, valuesGood, after, responseEnd, listsEnd, bodyEnd, sizeOf, readRefusal, bodyOf, recordOf, writeRefusal, recordRefusal, sessionBytes}
-use Rattle.logins.specs.SessionLaws.{After, after-of, body-steady, good}
-use Rattle.logins.specs.SessionTrip.{Sound}
-use Rattle.login_requests.specs.LoginRequests.{upFrom, pairsFor, padded}
-use Rattle.login_requests.specs.LoginRequestLaws.{pairs-size}
+use Rattle.session_groups.specs.Groups.{unitsFrom, pairsGood, keyOf, groupKey, nextSize, mark, groupsFrom, groupsEnd}
+use Rattle.session_groups.specs.GroupLaws.{first-of, taken-of, groups-steady}
+use Rattle.session_groups.specs.Values.{pairsBytes}
+use Rattle.session_messages.specs.declared.Record.{Record}
+use Rattle.session_messages.specs.Sessions.{fixedSize, flagGood, valuesGood, after, responseEnd, listsEnd, bodyEnd, sizeOf, readRefusal, bodyOf, recordOf, writeRefusal, recordRefusal, sessionBytes}
+use Rattle.session_messages.specs.SessionLaws.{After, after-of, body-steady, good}
+use Rattle.session_messages.specs.SessionTrip.{Sound}
+use Rattle.session_logins.specs.LoginRequests.{upFrom, pairsFor, padded}
+use Rattle.session_logins.specs.LoginRequestLaws.{pairs-size}
 use Rattle.session_fields.specs.SessionFields.{groupIs, groupFrom, requestGroup, groupFlag}
 use Rattle.session_fields.specs.GroupFieldLaws.{same-step}
 use Rattle.venue.specs.declared.Venue.{Venue}

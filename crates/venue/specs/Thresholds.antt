@@ -16,22 +16,22 @@ use lib.Seq.{getD-at, getD-append-add}
 use borrow.Author.Tests.{eq-eqb, ne-eqb, eqb-true, eqb-false, lt-ltb}
 use Rattle.numbers.specs.Numbers.{numberAt, bytesOf}
 use Rattle.numbers.specs.NumberLaws.{number-back, number-after}
-use Rattle.fields.specs.Slots.{zeros}
-use Rattle.fields.specs.SlotLaws.{length-zeros}
+use Rattle.block.specs.Slots.{zeros}
+use Rattle.block.specs.SlotLaws.{length-zeros}
 use Rattle.table.specs.declared.Entry.{Entry}
 use Rattle.table.specs.declared.Table.{Table}
 use Rattle.table.specs.Table.{unitRefusal, entryAt, blankEntry, lastOf}
 use Rattle.table.specs.TableLaws.{unit-in-range, unit-taken, entry-is, no-entry}
-use Rattle.groups.specs.Values.{pairsBytes, groupBytes}
-use Rattle.groups.specs.Values.Group.{units}
-use Rattle.groups.specs.FullList.{listed}
-use Rattle.logins.specs.declared.Record.{Record}
-use Rattle.logins.specs.Sessions.{recordOf, recordRefusal, sessionBytes}
-use Rattle.logins.specs.SessionTrip.{Sound, read-again}
-use Rattle.login_requests.specs.declared.Choice.{Choice}
-use Rattle.login_requests.specs.declared.Bitfields.{Bitfields}
-use Rattle.login_requests.specs.LoginRequests.{upFrom, choiceOf, one, bitsPart, saidOf, padded, loginRecord}
-use Rattle.login_requests.specs.LoginRequestLaws.{default-lists-all, said-most}
+use Rattle.session_groups.specs.Values.{pairsBytes, groupBytes}
+use Rattle.session_groups.specs.Values.Group.{units}
+use Rattle.session_groups.specs.FullList.{listed}
+use Rattle.session_messages.specs.declared.Record.{Record}
+use Rattle.session_messages.specs.Sessions.{recordOf, recordRefusal, sessionBytes}
+use Rattle.session_messages.specs.SessionTrip.{Sound, read-again}
+use Rattle.session_logins.specs.declared.Choice.{Choice}
+use Rattle.session_logins.specs.declared.Bitfields.{Bitfields}
+use Rattle.session_logins.specs.LoginRequests.{upFrom, choiceOf, one, bitsPart, saidOf, padded, loginRecord}
+use Rattle.session_logins.specs.LoginRequestLaws.{default-lists-all, said-most}
 use Rattle.session_fields.specs.SessionFields.{groupFrom, requestGroup, groupFlag, listedFrom, groupListed}
 use Rattle.venue.specs.Venues.{unitsAt, thresholdOf, entriesFor, thresholdsOf}
 use Rattle.venue.specs.LoginLaws.{listed-number, none-wanted, all-wanted}

@@ -8,17 +8,17 @@ use Rattle.wire.specs.Header.{headerBytes, lengthOf, totalOf, numberOf}
 use Rattle.wire.specs.Frame.{notBA, startsBad, lengthBad, cutShort, frameRefusal, framed}
 use Rattle.table.specs.Table.{unitRefusal, entryRefusal, entryOf, zeroTable, raisedTable, stepRefusal}
 use Rattle.dictionary.specs.Dictionary as dictionary
-use Rattle.fields.specs.Slots.{zeros}
-use Rattle.fields.specs.Places.{selectedAt, entryAt, slotsFrom, hasRequired}
+use Rattle.block.specs.Slots.{zeros}
+use Rattle.block.specs.Places.{selectedAt, entryAt, slotsFrom, hasRequired}
 use Rattle.orders.specs.Shapes.{countAt, mostOf, unitGood, fixedGood}
 use Rattle.orders.specs.Orders as orders
-use Rattle.groups.specs.Groups as groups
-use Rattle.logins.specs.Sessions as logins
-use Rattle.login_requests.specs.declared.Bitfields.{Bitfields}
-use Rattle.login_requests.specs.LoginRequests.{choiceOf, unitsPart, bitsPart, groupCount, loginRecord}
+use Rattle.session_groups.specs.Groups as groups
+use Rattle.session_messages.specs.Sessions as logins
+use Rattle.session_logins.specs.declared.Bitfields.{Bitfields}
+use Rattle.session_logins.specs.LoginRequests.{choiceOf, unitsPart, bitsPart, groupCount, loginRecord}
 use Rattle.session_fields.specs.SessionFields.{groupFrom, requestGroup, groupFlag, listedFrom, groupListed}
 use Rattle.book.specs.Books.{roomless, messageRefusal, nextRefusal, appendRefusal, appendedBy, appendOf, appendBuffer}
-use Rattle.day.specs.Story.{Bytes}
+use Rattle.day_model.specs.Story.{Bytes}
 use Rattle.venue.specs.Venues.{logOf, logBuffer, sendOf, sendOut, loginReadRefusal, thresholdOf, thresholdsOf, responseRecord, loginRefusal, loginOf, passing, seek, placeOf, tellsAt, completeBytes, bytesAt, afterAt, stepOf, stepOut}
 use Rattle.venue.specs.VenueDay.{Bench, empty, adds, takesLogin, stepTo, stepSends}
 

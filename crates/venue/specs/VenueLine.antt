@@ -10,17 +10,17 @@ use borrow.Author.Tests.{eqb-true, eqb-false}
 use Rattle.wire.specs.Header.{typeOf, lengthOf, numberOf, totalOf}
 use Rattle.wire.specs.Frame.{notBA, startsBad, lengthBad, cutShort, frameRefusal, framed}
 use Rattle.wire.specs.FrameLaws.{framed-accepted, framed-again}
-use Rattle.fields.specs.SlotLaws.{both-true}
+use Rattle.block.specs.SlotLaws.{both-true}
 use Rattle.orders.specs.Shapes.{ofVenue}
 use Rattle.orders.specs.Orders as orders
-use Rattle.logins.specs.Sessions as sessions
+use Rattle.session_messages.specs.Sessions as sessions
 use Rattle.messages.specs.Messages.{isSession, carries, ownRefusal, readRefusal}
 use Rattle.messages.specs.MessageLaws.{own-refusal}
 use Rattle.book.specs.Books.{messageRefusal}
 use Rattle.book.specs.BookLaws.{frames}
-use Rattle.day.specs.Model.{message, complete, heartbeat, logout}
-use Rattle.day.specs.Story.{Bytes}
-use Rattle.line.specs.Lines.{msgOf, says, Fine}
+use Rattle.day_model.specs.Model.{message, complete, heartbeat, logout}
+use Rattle.day_model.specs.Story.{Bytes}
+use Rattle.day_line.specs.Lines.{msgOf, says, Fine}
 use Rattle.venue.specs.Venues.{completeBytes}
 use Rattle.venue.specs.VenueDay.{beat, isBye}
 use Rattle.venue.specs.VenueView.{Wholly}

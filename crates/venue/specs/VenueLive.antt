@@ -9,11 +9,11 @@ use mathlib.Core.Bool.{Bool, true, false}
 use lib.ListN.{length, getD}
 use lib.Dec.{eqb}
 use borrow.Author.Tests.{eqb-true, eqb-false}
-use Rattle.day.specs.Model.{Msg, none-msg, above, complete, Venue, passes, moved}
-use Rattle.day.specs.Steps.{Stepped, docStep, move-tells, move-passes}
-use Rattle.day.specs.Story.{Bytes}
-use Rattle.day.specs.Halves.{Line, VenueCode, MeetsVenue}
-use Rattle.line.specs.Lines.{ourLine, msgOf}
+use Rattle.day_model.specs.Model.{Msg, none-msg, above, complete, Venue, passes, moved}
+use Rattle.day_model.specs.Steps.{Stepped, docStep, move-tells, move-passes}
+use Rattle.day_model.specs.Story.{Bytes}
+use Rattle.day_model.specs.Halves.{Line, VenueCode, MeetsVenue}
+use Rattle.day_line.specs.Lines.{ourLine, msgOf}
 use Rattle.venue.specs.VenueDay.{Bench, ourVenue, accepts, takesLogin, messagesIn}
 use Rattle.venue.specs.VenueView.{GoodV}
 use Rattle.venue.specs.VenueRuns.{map-long}

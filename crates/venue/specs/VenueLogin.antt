@@ -14,16 +14,16 @@ use Rattle.table.specs.declared.Entry.{Entry}
 use Rattle.table.specs.declared.Table as table
 use Rattle.table.specs.Table.{unitRefusal, entryAt, lastOf}
 use Rattle.table.specs.TableLaws.{unit-in-range, entry-is, no-entry}
-use Rattle.logins.specs.declared.Record.{Record}
-use Rattle.logins.specs.Sessions as logins
-use Rattle.logins.specs.SessionTrip.{Sound, read-accepts, framed-after, framed-as-written}
-use Rattle.login_requests.specs.LoginRequests.{upFrom, loginRecord}
+use Rattle.session_messages.specs.declared.Record.{Record}
+use Rattle.session_messages.specs.Sessions as logins
+use Rattle.session_messages.specs.SessionTrip.{Sound, read-accepts, framed-after, framed-as-written}
+use Rattle.session_logins.specs.LoginRequests.{upFrom, loginRecord}
 use Rattle.session_fields.specs.declared.ListedField.{ListedField}
 use Rattle.session_fields.specs.SessionFields.{groupFlag, groupListed}
-use Rattle.day.specs.Model.{Msg, Table, count, Venue, took}
-use Rattle.day.specs.Story.{Bytes}
-use Rattle.line.specs.Lines.{msgOf, lists, loginOfTable, OurLogin}
-use Rattle.line.specs.OurLogins.{our-units-at, our-listed, body-long, our-record, our-lists}
+use Rattle.day_model.specs.Model.{Msg, Table, count, Venue, took}
+use Rattle.day_model.specs.Story.{Bytes}
+use Rattle.day_line.specs.Lines.{msgOf, lists, loginOfTable, OurLogin}
+use Rattle.day_line.specs.OurLogins.{our-units-at, our-listed, body-long, our-record, our-lists}
 use Rattle.venue.specs.declared.Answer.{Answer}
 use Rattle.venue.specs.Venues.{unitsAt, thresholdOf, entriesFor, thresholdsOf, loggedIn}
 use Rattle.venue.specs.VenueDay.{Bench, with, accepts, takesLogin}

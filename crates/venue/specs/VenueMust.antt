@@ -20,13 +20,13 @@ use Rattle.table.specs.Table.{unitRefusal, lastOf, stepRefusal}
 use Rattle.table.specs.TableLaws.{next-is-taken}
 use Rattle.book.specs.Books.{limit, roomless, messageRefusal, nextRefusal, appendRefusal}
 use Rattle.book.specs.BookLaws.{frames, by-count}
-use Rattle.logins.specs.declared.Record.{Record}
-use Rattle.logins.specs.Sessions as logins
+use Rattle.session_messages.specs.declared.Record.{Record}
+use Rattle.session_messages.specs.Sessions as logins
 use Rattle.session_fields.specs.SessionFields.{groupFlag, groupListed}
-use Rattle.day.specs.Model.{Msg, keep, ofUnit, count, above, Sent, Venue, passes, move, logged, nextInLog}
-use Rattle.day.specs.Steps.{Stepped, docStep, move-tells, move-passes}
-use Rattle.day.specs.Story.{Bytes}
-use Rattle.line.specs.Lines.{msgOf, says}
+use Rattle.day_model.specs.Model.{Msg, keep, ofUnit, count, above, Sent, Venue, passes, move, logged, nextInLog}
+use Rattle.day_model.specs.Steps.{Stepped, docStep, move-tells, move-passes}
+use Rattle.day_model.specs.Story.{Bytes}
+use Rattle.day_line.specs.Lines.{msgOf, says}
 use Rattle.venue.specs.Venues.{logBook, unitsAt, thresholdOf}
 use Rattle.venue.specs.VenueDay.{Bench, alone, adds, accepts, takesLogin, stepSends}
 use Rattle.venue.specs.VenueView.{viewV, GoodV}

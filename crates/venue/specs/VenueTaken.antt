@@ -13,21 +13,21 @@ use Rattle.refusals.specs.Names.{unknownType, outOfPhase}
 use Rattle.numbers.specs.Numbers.{patched}
 use Rattle.wire.specs.Header.{typeOf}
 use Rattle.wire.specs.Frame.{frameRefusal, framed}
-use Rattle.fields.specs.Slots.{zeros}
-use Rattle.fields.specs.SlotLaws.{length-zeros}
-use Rattle.groups.specs.Values.{pairsBytes}
+use Rattle.block.specs.Slots.{zeros}
+use Rattle.block.specs.SlotLaws.{length-zeros}
+use Rattle.session_groups.specs.Values.{pairsBytes}
 use Rattle.orders.specs.Orders as orders
-use Rattle.logins.specs.declared.Record.{Record}
-use Rattle.logins.specs.Sessions as logins
-use Rattle.logins.specs.SessionLaws.{Fit, fit, body-ends}
-use Rattle.logins.specs.SessionTrip.{Sound, bytes-length, read-accepts, framed-after, framed-as-written}
-use Rattle.login_requests.specs.LoginRequests.{upFrom, pairsFor}
-use Rattle.login_requests.specs.LoginRequestLaws.{pairs-size}
+use Rattle.session_messages.specs.declared.Record.{Record}
+use Rattle.session_messages.specs.Sessions as logins
+use Rattle.session_messages.specs.SessionLaws.{Fit, fit, body-ends}
+use Rattle.session_messages.specs.SessionTrip.{Sound, bytes-length, read-accepts, framed-after, framed-as-written}
+use Rattle.session_logins.specs.LoginRequests.{upFrom, pairsFor}
+use Rattle.session_logins.specs.LoginRequestLaws.{pairs-size}
 use Rattle.messages.specs.Messages.{carries, isSession, ownRefusal, readRefusal}
 use Rattle.messages.specs.MessageLaws.{own-refusal}
-use Rattle.day.specs.Model.{response}
-use Rattle.day.specs.Story.{Bytes}
-use Rattle.line.specs.Lines.{says, Fine}
+use Rattle.day_model.specs.Model.{response}
+use Rattle.day_model.specs.Story.{Bytes}
+use Rattle.day_line.specs.Lines.{says, Fine}
 use Rattle.venue.specs.declared.Venue as state
 use Rattle.venue.specs.declared.Answer.{Answer}
 use Rattle.venue.specs.Venues.{pickAnswer, refused, loginReadRefusal, saidOf, responseRecord, loggedIn, loginRefusal, loginOf, loginOut}

@@ -9,9 +9,9 @@ use Rattle.wire.specs.Frame.{framed}
 use Rattle.table.specs.declared.Table as table
 use Rattle.table.specs.Table.{lastOf}
 use Rattle.book.specs.Books.{limit, messageRefusal}
-use Rattle.day.specs.Model.{Msg, Table, count, Venue}
-use Rattle.day.specs.Story.{Bytes, All}
-use Rattle.line.specs.Lines.{msgOf}
+use Rattle.day_model.specs.Model.{Msg, Table, count, Venue}
+use Rattle.day_model.specs.Story.{Bytes, All}
+use Rattle.day_line.specs.Lines.{msgOf}
 use Rattle.venue.specs.declared.Venue as state
 use Rattle.venue.specs.VenueDay.{Bench, messagesIn}
 

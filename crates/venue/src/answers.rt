@@ -4,12 +4,12 @@ ghost use mathlib.Core.List.{_∷_};
 ghost use Prim.Native.Nat.{_+_, _≤_};
 ghost use lib.ListN.{length};
 ghost use Rattle.numbers.specs.Numbers.{patched};
-ghost use Rattle.groups.specs.Values.{pairsBytes};
-ghost use Rattle.login_requests.specs.LoginRequests.{upFrom, pairsFor};
+ghost use Rattle.session_groups.specs.Values.{pairsBytes};
+ghost use Rattle.session_logins.specs.LoginRequests.{upFrom, pairsFor};
 ghost use Rattle.venue.specs.Venues.{thresholdOf, thresholdsOf, acceptedText};
 ghost use Rattle.venue.specs.VenueStages.{listsPart, countedPart, answerPart, answerRecord};
 use crate::Venue;
-use logins::Record;
+use session_messages::Record;
 use table::Entry;
 use table::OutgoingNumber;
 use table::Table;
@@ -52,9 +52,9 @@ pub fn put_pairs(table: Table, tail: &mut [u8])
     requires { ⌜ 160 ≤ length (now tail) ⌝ }
     ensures { λ _. ⌜ now (tail .exit) ≡ patched (now (tail .entry)) 0 (pairsBytes (pairsFor table (upFrom 32 1))) ⌝ }
 {
-    let all = login_requests::all_units();
+    let all = session_logins::all_units();
     let units = all.units;
-    login_requests::put_pairs(table, &units, tail);
+    session_logins::put_pairs(table, &units, tail);
 }
 
 // The pairs, and the login's groups after them.
@@ -63,7 +63,7 @@ pub fn put_lists(table: Table, groups: &[u8], tail: &mut [u8])
     ensures { λ _. ⌜ now (tail .exit) ≡ patched (now (tail .entry)) 0 (listsPart table (now (groups .entry))) ⌝ }
 {
     put_pairs(table, tail);
-    fields::copy(groups, &mut tail[160..]);
+    block::copy(groups, &mut tail[160..]);
 }
 
 // The flag, the last number received, the count of pairs, and these.
@@ -83,8 +83,8 @@ pub fn put_status(tail: &mut [u8])
     ensures { λ _. ⌜ now (tail .exit) ≡ patched (now (tail .entry)) 0 (65 ∷ acceptedText) ⌝ }
 {
     let mut status = [0u8; 61];
-    fields::copy(b"AAccepted", &mut status);
-    fields::copy(&status, tail);
+    block::copy(b"AAccepted", &mut status);
+    block::copy(&status, tail);
 }
 
 // A Login Response's body into the front of a buffer.

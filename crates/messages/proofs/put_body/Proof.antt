@@ -1,7 +1,7 @@
 -- `messages::put_body` meets its contract: the body, and zeros in the tail after it. Assumes nothing.
 use Rattle.numbers.proofs.Tail.{puts-then}
-use Rattle.fields.specs.Slots.{zeros}
-use Rattle.fields.specs.SlotLaws.{length-zeros}
+use Rattle.block.specs.Slots.{zeros}
+use Rattle.block.specs.SlotLaws.{length-zeros}
 use Prim.Native.Nat.{_-_}
 use lib.ListN.{length}
 use denote.Ref.{now}

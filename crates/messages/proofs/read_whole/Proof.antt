@@ -1,9 +1,9 @@
 -- `messages::read_whole` meets its contract: framing's refusal, the type's, and then the message's own. Assumes nothing.
 use Rattle.wire.specs.Header.{typeOf}
 use Rattle.orders.specs.Orders as orders
-use Rattle.records.specs.Records.{recordBytes}
+use Rattle.order_records.specs.Records.{recordBytes}
 use Rattle.order_reader.specs.Stages.{readRecord}
-use Rattle.logins.specs.Sessions as sessions
+use Rattle.session_messages.specs.Sessions as sessions
 use Rattle.messages.specs.Messages.{isSession, carries, sessionRecordBytes}
 use Rattle.messages.specs.Stages.{ownRecord}
 use Rattle.messages.specs.MessageLaws.{frame-stops, type-stops, session-reads, order-reads}

@@ -1,6 +1,6 @@
 -- `messages::write_session` meets its contract: the parts given are those of the record of the bytes. Assumes nothing.
 use Rattle.messages.specs.Messages.{sessionAt}
-use Rattle.logins.specs.Sessions as sessions
+use Rattle.session_messages.specs.Sessions as sessions
 use Prim.Native.Nat.{ℕ}
 use lib.ListN.{length, getD, take, drop}
 use denote.Ref.{now}

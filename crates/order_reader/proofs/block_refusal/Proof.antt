@@ -1,12 +1,12 @@
 use Rattle.order_reader.proofs.Judging.{judged-is}
-use Rattle.judge.specs.Made.{judged-all}
+use Rattle.block_judge.specs.Made.{judged-all}
 use denote.Ref.{now}
 use borrow.Author.Needs.{needs}
 use Rattle.order_reader.proofs.block_refusal.Statement.{statement}
 use Rattle.order_reader.proofs.block_refusal.Tie as tie
 use Rattle.order_reader.proofs.block_refusal.Reads as reads
 use Rattle.order_reader.proofs.block_refusal.Lts as lts
-use Rattle.judge.proofs.judge_all.Reads as judge-all-reads
+use Rattle.block_judge.proofs.judge_all.Reads as judge-all-reads
 use Rattle.order_reader.proofs.judged.Reads as judged-reads
 
 -- src/lib.rt:221:9

@@ -5,8 +5,8 @@ use Rattle.order_reader.proofs.put_bits.Statement.{statement}
 use Rattle.order_reader.proofs.put_bits.Tie as tie
 use Rattle.order_reader.proofs.put_bits.Reads as reads
 use Rattle.order_reader.proofs.put_bits.Lts as lts
-use Rattle.fields.proofs.clear.Reads as clear-reads
-use Rattle.fields.proofs.copy.Reads as copy-reads
+use Rattle.block.proofs.clear.Reads as clear-reads
+use Rattle.block.proofs.copy.Reads as copy-reads
 
 -- src/lib.rt:126:5
 clear-requires : tie.Need-clear-requires

@@ -1,7 +1,7 @@
 -- `order_reader::put_block` meets its contract: the count, and in the tail after it the bitfields. Assumes nothing.
 use Rattle.numbers.proofs.Tail.{puts-then, tail-length, first-stored}
 use Rattle.numbers.specs.NumberLaws.{patched-length}
-use Rattle.fields.specs.Slots.{zeros}
+use Rattle.block.specs.Slots.{zeros}
 use Rattle.order_reader.proofs.Fronts.{pad-long}
 use mathlib.Core.Path.{refl, ap, _∙_}
 use mathlib.Core.List.{[], _∷_, _++_}

@@ -6,7 +6,7 @@ use denote.Ref.{now}
 use borrow.Author.Needs.{needs}
 use Rattle.order_reader.proofs.put_body.Statement.{statement}
 use Rattle.order_reader.proofs.put_body.Tie as tie
-use Rattle.fields.specs.Sizes.{fixedSize}
+use Rattle.block.specs.Sizes.{fixedSize}
 
 put-fixed-requires : tie.Need-put-fixed-requires
 put-fixed-requires c κs = search needs

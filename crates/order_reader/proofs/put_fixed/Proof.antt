@@ -1,6 +1,6 @@
 use Rattle.orders.specs.OrderLaws.{in-new-order, in-cancel-order, in-acknowledgment, in-others}
 use Rattle.numbers.specs.Numbers.{patched}
-use Rattle.fields.specs.Slots.{zeros}
+use Rattle.block.specs.Slots.{zeros}
 use native.Mathlib.Omega.{arith}
 use lib.ListN.{take, drop}
 use denote.Ref.{now}
@@ -13,7 +13,7 @@ use Rattle.order_reader.proofs.put_fixed.Tie as tie
 use Rattle.order_reader.proofs.put_fixed.Reads as reads
 use Rattle.order_reader.proofs.put_fixed.Lts as lts
 use Rattle.order_reader.proofs.put_up_to.Reads as put-up-to-reads
-use Rattle.fields.specs.Sizes.{fixedEnd}
+use Rattle.block.specs.Sizes.{fixedEnd}
 
 -- src/lib.rt:164:17
 put-up-to-requires : tie.Need-put-up-to-requires

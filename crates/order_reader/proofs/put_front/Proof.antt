@@ -1,7 +1,7 @@
 -- `order_reader::put_front` meets its contract: the head, and in the tail after it the fixed part, the count and the bitfields. Assumes nothing.
 use Rattle.numbers.proofs.Tail.{puts-then}
 use Rattle.numbers.specs.Numbers.{bytesOf, patched}
-use Rattle.fields.specs.Slots.{zeros}
+use Rattle.block.specs.Slots.{zeros}
 use Rattle.orders.specs.Shapes.{countAt}
 use Rattle.order_reader.specs.Stages.{frontBytes}
 use Rattle.order_reader.proofs.Fronts.{body-long}
@@ -14,7 +14,7 @@ use denote.Ref.{now}
 use borrow.Author.Needs.{needs}
 use Rattle.order_reader.proofs.put_front.Statement.{statement}
 use Rattle.order_reader.proofs.put_front.Tie as tie
-use Rattle.fields.specs.Sizes.{fixedEnd}
+use Rattle.block.specs.Sizes.{fixedEnd}
 
 unit-of-requires : tie.Need-unit-of-requires
 unit-of-requires c κs = search needs

@@ -2,8 +2,8 @@
 use Rattle.order_reader.proofs.InPlace.{lent-fits, lent-parts}
 use Rattle.order_reader.specs.Stages.{thereBytes}
 use Rattle.numbers.specs.Numbers.{patched}
-use Rattle.fields.specs.Slots.{takes, sum}
-use Rattle.fields.specs.Places.{slotsOf}
+use Rattle.block.specs.Slots.{takes, sum}
+use Rattle.block.specs.Places.{slotsOf}
 use Rattle.orders.specs.Orders.{layoutOf}
 use mathlib.Core.Path.{sym, _∙_}
 use mathlib.Core.List.{List}

@@ -1,6 +1,6 @@
 use Rattle.numbers.proofs.Tail.{puts-then}
-use Rattle.fields.specs.Slots.{zeros}
-use Rattle.fields.specs.SlotLaws.{length-zeros}
+use Rattle.block.specs.Slots.{zeros}
+use Rattle.block.specs.SlotLaws.{length-zeros}
 use mathlib.Core.Path.{_≡_}
 use Prim.Native.Nat.{_-_}
 use lib.ListN.{length, take, drop, length-drop}
@@ -12,9 +12,9 @@ use Rattle.order_reader.proofs.put_up_to.Statement.{statement}
 use Rattle.order_reader.proofs.put_up_to.Tie as tie
 use Rattle.order_reader.proofs.put_up_to.Reads as reads
 use Rattle.order_reader.proofs.put_up_to.Lts as lts
-use Rattle.fields.proofs.clear.Reads as clear-reads
-use Rattle.fields.proofs.move_field.Reads as move-field-reads
-use Rattle.fields.specs.Sizes.{fixedEnd}
+use Rattle.block.proofs.clear.Reads as clear-reads
+use Rattle.block.proofs.move_field.Reads as move-field-reads
+use Rattle.block.specs.Sizes.{fixedEnd}
 
 -- src/lib.rt:153:13
 sub-n : tie.Need-sub-n

@@ -11,7 +11,7 @@ use mathlib.Core.Path.{_≡_, sym, ap, _∙_}
 use borrow.Author.Needs.{needs}
 use Rattle.order_writer.proofs.fixed_blank.Statement.{statement}
 use Rattle.order_writer.proofs.fixed_blank.Tie as tie
-use Rattle.fields.specs.Sizes.{fixedSize}
+use Rattle.block.specs.Sizes.{fixedSize}
 
 -- all that stands from a place on, where the part's length is a literal
 rest-from : (a n : ℕ) (s : List ℕ) → length s ≡ a + n → take n (drop a s) ≡ drop a s

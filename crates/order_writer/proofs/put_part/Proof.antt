@@ -11,7 +11,7 @@ use mathlib.Core.Path.{_≡_, ap, _∙_}
 use borrow.Author.Needs.{needs}
 use Rattle.order_writer.proofs.put_part.Statement.{statement}
 use Rattle.order_writer.proofs.put_part.Tie as tie
-use Rattle.fields.specs.Sizes.{fixedSize}
+use Rattle.block.specs.Sizes.{fixedSize}
 
 -- the bytes of a fixed part are at most 59
 few : (c : tie.Start) → c .args .n ≤ fixedSize

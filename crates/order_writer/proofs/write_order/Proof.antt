@@ -1,5 +1,5 @@
 -- `order_writer::write_order` meets its contract: the parts given are those of the record of the bytes. Assumes nothing.
-use Rattle.records.specs.RecordLaws.{record-is}
+use Rattle.order_records.specs.RecordLaws.{record-is}
 use Rattle.orders.specs.Orders.{writeRefusal, writeBuffer}
 use Rattle.orders.specs.declared.Record.{Record}
 use denote.Ref.{now}

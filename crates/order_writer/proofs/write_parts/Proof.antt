@@ -4,7 +4,7 @@ use Rattle.order_writer.proofs.Writing.{count-fits, seen-stops, room-de
 use Rattle.refusals.specs.Names.{noRoom}
 use Rattle.numbers.specs.Numbers.{patched}
 use Rattle.numbers.specs.NumberLaws.{patched-whole}
-use Rattle.gather.specs.State.{looking, unseen, lookWalk}
+use Rattle.block_write.specs.State.{looking, unseen, lookWalk}
 use Rattle.orders.specs.Orders.{writeSlots, sizeOf, writeRefusal}
 use Rattle.orders.specs.OrderLaws.{count-bounds}
 use Rattle.orders.specs.declared.Record.{Record}
@@ -21,7 +21,7 @@ use mathlib.Core.Path.{_≡_, refl, sym, ap, _∙_}
 use borrow.Author.Needs.{needs}
 use Rattle.order_writer.proofs.write_parts.Statement.{statement}
 use Rattle.order_writer.proofs.write_parts.Tie as tie
-use Rattle.fields.specs.Sizes.{allPlaces, fixedEnd, layoutSize}
+use Rattle.block.specs.Sizes.{allPlaces, fixedEnd, layoutSize}
 
 -- a layout copied over zeros
 whole-layout : (v z : List ℕ) → length z ≡ layoutSize → length v ≡ layoutSize → patched z 0 (take layoutSize v) ≡ v

@@ -6,7 +6,7 @@ use native.Mathlib.Omega.{arith}
 use borrow.Author.Tests.{ne-eqb}
 use Rattle.orders.proofs.fixed_good.Statement.{statement}
 use Rattle.orders.proofs.fixed_good.Tie as tie
-use Rattle.fields.specs.Sizes.{fixedEnd}
+use Rattle.block.specs.Sizes.{fixedEnd}
 
 -- where the count of each type stands
 count-38 : (message : ℕ) → message ≡ 0x38 → countAt message ≡ 35

@@ -1,7 +1,7 @@
 -- `session::write_numbered` meets its contract. Assumes nothing.
 use Rattle.numbers.specs.NumberLaws.{patched-part}
 use Rattle.numbers.specs.Numbers.{bytesOf, putBuffer}
-use Rattle.records.specs.Records.{recordAt}
+use Rattle.order_records.specs.Records.{recordAt}
 use Rattle.orders.specs.declared.Record.{Record}
 use Rattle.orders.specs.Orders.{writeRefusal, writeBuffer}
 use Rattle.session.specs.OrderLaws.{numbered-is}
@@ -14,7 +14,7 @@ use mathlib.Core.List.{List}
 use borrow.Author.Needs.{needs}
 use Rattle.session.proofs.write_numbered.Statement.{statement}
 use Rattle.session.proofs.write_numbered.Tie as tie
-use Rattle.fields.specs.Sizes.{recordSize}
+use Rattle.block.specs.Sizes.{recordSize}
 
 sub-copy : tie.Need-sub-copy
 sub-copy c = search needs

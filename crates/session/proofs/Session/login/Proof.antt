@@ -1,5 +1,5 @@
 -- `session::Session::login` meets its contract. Assumes nothing.
-use Rattle.login_requests.specs.LoginRequests.{loginRecord}
+use Rattle.session_logins.specs.LoginRequests.{loginRecord}
 use Rattle.session.specs.SessionLaws.{login-refused, logs-in, no-login}
 use mathlib.Core.Path.{sym, _∙_}
 use denote.Ref.{now}

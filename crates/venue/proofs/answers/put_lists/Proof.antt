@@ -1,9 +1,9 @@
 -- `venue::answers::put_lists` meets its contract. Assumes nothing.
 use denote.Ref.{now}
 use Rattle.numbers.proofs.Tail.{puts-then}
-use Rattle.groups.specs.Values.{pairsBytes}
-use Rattle.login_requests.specs.LoginRequests.{upFrom, pairsFor}
-use Rattle.login_requests.specs.LoginRequestLaws.{pairs-size}
+use Rattle.session_groups.specs.Values.{pairsBytes}
+use Rattle.session_logins.specs.LoginRequests.{upFrom, pairsFor}
+use Rattle.session_logins.specs.LoginRequestLaws.{pairs-size}
 use borrow.Author.Needs.{needs}
 use Rattle.venue.proofs.answers.put_lists.Statement.{statement}
 use Rattle.venue.proofs.answers.put_lists.Tie as tie

@@ -5,9 +5,9 @@ use borrow.Author.Needs.{needs}
 use lib.ListN.{length}
 use denote.Ref.{now}
 use Rattle.numbers.specs.Numbers.{patched}
-use Rattle.groups.specs.Values.{pairsBytes}
-use Rattle.login_requests.specs.LoginRequests.{pairsFor}
-use Rattle.login_requests.specs.declared.Choice.{Choice}
+use Rattle.session_groups.specs.Values.{pairsBytes}
+use Rattle.session_logins.specs.LoginRequests.{pairsFor}
+use Rattle.session_logins.specs.declared.Choice.{Choice}
 use Rattle.venue.proofs.answers.put_pairs.Statement.{statement}
 use Rattle.venue.proofs.answers.put_pairs.Tie as tie
 

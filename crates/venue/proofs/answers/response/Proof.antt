@@ -3,8 +3,8 @@ use mathlib.Core.Path.{ap, _∙_}
 use Prim.Native.Nat.{ℕ}
 use mathlib.Core.List.{List}
 use denote.Ref.{now}
-use Rattle.login_requests.specs.LoginRequests.{padded}
-use Rattle.login_requests.proofs.Parts.{padded-is}
+use Rattle.session_logins.specs.LoginRequests.{padded}
+use Rattle.session_logins.proofs.Parts.{padded-is}
 use Rattle.session_fields.specs.declared.ByteField.{ByteField}
 use Rattle.venue.specs.VenueStages.{answerPart}
 use borrow.Author.Needs.{needs}

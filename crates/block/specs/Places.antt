@@ -1,0 +1,39 @@
+-- The slots of a message with its bitfields. Definitions alone. Assumes nothing.
+use Prim.Native.Nat.{ℕ, zero, suc, _+_, _/_, _%_, _^_}
+use mathlib.Core.Bool.{Bool, not, _&&_, _||_}
+use mathlib.Core.List.{List, [], _∷_}
+use lib.Dec.{ltb, eqb}
+use lib.ListN.{getD}
+use Rattle.dictionary.specs.declared.Entry.{Entry}
+use Rattle.dictionary.specs.Dictionary.{entryOf}
+use Rattle.block.specs.Slots.{Slot, slot}
+use Rattle.block.specs.Sizes.{allPlaces}
+
+-- whether a bit of a byte, counted from 0, is set
+abbrev pub bitSet : ℕ → ℕ → Bool
+bitSet x bit = eqb (x / 2 ^ bit % 2) 1
+
+-- 01: fields follow the bitfields, first byte first, lowest bit first. So place k of 120 is bit k % 8 of bitfield byte k / 8 + 1;
+-- only the first `count` bytes are bitfields
+unfoldable pub selectedAt : ℕ → List ℕ → ℕ → Bool
+selectedAt count bits k = ltb (k / 8) count && bitSet (getD bits (k / 8) 0) (k % 8)
+
+-- what the dictionary has for place k
+unfoldable pub entryAt : ℕ → ℕ → Entry
+entryAt message k = entryOf message (k / 8 + 1) (k % 8)
+
+-- n slots from place k on
+unfoldable pub slotsFrom : (ℕ → Bool) → (ℕ → Entry) → ℕ → ℕ → List Slot
+slotsFrom selected entry zero k = []
+slotsFrom selected entry (suc n) k = slot (selected k) (entry k) ∷ slotsFrom selected entry n (suc k)
+
+-- all slots of a message with its bitfields
+abbrev pub slotsOf : ℕ → ℕ → List ℕ → List Slot
+slotsOf message count bits = slotsFrom (selectedAt count bits) (entryAt message) allPlaces 0
+
+-- 9: the required fields. New Order requires Symbol (byte 2, bit 1), Capacity (byte 2, bit 64), and Price or OrdType (byte 1, bits 4
+-- and 16); the other messages require none
+unfoldable pub hasRequired : ℕ → ℕ → List ℕ → Bool
+hasRequired message count bits =
+    not (eqb message 0x38)
+    || (selectedAt count bits 8 && (selectedAt count bits 14 && (selectedAt count bits 2 || selectedAt count bits 4)))

@@ -1,0 +1,101 @@
+// The optional block over any dictionary: its definitions and laws (specs/), and the moves of bytes that it needs.
+ghost use mathlib.Core.Path.{_≡_};
+ghost use Prim.Native.Nat.{_≤_, _<_};
+ghost use lib.ListN.{length, take};
+ghost use Rattle.numbers.specs.Numbers.{patched};
+ghost use Rattle.block.specs.Places.{selectedAt, hasRequired};
+ghost use Rattle.block.specs.Slots.{zeros};
+ghost use Rattle.block.specs.Sizes.{layoutSize};
+
+// The sizes of an order's record and of its parts: the fixed part, where the longest one ends in a message, the full layout, the record.
+pub const FIXED: usize = 59;
+
+pub const FIXED_END: usize = 69;
+
+pub const LAYOUT: usize = 154;
+
+pub const RECORD: usize = 235;
+
+// A field's bytes into the front of a lent tail, which has room for them.
+pub fn copy(from: &[u8], to: &mut [u8])
+    requires { ⌜ length (now from) ≤ length (now to) ⌝ }
+    ensures { λ _. ⌜ now (to .exit) ≡ patched (now (to .entry)) 0 (now (from .entry)) ⌝ }
+{
+    let mut i: usize = 0;
+    while i < from.len() {
+        to[i] = from[i];
+        i += 1;
+    }
+}
+
+// The first n bytes into the front of a lent tail.
+pub fn copy_front(from: &[u8], n: usize, to: &mut [u8])
+    requires { ⌜ (n ≤ length (now from)) × (n ≤ length (now to)) ⌝ }
+    ensures { λ _. ⌜ now (to .exit) ≡ patched (now (to .entry)) 0 (take n (now (from .entry))) ⌝ }
+{
+    copy(&from[0..n], to);
+}
+
+// A field's bytes into the front of a lent tail, through a local that overlaps neither: two moves where the width is known.
+pub fn move_field(from: &[u8], to: &mut [u8])
+    requires { ⌜ (length (now from) ≤ length (now to)) × (length (now from) ≤ layoutSize) ⌝ }
+    ensures { λ _. ⌜ now (to .exit) ≡ patched (now (to .entry)) 0 (now (from .entry)) ⌝ }
+{
+    let n = from.len();
+    let mut held = [0u8; LAYOUT];
+    copy(from, &mut held);
+    copy_front(&held, n, to);
+}
+
+// A full layout into the front of a lent tail, in two parts that each are a few moves.
+pub fn copy_layout(from: &[u8], to: &mut [u8])
+    requires { ⌜ (length (now from) ≡ layoutSize) × (layoutSize ≤ length (now to)) ⌝ }
+    ensures { λ _. ⌜ now (to .exit) ≡ patched (now (to .entry)) 0 (now (from .entry)) ⌝ }
+{
+    copy(&from[0..128], to);
+    copy(&from[128..LAYOUT], &mut to[128..]);
+}
+
+// Zeros into the front of a lent tail.
+pub fn clear(n: usize, to: &mut [u8])
+    requires { ⌜ n ≤ length (now to) ⌝ }
+    ensures { λ _. ⌜ now (to .exit) ≡ patched (now (to .entry)) 0 (zeros n) ⌝ }
+{
+    let mut i: usize = 0;
+    while i < n {
+        to[i] = 0;
+        i += 1;
+    }
+}
+
+// Whether place k of 120 is selected.
+fn is_selected(bits: &[u8], count: u8, k: u8) -> bool
+    requires { ⌜ count ≤ length (now bits) ⌝ }
+    ensures { λ r. ⌜ r ≡ selectedAt count (now (bits .entry)) k ⌝ }
+{
+    let j = k / 8;
+    if j < count {
+        let x = bits[j as usize];
+        return (x >> (k % 8)) % 2 == 1;
+    }
+    false
+}
+
+// Whether every required field is selected.
+pub fn has_required(message: u8, bits: &[u8], count: u8) -> bool
+    requires { ⌜ count ≤ length (now bits) ⌝ }
+    ensures { λ r. ⌜ r ≡ hasRequired message count (now (bits .entry)) ⌝ }
+{
+    if message != 0x38 {
+        return true;
+    }
+    if is_selected(bits, count, 8) {
+        if is_selected(bits, count, 14) {
+            if is_selected(bits, count, 2) {
+                return true;
+            }
+            return is_selected(bits, count, 4);
+        }
+    }
+    false
+}

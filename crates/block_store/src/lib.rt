@@ -1,0 +1,151 @@
+// Reading the optional block: a walk over the set bits that stores each field of a message in a record's full layout.
+ghost use mathlib.Core.Path.{_≡_};
+ghost use Prim.Native.Nat.{_+_, _*_, _%_, _≤_};
+ghost use lib.Dec.{eqb, leb};
+ghost use lib.ListN.{length, take};
+ghost use Rattle.numbers.specs.Numbers.{patched};
+ghost use Rattle.dictionary.specs.Dictionary.{entryOf};
+ghost use Rattle.block.specs.Walk.{pick, inByte, storeEntry};
+ghost use Rattle.block_store.specs.State.{storing, storeWalk};
+ghost use Rattle.block.specs.Sizes.{allPlaces, layoutSize};
+use dictionary::Entry;
+
+// The field reader: one field, which is the front of the tail of the message that is handed on, into its place of the layout. How many bytes it
+// took: none where the tail is too short.
+fn store_field(width: u8, place: u8, tail: &[u8], layout: &mut [u8]) -> usize
+    requires { ⌜ (place + width ≤ length (now layout)) × (place + width ≤ layoutSize) ⌝ }
+    ensures { λ r. ⌜ (r ≡ pick (leb width (length (now (tail .entry)))) width 0) × (now (layout .exit) ≡ pick (leb width (length (now (tail .entry)))) (patched (now (layout .entry)) place (take width (now (tail .entry)))) (now (layout .entry))) ⌝ }
+{
+    let w = width as usize;
+    let p = place as usize;
+    if tail.len() < w {
+        return 0;
+    }
+    block::move_field(&tail[0..w], &mut layout[p..]);
+    w
+}
+
+// One bit, the lowest of x: its field if it is set.
+fn store_bit(
+    message: u8,
+    byte: u8,
+    bit: u8,
+    x: u8,
+    msg: &[u8],
+    at: usize,
+    layout: &mut [u8],
+) -> usize
+    requires { ⌜ (length (now layout) ≡ layoutSize) × (at ≤ length (now msg)) ⌝ }
+    ensures { λ r. ⌜ (storing r (now (layout .exit)) ≡ pick (eqb (x % 2) 1) (storeEntry (now (msg .entry)) (entryOf message byte bit) (storing at (now (layout .entry)))) (storing at (now (layout .entry)))) × (r ≤ length (now (msg .entry))) ⌝ }
+{
+    if x % 2 == 1 {
+        let e = dictionary::entry_of(message, byte, bit);
+        match e {
+            Entry::Refused => at,
+            Entry::Field {
+                width,
+                kind: _,
+                place,
+            } => at + store_field(width, place, &msg[at..], layout),
+        }
+    } else {
+        at
+    }
+}
+
+// The fields of a bitfield byte, which is `value`; its places end at `end`, so that literals tell the loop's length.
+fn store_bits(
+    message: u8,
+    byte: u8,
+    end: u8,
+    value: u8,
+    msg: &[u8],
+    start: usize,
+    layout: &mut [u8],
+) -> usize
+    requires { ⌜ (length (now layout) ≡ layoutSize) × (byte ≤ 15) × (end ≡ 8 * byte) × (start ≤ length (now msg)) ⌝ }
+    ensures { λ r. ⌜ (storing r (now (layout .exit)) ≡ inByte (storeEntry (now (msg .entry))) message byte value (storing start (now (layout .entry)))) × (r ≤ length (now (msg .entry))) ⌝ }
+{
+    let n = end + 8 - 8 * byte;
+    let mut x = value;
+    let mut bit: u8 = 0;
+    let mut at = start;
+    while bit < n {
+        at = store_bit(message, byte, bit, x, msg, at, layout);
+        x = x / 2;
+        bit += 1;
+    }
+    at
+}
+
+// The same of any byte: its places follow from it.
+fn store_any(message: u8, byte: u8, value: u8, msg: &[u8], start: usize, layout: &mut [u8]) -> usize
+    requires { ⌜ (length (now layout) ≡ layoutSize) × (byte ≤ 15) × (start ≤ length (now msg)) ⌝ }
+    ensures { λ r. ⌜ (storing r (now (layout .exit)) ≡ inByte (storeEntry (now (msg .entry))) message byte value (storing start (now (layout .entry)))) × (r ≤ length (now (msg .entry))) ⌝ }
+{
+    store_bits(message, byte, 8 * byte, value, msg, start, layout)
+}
+
+// The same, with an arm for each byte that a message lists: there the compiler knows message and byte, unrolls the loop and folds the dictionary
+// away. Cancel Order, with its one byte, stands last: of three messages the compiler makes a loop over the bytes for each.
+fn store_byte(message: u8, byte: u8, value: u8, msg: &[u8], at: usize, layout: &mut [u8]) -> usize
+    requires { ⌜ (length (now layout) ≡ layoutSize) × (byte ≤ 15) × (at ≤ length (now msg)) ⌝ }
+    ensures { λ r. ⌜ (storing r (now (layout .exit)) ≡ inByte (storeEntry (now (msg .entry))) message byte value (storing at (now (layout .entry)))) × (r ≤ length (now (msg .entry))) ⌝ }
+{
+    match message {
+        0x38 => match byte {
+            1 => store_bits(message, byte, 8, value, msg, at, layout),
+            2 => store_bits(message, byte, 16, value, msg, at, layout),
+            3 => store_bits(message, byte, 24, value, msg, at, layout),
+            6 => store_bits(message, byte, 48, value, msg, at, layout),
+            10 => store_bits(message, byte, 80, value, msg, at, layout),
+            _ => store_any(message, byte, value, msg, at, layout),
+        },
+        0x25 => match byte {
+            1 => store_bits(message, byte, 8, value, msg, at, layout),
+            2 => store_bits(message, byte, 16, value, msg, at, layout),
+            3 => store_bits(message, byte, 24, value, msg, at, layout),
+            5 => store_bits(message, byte, 40, value, msg, at, layout),
+            _ => store_any(message, byte, value, msg, at, layout),
+        },
+        0x2C => match byte {
+            1 => store_bits(message, byte, 8, value, msg, at, layout),
+            2 => store_bits(message, byte, 16, value, msg, at, layout),
+            3 => store_bits(message, byte, 24, value, msg, at, layout),
+            _ => store_any(message, byte, value, msg, at, layout),
+        },
+        _ => match byte {
+            1 => match message {
+                0x39 => store_bits(message, byte, 8, value, msg, at, layout),
+                _ => store_any(message, byte, value, msg, at, layout),
+            },
+            _ => store_any(message, byte, value, msg, at, layout),
+        },
+    }
+}
+
+// A byte that is zero selects nothing.
+fn store_next(message: u8, byte: u8, value: u8, msg: &[u8], at: usize, layout: &mut [u8]) -> usize
+    requires { ⌜ (length (now layout) ≡ layoutSize) × (byte ≤ 15) × (at ≤ length (now msg)) ⌝ }
+    ensures { λ r. ⌜ (storing r (now (layout .exit)) ≡ inByte (storeEntry (now (msg .entry))) message byte value (storing at (now (layout .entry)))) × (r ≤ length (now (msg .entry))) ⌝ }
+{
+    if value == 0 {
+        return at;
+    }
+    store_byte(message, byte, value, msg, at, layout)
+}
+
+// All fields that the bitfield bytes select, into a layout: how far the message is stored.
+pub fn store_all(message: u8, bits: &[u8], count: u8, msg: &[u8], layout: &mut [u8]) -> usize
+    requires { ⌜ (length (now layout) ≡ layoutSize) × (length (now bits) ≡ count) × (count ≤ 15) ⌝ }
+    ensures { λ r. ⌜ storing r (now (layout .exit)) ≡ storeWalk message count (now (bits .entry)) (now (msg .entry)) allPlaces 0 (storing 0 (now (layout .entry))) ⌝ }
+{
+    let mut j: u8 = 0;
+    let mut at: usize = 0;
+    while j < count {
+        let value = bits[j as usize];
+        j += 1;
+        at = store_next(message, j, value, msg, at, layout);
+    }
+    at
+}

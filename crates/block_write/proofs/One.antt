@@ -1,0 +1,43 @@
+-- One field looked at and one given, on plain values. Assumes nothing.
+use mathlib.Core.Path.{_≡_, ap, ap₂, _∙_}
+use mathlib.Core.Bool.{Bool, _&&_}
+use mathlib.Core.List.{List}
+use Prim.Native.Nat.{ℕ, _+_, _-_, _≤_, _<_}
+use native.Mathlib.Omega.{arith}
+use lib.ListN.{length, take, drop}
+use borrow.Author.Tests.{le-leb, lt-leb}
+use Rattle.kinds.specs.declared.Kind.{Kind}
+use Rattle.kinds.specs.Kinds.{agreesOf}
+use Rattle.numbers.specs.Numbers.{patched}
+use Rattle.dictionary.specs.declared.Entry.the-variants.{Field}
+use Rattle.block.specs.Slots.{zeros}
+use Rattle.block.specs.Walk.{Looking, lookEntry, Giving, giveField}
+
+-- ---- a field, which the code has as the part from p to p + w of the layout v
+
+module _ (v : List ℕ) (w p : ℕ) where
+  abbrev part : List ℕ
+  part = take (p + w - p) (drop p v)
+
+  part-is : part ≡ take w (drop p v)
+  part-is = let n : p + w - p ≡ w = omega arith in ap (λ (i : ℕ). take i (drop p v)) n
+
+  -- looked at, and cleared there
+  pub looked-is : (k : Kind) (total : ℕ) (agree bad : Bool) {a : Bool} {l : List ℕ} → a ≡ (agreesOf k part && agree) → l ≡ patched v p (zeros w)
+      → _≡_ {A = Looking} (record { total = total + w; agree = a; bad = bad; rest = l }) (lookEntry (Field w k p) (record { total = total; agree = agree; bad = bad; rest = v }))
+  unfolding lookEntry
+  looked-is k total agree bad e f =
+      ap₂ (λ (b : Bool) (x : List ℕ). record { total = total + w; agree = b; bad = bad; rest = x })
+      (e ∙ ap (λ (x : List ℕ). agreesOf k x && agree) part-is)
+      f
+
+  -- given, where the message has room for it
+  pub given-is : (st : Giving) {l : List ℕ} → st .at + w ≤ length (st .buffer) → l ≡ patched (st .buffer) (st .at) part
+      → _≡_ {A = Giving} (record { at = st .at + w; buffer = l }) (giveField v w p st)
+  given-is st {l} h e =
+      rw (le-leb (st .at + w) (length (st .buffer)) h)
+      (ap (λ (b : List ℕ). record { at = st .at + w; buffer = b }) (e ∙ ap (patched (st .buffer) (st .at)) part-is))
+
+  -- not given, where it has none
+  pub kept-is : (st : Giving) → length (st .buffer) < st .at + w → st ≡ giveField v w p st
+  kept-is st h = rw (lt-leb (st .at + w) (length (st .buffer)) h)

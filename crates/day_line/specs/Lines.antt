@@ -1,0 +1,85 @@
+-- What a line carries between venue and member: bytes, what each message says, and what a login of ours is. Definitions alone. Assumes nothing.
+use Prim.Native.Nat.{ℕ, _<_}
+use mathlib.Core.Path.{_≡_}
+use mathlib.Core.Bool.{cond}
+use mathlib.Core.List.{List}
+use lib.Dec.{eqb}
+use lib.ListN.{length, getD}
+use Rattle.wire.specs.Header.{typeOf, unitOf, numberOf}
+use Rattle.wire.specs.Frame.{framed}
+use Rattle.table.specs.declared.Table.{Table}
+use Rattle.table.specs.Table.{unitRefusal, lastOf}
+use Rattle.block.specs.Slots.{zeros}
+use Rattle.session_messages.specs.declared.Record.{Record}
+use Rattle.session_messages.specs.Sessions as logins
+use Rattle.session_logins.specs.declared.Choice.{Choice}
+use Rattle.session_logins.specs.declared.Bitfields.{Bitfields}
+use Rattle.session_logins.specs.LoginRequests.{loginRecord}
+use Rattle.session_fields.specs.SessionFields.{requestGroup, groupListed}
+use Rattle.messages.specs.Messages.{readRefusal}
+use Rattle.day_model.specs.Model.{Msg, Sent, response, message, complete, heartbeat, logout}
+use Rattle.day_model.specs.Model as day
+use Rattle.day_model.specs.Halves.{Line}
+
+-- ---- what the venue sends
+
+-- a message, by its unit and number; its bytes are kept whole
+abbrev pub msgOf : List ℕ → Msg
+msgOf b = record { unit = unitOf b; num = numberOf b; body = b }
+
+-- what bytes say, by their type: a Login Response and whether its status is A, an application message, Replay Complete, a Logout, a heartbeat
+unfoldable pub says : List ℕ → Sent
+says b =
+    day.pick (eqb (typeOf b) 0x24) (response (eqb (getD b 10 0) 65))
+    (day.pick (eqb (typeOf b) 0x13) complete
+    (day.pick (eqb (typeOf b) 0x08) logout
+    (day.pick (eqb (typeOf b) 0x09) heartbeat
+    (message (msgOf b)))))
+
+-- a line carries whole messages that the reader from the venue takes
+pub record Fine (b : List ℕ) : Type 0 where
+  pub reads : readRefusal 1 b ≡ 0
+  pub whole : framed b ≡ b
+
+-- ---- what the member sends
+
+-- the number that a login lists for a unit; 0 where it lists none
+unfoldable pub lists : List ℕ → ℕ → ℕ
+lists b unit =
+    cond (eqb (unitRefusal unit) 0)
+    (groupListed (requestGroup 0x80 0 (logins.recordOf b)) unit (logins.recordOf b) .number .0)
+    0
+
+-- what a desk gives a login: the three names in 18 bytes, and the bitfields that it asks for
+pub record Fields : Type 0 where
+  pub names : List ℕ
+  pub long : length names ≡ 18
+  pub acknowledgments : Bitfields
+  pub executions : Bitfields
+
+-- no choice of units: the whole table is listed
+abbrev pub wholeTable : Choice
+wholeTable = record { which = 0; flag = 0; count = 0; units = zeros 32 }
+
+-- the record of a login with the whole table
+abbrev pub loginOfTable : Table → Fields → Record
+loginOfTable table f = loginRecord table wholeTable (f .names) (f .acknowledgments) (f .executions)
+
+-- a login of ours: what our writer writes of a whole table
+pub record OurLogin (b : List ℕ) : Type 0 where
+  pub table : Table
+  pub fit : (u : ℕ) → lastOf table u < 4294967296
+  pub fields : Fields
+  pub room : ℕ
+  pub written : logins.recordRefusal (loginOfTable table fields) room ≡ 0
+  pub is : b ≡ logins.sessionBytes (loginOfTable table fields)
+
+-- the line of the day
+abbrev pub ourLine : Line
+ourLine = record {
+  says = says;
+  msgOf = msgOf;
+  lists = lists;
+  Fine = Fine;
+  OurLogin = OurLogin;
+}

@@ -1,0 +1,188 @@
+-- One trading day over the code's own functions: member and venue, the line between them with bytes on it, and what may happen. Definitions alone.
+-- Assumes nothing.
+use mathlib.Core.Bool.{Bool, true, false, _&&_, _||_}
+use mathlib.Core.List.{List, [], _∷_, _++_}
+use Prim.Native.Nat.{ℕ}
+use Rattle.day_model.specs.Model.{Table, Phase, closed, asked, replaying, live}
+
+abbrev pub Bytes : Type 0
+Bytes = List ℕ
+
+-- ---- what the code offers: the functions that its contracts cite
+
+-- a number is the length of the buffer that is lent, and of a restart the bytes that a cut kept
+pub record Code : Type 1 where
+  -- the member: its state, and of it phase and table; a new one, with a new book
+  pub State : Type 0
+  pub phase : State → Phase
+  pub table : State → Table
+  pub new : State
+  -- a login, by what the desk gives it: whether it is written, the state after it, its bytes
+  pub Fields : Type 0
+  pub writes : Fields → ℕ → State → Bool
+  pub login : Fields → ℕ → State → State
+  pub loginBytes : Fields → State → Bytes
+  -- the state after it got a message, after it sent an order; whether a message is refused for room
+  pub gets : ℕ → Bytes → State → State
+  pub sends : ℕ → Bytes → State → State
+  pub noRoom : ℕ → Bytes → State → Bool
+  -- the state after a break, and after a cut and its restart
+  pub ended : ℕ → State → State
+  pub restart : ℕ → State → State
+  -- a venue: a new one; whether a session runs; the messages of its log
+  pub Ven : Type 0
+  pub empty : Ven
+  pub running : Ven → Bool
+  pub logOf : Ven → List Bytes
+  -- the state after its log was offered a message, and after it heard what a member sends
+  pub adds : ℕ → Bytes → Ven → Ven
+  pub hears : Bytes → Ven → Ven
+  -- a login: whether it is taken, the state after it, and what is answered
+  pub accepts : ℕ → Bytes → Ven → Bool
+  pub takesLogin : ℕ → Bytes → Ven → Ven
+  pub answers : ℕ → Bytes → Ven → List Bytes
+  -- a step: the state after it, and what it sends; and the state after a break
+  pub stepTo : ℕ → Ven → Ven
+  pub stepSends : ℕ → Ven → List Bytes
+  pub stop : Ven → Ven
+  -- a heartbeat; which bytes are a Logout, and what of them goes on the line
+  pub beat : Bytes
+  pub isBye : Bytes → Bool
+  pub bye : Bytes → Bytes
+
+-- what may happen. A number is the length of the buffer that is lent, and of a cut the bytes that are kept
+pub data Happens (F : Type 0) : Type 0 where
+  -- the venue's log is offered a message
+  theLog : ℕ → Bytes → Happens F
+  -- the member logs in with its whole table, on a new line
+  aLogin : F → ℕ → Happens F
+  -- the member sends an order; the venue gets what a member sent
+  aSending : ℕ → Bytes → Happens F
+  aHearing : Bytes → Happens F
+  -- the venue sends a heartbeat, or a Logout
+  aBeat : Happens F
+  aBye : Bytes → Happens F
+  -- the venue is given the login on the line; it makes a step
+  aTaking aStep : ℕ → Happens F
+  -- the venue is given a login that is not on the member's line: late, from a line that is gone
+  aStray : ℕ → Bytes → Happens F
+  -- the line delivers its next
+  aDelivery : ℕ → Happens F
+  -- the member sees the line break; the venue sees the line of its session break
+  aBreak : ℕ → Happens F
+  aDrop : Happens F
+  -- the book is cut, and the member restarts for the day, with the opening after a 22
+  aCut : ℕ → Happens F
+
+-- a moment of the day
+pub record Now (C : Code) : Type 0 where
+  pub venue : C .Ven
+  pub member : C .State
+  -- the venue's session is on the member's present line
+  pub joined : Bool
+  -- a login stands on the line and is not yet taken, and its bytes
+  pub asks : Bool
+  pub asking : Bytes
+  -- sent by the venue on this line and not yet delivered
+  pub queue : List Bytes
+  -- since the login a message was refused for room
+  pub refused : Bool
+  -- the log when the venue took the login of this line
+  pub held : List Bytes
+  -- the venue put a Logout on this line
+  pub left : Bool
+
+-- is the venue's session on the member's line? what it sends on another is not seen
+abbrev pub putOn : Bool → List Bytes → List Bytes → List Bytes
+putOn true q xs = q ++ xs
+putOn false q xs = q
+
+module _ (C : Code) where
+  -- the member without a line: nothing is under way to it
+  abbrev pub noLine : C .State → Now C → Now C
+  noLine s w = record { venue = w .venue; member = s; joined = false; asks = false; asking = w .asking; queue = []; refused = w .refused; held = w .held; left = w .left }
+
+  -- the venue after it sent something
+  abbrev pub ofVenue : C .Ven → List Bytes → Now C → Now C
+  ofVenue v xs w = record { venue = v; member = w .member; joined = w .joined; asks = w .asks; asking = w .asking; queue = putOn (w .joined) (w .queue) xs; refused = w .refused; held = w .held; left = w .left }
+
+  -- closed? is it written? A login that is not written, like one that the venue does not take, is refused, and a refused call changes nothing
+  abbrev pub nowLogin : Phase → Bool → C .Fields → ℕ → Now C → Now C
+  nowLogin closed true f room w = record { venue = w .venue; member = C .login f room (w .member); joined = false; asks = true; asking = C .loginBytes f (w .member); queue = []; refused = false; held = w .held; left = false }
+  nowLogin closed false f room w = w
+  nowLogin asked r f room w = w
+  nowLogin replaying r f room w = w
+  nowLogin live r f room w = w
+
+  -- one side alone
+  abbrev pub nowMember : C .State → Now C → Now C
+  nowMember s w = record { venue = w .venue; member = s; joined = w .joined; asks = w .asks; asking = w .asking; queue = w .queue; refused = w .refused; held = w .held; left = w .left }
+
+  abbrev pub nowVenue : C .Ven → Now C → Now C
+  nowVenue v w = record { venue = v; member = w .member; joined = w .joined; asks = w .asks; asking = w .asking; queue = w .queue; refused = w .refused; held = w .held; left = w .left }
+
+  -- a login on the line? does the venue take it?
+  abbrev pub nowTaken : Bool → Bool → ℕ → Now C → Now C
+  nowTaken true true room w = record { venue = C .takesLogin room (w .asking) (w .venue); member = w .member; joined = true; asks = false; asking = w .asking; queue = w .queue ++ C .answers room (w .asking) (w .venue); refused = w .refused; held = C .logOf (w .venue); left = w .left }
+  nowTaken true false room w = w
+  nowTaken false r room w = w
+
+  -- does a session run?
+  abbrev pub nowStep : Bool → ℕ → Now C → Now C
+  nowStep true room w = ofVenue (C .stepTo room (w .venue)) (C .stepSends room (w .venue)) w
+  nowStep false room w = w
+
+  abbrev pub nowBeat : Bool → Now C → Now C
+  nowBeat true w = record { venue = w .venue; member = w .member; joined = w .joined; asks = w .asks; asking = w .asking; queue = w .queue ++ C .beat ∷ []; refused = w .refused; held = w .held; left = w .left }
+  nowBeat false w = w
+
+  -- a session on this line? a Logout?
+  abbrev pub nowBye : Bool → Bool → Bytes → Now C → Now C
+  nowBye true true b w = record { venue = w .venue; member = w .member; joined = w .joined; asks = w .asks; asking = w .asking; queue = w .queue ++ C .bye b ∷ []; refused = w .refused; held = w .held; left = true }
+  nowBye true false b w = w
+  nowBye false r b w = w
+
+  -- what the line delivers next, if anything stands on it
+  abbrev pub nowGets : List Bytes → ℕ → Now C → Now C
+  nowGets [] room w = w
+  nowGets (x ∷ q) room w = record { venue = w .venue; member = C .gets room x (w .member); joined = w .joined; asks = w .asks; asking = w .asking; queue = q; refused = w .refused || C .noRoom room x (w .member); held = w .held; left = w .left }
+
+  -- does a session run? what it sent stays on the line
+  abbrev pub nowDrop : Bool → Now C → Now C
+  nowDrop true w = record { venue = C .stop (w .venue); member = w .member; joined = false; asks = w .asks; asking = w .asking; queue = w .queue; refused = w .refused; held = w .held; left = w .left }
+  nowDrop false w = w
+
+  -- does the venue take it? its session is on no line of the member's
+  abbrev pub nowStray : Bool → ℕ → Bytes → Now C → Now C
+  nowStray false room b w = w
+  nowStray true room b w = record { venue = C .takesLogin room b (w .venue); member = w .member; joined = false; asks = w .asks; asking = w .asking; queue = w .queue; refused = w .refused; held = w .held; left = w .left }
+
+  -- what each of them does
+  abbrev pub next : Happens (C .Fields) → Now C → Now C
+  next (theLog room b) w = nowVenue (C .adds room b (w .venue)) w
+  next (aLogin f room) w = nowLogin (C .phase (w .member)) (C .writes f room (w .member)) f room w
+  next (aSending room b) w = nowMember (C .sends room b (w .member)) w
+  next (aHearing b) w = nowVenue (C .hears b (w .venue)) w
+  next (aTaking room) w = nowTaken (w .asks) (C .accepts room (w .asking) (w .venue)) room w
+  next (aStep room) w = nowStep (C .running (w .venue)) room w
+  next aBeat w = nowBeat (C .running (w .venue) && w .joined) w
+  next (aBye b) w = nowBye (C .running (w .venue) && w .joined) (C .isBye b) b w
+  next (aDelivery room) w = nowGets (w .queue) room w
+  next (aBreak room) w = noLine (C .ended room (w .member)) w
+  next aDrop w = nowDrop (C .running (w .venue)) w
+  next (aStray room b) w = nowStray (C .accepts room b (w .venue)) room b w
+  next (aCut k) w = noLine (C .restart k (w .member)) w
+
+  -- one after the other
+  abbrev pub story : List (Happens (C .Fields)) → Now C → Now C
+  story [] w = w
+  story (e ∷ es) w = story es (next e w)
+
+  -- a new book, a new log, no line
+  abbrev pub dawn : Now C
+  dawn = record { venue = C .empty; member = C .new; joined = false; asks = false; asking = []; queue = []; refused = false; held = []; left = false }
+
+-- of every one of some bytes
+abbrev pub All : (Bytes → Type 0) → List Bytes → Type 0
+All P [] = Unit {0}
+All P (b ∷ q) = P b × All P q

@@ -1,0 +1,148 @@
+-- Demand 3: the statements alone. Each stands below the words that it answers; specs/Proved.antt proves them. The model of the day (events, line,
+-- queue) is day_model/specs/Story.antt; what a venue must be is `MeetsVenue` in day_model/specs/Halves.antt; the member's calls are session/specs/MemberDay.antt, the
+-- bench venue's venue/specs/VenueDay.antt, and what a line carries is day_line/specs/Lines.antt. Assumes nothing.
+use Prim.Native.Nat.{ℕ, _≤_}
+use mathlib.Core.Logic.{_⊎_}
+use mathlib.Core.Path.{_≡_}
+use mathlib.Core.Bool.{true, false}
+use mathlib.Core.List.{List, _∷_}
+use lib.ListN.{length, take}
+use Rattle.wire.specs.Header.{typeOf}
+use Rattle.table.specs.Table.{lastOf}
+use Rattle.session_messages.specs.Sessions.{namesGood}
+use Rattle.session_logins.specs.LoginRequestLaws.{BitsInOrder}
+use Rattle.calendar.specs.Calendar.{isDay}
+use Rattle.book.specs.Books.{answer, blankBook, openOf}
+use Rattle.book_restart.specs.Restarts.{restartOf}
+use Rattle.day_model.specs.Story.{Code, Happens, aLogin, aTaking, aDelivery, aCut, Now, next, story, dawn}
+use Rattle.day_model.specs.Halves.{VenueCode, MeetsVenue, code}
+use Rattle.day_line.specs.Lines.{Fields, ourLine}
+use Rattle.session.specs.declared.Phase.the-variants.{Closed, Asked, Replaying, Live}
+use Rattle.session.specs.MemberDay.{opened, loginBytes, ourMember}
+use Rattle.venue.specs.VenueDay.{ourVenue}
+use Rattle.day_proved.specs.Words.{Bytes, inBook, ofUnit, wholeIn}
+
+-- ---- the day
+
+-- a venue whose log only grows and which keeps and replays it as document 01 says
+abbrev pub SuchAVenue : VenueCode → Type 1
+SuchAVenue X = MeetsVenue ourLine X
+
+-- our member and such a venue, on a date
+abbrev pub dayOf : ℕ → VenueCode → Code
+dayOf date X = code (ourMember date) X
+
+-- what may happen on it, and a moment of it
+abbrev pub Event : Type 0
+Event = Happens Fields
+
+abbrev pub Moment : ℕ → VenueCode → Type 0
+Moment date X = Now (dayOf date X)
+
+-- from a new book, after any logins, line breaks, cuts and whatever else may happen
+abbrev pub after : (date : ℕ) (X : VenueCode) → List Event → Moment date X
+after date X es = story (dayOf date X) es (dawn (dayOf date X))
+
+-- one thing more
+abbrev pub then : (date : ℕ) (X : VenueCode) → Moment date X → Event → Moment date X
+then date X w e = next (dayOf date X) e w
+
+module _ (date : ℕ) (X : VenueCode) (w : Moment date X) where
+  -- the book's bytes
+  abbrev pub book : Bytes
+  book = w .member .bytes
+
+  -- the table's number of a unit
+  abbrev pub tableSays : ℕ → ℕ
+  tableSays u = lastOf (w .member .session .book .table) u
+
+  -- the messages of the venue's log
+  abbrev pub log : List Bytes
+  log = X .logOf (w .venue)
+
+-- ---- 1
+
+-- 'At every moment outside a cut and its restart, with the opening after a 22, the book holds for each unit exactly the first messages of that
+-- unit's log, byte for byte, and the table says how many.'
+pub record HoldsFirsts (date : ℕ) (X : VenueCode) (w : Moment date X) (u : ℕ) : Type 0 where
+  pub firsts : ofUnit u (inBook (book date X w)) ≡ take (tableSays date X w u) (ofUnit u (log date X w))
+  pub many : length (ofUnit u (inBook (book date X w))) ≡ tableSays date X w u
+
+abbrev pub AtEveryMoment : Type 1
+AtEveryMoment = (date : ℕ) → isDay date ≡ true → (X : VenueCode) → SuchAVenue X → (es : List Event) (u : ℕ) → HoldsFirsts date X (after date X es) u
+
+-- ---- 2
+
+-- 'Each such restart is accepted, or answers 22, changes nothing and is followed by an opening for that day with room for its mark; either way no
+-- whole message that the cut kept is lost.' The restart has no buffer, so that there is nothing it could change.
+pub record Restarts (date : ℕ) (X : VenueCode) (w : Moment date X) (k : ℕ) : Type 0 where
+  pub answers : (restartOf date (take k (book date X w)) .refusal ≡ 0)
+      ⊎ ((restartOf date (take k (book date X w)) ≡ answer 22 blankBook) × (openOf date 16 .refusal ≡ 0) × (then date X w (aCut k) .member ≡ opened date))
+  pub kept : inBook (book date X (then date X w (aCut k))) ≡ wholeIn k (book date X w)
+
+abbrev pub EachRestart : Type 1
+EachRestart = (date : ℕ) → isDay date ≡ true → (X : VenueCode) → SuchAVenue X → (es : List Event) (k : ℕ) → Restarts date X (after date X es) k
+
+-- ---- 3
+
+-- a replay completes as the line delivers
+pub record Completes (date : ℕ) (X : VenueCode) (w : Moment date X) (room : ℕ) : Type 0 where
+  pub was : w .member .session .phase ≡ Replaying
+  pub is : then date X w (aDelivery room) .member .session .phase ≡ Live
+
+-- 'When a replay completes and no message since its login was refused for room, that is all the log held when the venue took the login.'
+abbrev pub WhenAReplayCompletes : Type 1
+WhenAReplayCompletes =
+    (date : ℕ) → isDay date ≡ true → (X : VenueCode) → SuchAVenue X → (es : List Event) (room : ℕ)
+    → Completes date X (after date X es) room → after date X es .refused ≡ false
+    → (u : ℕ) → ofUnit u (inBook (book date X (then date X (after date X es) (aDelivery room)))) ≡ ofUnit u (after date X es .held)
+
+-- ---- 4
+
+-- valid fields: names that agree with their kinds, and bitfields in order where some are asked for
+pub record Valid (f : Fields) : Type 0 where
+  pub names : namesGood (f .names) ≡ true
+  pub acknowledgments : f .acknowledgments .given ≡ true → BitsInOrder (f .acknowledgments)
+  pub executions : f .executions .given ≡ true → BitsInOrder (f .executions)
+
+-- the session has asked, and the login stands on a new line
+pub record Asks (date : ℕ) (X : VenueCode) (f : Fields) (w v : Moment date X) : Type 0 where
+  pub phase : v .member .session .phase ≡ Asked
+  pub asks : v .asks ≡ true
+  pub asking : v .asking ≡ loginBytes f (w .member)
+
+-- 'With valid fields and room a closed session's login is written,'
+abbrev pub ALoginIsWritten : Type 1
+ALoginIsWritten =
+    (date : ℕ) → isDay date ≡ true → (X : VenueCode) → SuchAVenue X → (es : List Event) (f : Fields) (room : ℕ)
+    → Valid f → 234 ≤ room → after date X es .member .session .phase ≡ Closed
+    → Asks date X f (after date X es) (then date X (after date X es) (aLogin f room))
+
+-- a session runs on the line of that login, and what the log held is kept for 3
+pub record Taken (date : ℕ) (X : VenueCode) (w v : Moment date X) : Type 0 where
+  pub running : X .running (v .venue) ≡ true
+  pub joined : v .joined ≡ true
+  pub held : v .held ≡ log date X w
+
+-- 'a venue without a session takes it,' with room for its answer
+abbrev pub AVenueTakesIt : Type 1
+AVenueTakesIt =
+    (date : ℕ) → isDay date ≡ true → (X : VenueCode) (such : SuchAVenue X) (es : List Event) (room : ℕ)
+    → after date X es .asks ≡ true → X .running (after date X es .venue) ≡ false → such .answerRoom ≤ room
+    → Taken date X (after date X es) (then date X (after date X es) (aTaking room))
+
+-- 'and on a line that carries no Logout and meets no break or cut first, the replay completes as soon as the venue's Replay Complete is delivered.'
+-- A break or a cut leaves nothing on the line.
+abbrev pub TheReplayCompletes : Type 1
+TheReplayCompletes =
+    (date : ℕ) → isDay date ≡ true → (X : VenueCode) → SuchAVenue X → (es : List Event) (room : ℕ) (b : Bytes) (rest : List Bytes)
+    → after date X es .left ≡ false → after date X es .queue ≡ b ∷ rest → typeOf b ≡ 0x13
+    → Completes date X (after date X es) room
+
+-- ---- our bench venue is such a venue
+
+-- with 443 bytes for its answer to a login, and 2,048 for a step
+pub record TheBenchIsSuchAVenue : Type 1 where
+  pub such : SuchAVenue ourVenue
+  pub for-an-answer : such .answerRoom ≡ 443
+  pub for-a-step : such .stepRoom ≡ 2048

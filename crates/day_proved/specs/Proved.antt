@@ -1,0 +1,215 @@
+-- Demand 3, proved: what specs/Demand3.antt states. Assumes nothing.
+use Prim.Native.Nat.{ℕ, _-_, _≤_, _<_}
+use mathlib.Core.Logic.{inl, inr, ⊎-elim}
+use mathlib.Core.Path.{_≡_, refl, sym, ap, ap₂, subst, _∙_}
+use mathlib.Core.Bool.{Bool, true, false}
+use mathlib.Core.List.{List, [], _∷_, map}
+use native.Mathlib.Omega.{arith}
+use lib.Dec.{eqb}
+use lib.ListN.{length, take, length-append}
+use lib.Seq.{take-all, take-length, take-take, take-append-seam}
+use borrow.Author.Tests.{lt-leb}
+use Rattle.wire.specs.Header.{typeOf}
+use Rattle.wire.specs.FrameLaws.{lt-or-le}
+use Rattle.table.specs.Table.{lastOf}
+use Rattle.session_messages.specs.declared.Record.{Record}
+use Rattle.session_messages.specs.Sessions as logins
+use Rattle.session_logins.specs.LoginRequests.{choiceOf}
+use Rattle.session_logins.specs.LoginRequestLaws.{said-most, default-is-written}
+use Rattle.calendar.specs.Calendar.{isDay}
+use Rattle.calendar.specs.CalendarLaws.{day-in-range}
+use Rattle.book.specs.declared.Answer as bookAnswers
+use Rattle.book.specs.declared.Book.{Book}
+use Rattle.book.specs.Books.{answer, markBytes}
+use Rattle.book_restart.specs.Restarts.{restartOf}
+use Rattle.book_restart.specs.Steps.{mark-long}
+use Rattle.book_restart.specs.Cut.{Made, sound, Cut, cut, cut-22}
+use Rattle.day_model.specs.Model.{Msg, Item, mark, size, Phase, closed, messages}
+use Rattle.day_model.specs.Model as day
+use Rattle.day_model.specs.Story.{aLogin, aTaking, aDelivery, aCut, nowLogin, nowTaken}
+use Rattle.day_model.specs.Generic.{Meets, holds, at-every-moment, when-a-replay-completes, replay-completes, CompletesAt}
+use Rattle.day_model.specs.Halves.{VenueCode, both}
+use Rattle.day_line.specs.Lines.{Fields, ourLine, loginOfTable, wholeTable}
+use Rattle.session.specs.declared.Phase as phases
+use Rattle.session.specs.declared.Phase.the-variants.{Closed, Asked, Replaying, Live}
+use Rattle.session.specs.declared.Session.{Session}
+use Rattle.session.specs.Sessions.{loginRefusal}
+use Rattle.session.specs.MemberDay.{Desk, opened, restartedBy, phaseOf, writes, ourMember}
+use Rattle.session.specs.Booked.{items}
+use Rattle.session.specs.MadeItems.{made-items, made-headed, made-size}
+use Rattle.session.specs.MemberSteps.{Good}
+use Rattle.session.specs.MemberGets.{says-complete}
+use Rattle.session.specs.MeetsMember.{opens-well, opened-empty, entries-fit, logged, our-member-meets}
+use Rattle.venue.specs.MeetsVenue.{meets}
+use Rattle.day_proved.specs.Words.{Bytes, inBook, ofUnit, keepItem, within}
+use Rattle.day_proved.specs.WordLaws.{unit-bodies, take-bodies, bodies-long, booked-unit, within-all, cut-keeps}
+use Rattle.day_proved.specs.Demand3.{SuchAVenue, dayOf, Event, Moment, after, then, book, HoldsFirsts, AtEveryMoment, Restarts, EachRestart, Completes, WhenAReplayCompletes, Valid, Asks, ALoginIsWritten, Taken, AVenueTakesIt, TheReplayCompletes, TheBenchIsSuchAVenue}
+
+-- a phase is known by how the abstract day sees it
+phase-back : (p q : phases.Phase) → phaseOf p ≡ phaseOf q → p ≡ q
+phase-back Closed Closed e = refl
+phase-back Closed Asked e = let z : _≡_ {A = ℕ} 0 1 = cc in absurd (omega arith)
+phase-back Closed Replaying e = let z : _≡_ {A = ℕ} 0 1 = cc in absurd (omega arith)
+phase-back Closed Live e = let z : _≡_ {A = ℕ} 0 1 = cc in absurd (omega arith)
+phase-back Asked Closed e = let z : _≡_ {A = ℕ} 0 1 = cc in absurd (omega arith)
+phase-back Asked Asked e = refl
+phase-back Asked Replaying e = let z : _≡_ {A = ℕ} 0 1 = cc in absurd (omega arith)
+phase-back Asked Live e = let z : _≡_ {A = ℕ} 0 1 = cc in absurd (omega arith)
+phase-back Replaying Closed e = let z : _≡_ {A = ℕ} 0 1 = cc in absurd (omega arith)
+phase-back Replaying Asked e = let z : _≡_ {A = ℕ} 0 1 = cc in absurd (omega arith)
+phase-back Replaying Replaying e = refl
+phase-back Replaying Live e = let z : _≡_ {A = ℕ} 0 1 = cc in absurd (omega arith)
+phase-back Live Closed e = let z : _≡_ {A = ℕ} 0 1 = cc in absurd (omega arith)
+phase-back Live Asked e = let z : _≡_ {A = ℕ} 0 1 = cc in absurd (omega arith)
+phase-back Live Replaying e = let z : _≡_ {A = ℕ} 0 1 = cc in absurd (omega arith)
+phase-back Live Live e = refl
+
+-- a closed session's login is refused only by the writer
+login-zero : (s : Session) (r : Record) (room : ℕ) → s .phase ≡ Closed → logins.recordRefusal r room ≡ 0 → loginRefusal s r room ≡ 0
+unfolding loginRefusal
+login-zero s r room e z = rw e z
+
+-- ---- books that are cut short
+
+-- the first mark alone is 16 bytes, so that a shorter cut keeps nothing whole
+within-short : {date k : ℕ} {b : Book} {xs : Bytes} (m : Made date k b xs) (n : ℕ) → n < 16 → within n (items xs) ≡ []
+within-short {xs = xs} m n h =
+    let r = made-headed m in
+    ap (within n) (made-items m ∙ r .1) ∙ ap (λ (q : Bool). keepItem q (mark 0) (within (n - 16) (r .0))) (lt-leb 16 n h)
+
+-- a cut past the end keeps all
+within-more : {date k : ℕ} {b : Book} {xs : Bytes} (m : Made date k b xs) (n : ℕ) → length xs ≤ n → within n (items xs) ≡ within (length xs) (items xs)
+within-more {xs = xs} m n h =
+    let s : size (items xs) ≡ length xs = ap size (made-items m) ∙ made-size m ∙ sound m .at-end in
+    within-all (items xs) n (omega arith) ∙ sym (within-all (items xs) (length xs) (omega arith))
+
+sixteen : {date k : ℕ} {b : Book} {xs : Bytes} → Made date k b xs → 16 ≤ length xs
+sixteen {date} {xs = xs} m = let o = sound m in omega (arith, ap length (o .first), length-append (markBytes date 0 0) (o .rest), mark-long date 0 0)
+
+-- the bytes that a cut keeps
+cut-bytes : {date n : ℕ} {xs : Bytes} (c : Cut date xs n) → take (c .book .length) (take n xs) ≡ c .kept
+cut-bytes {n = n} {xs = xs} c =
+    ap (λ (i : ℕ). take i (take n xs)) (c .good) ∙ take-take (length (c .kept)) n xs (c .short) ∙ ap (take (length (c .kept))) (c .whole-is) ∙ take-append-seam (c .kept) (c .over-cut)
+
+module _ (date : ℕ) (d : isDay date ≡ true) (X : VenueCode) (such : SuchAVenue X) where
+  small : date < 4294967296
+  small = omega (arith, day-in-range date d .1)
+
+  the : Meets (dayOf date X)
+  the = both ourLine (ourMember date) X (our-member-meets date d small) such
+
+  -- 1
+  moment : (es : List Event) (u : ℕ) → HoldsFirsts date X (after date X es) u
+  unfolding the our-member-meets
+  moment es u =
+      let h = at-every-moment (dayOf date X) the es u in
+      let w = after date X es in
+      record {
+        firsts = booked-unit u (w .member .bytes) ∙ ap (map (λ (m : Msg). m .body)) (h .firsts) ∙ take-bodies (lastOf (w .member .session .book .table) u) _ ∙ ap (take (lastOf (w .member .session .book .table) u)) (unit-bodies u (X .logOf (w .venue)));
+        many = ap length (booked-unit u (w .member .bytes)) ∙ bodies-long (day.ofUnit u (messages (items (w .member .bytes)))) ∙ h .many;
+      }
+
+  -- 3
+  completed : (es : List Event) (room : ℕ) → Completes date X (after date X es) room → after date X es .refused ≡ false
+      → (u : ℕ) → ofUnit u (inBook (book date X (then date X (after date X es) (aDelivery room)))) ≡ ofUnit u (after date X es .held)
+  unfolding the our-member-meets
+  completed es room c r u =
+      let k : CompletesAt (dayOf date X) the (after date X es) room = record { was = ap phaseOf (c .was); is = ap phaseOf (c .is) } in
+      booked-unit u (book date X (then date X (after date X es) (aDelivery room)))
+      ∙ ap (map (λ (m : Msg). m .body)) (when-a-replay-completes (dayOf date X) the es room k r u)
+      ∙ unit-bodies u (after date X es .held)
+
+  -- 2
+  good-of : (es : List Event) → Good date (after date X es .member)
+  unfolding the our-member-meets
+  good-of es = holds (dayOf date X) the es .good .member
+
+  cut-short : (w : Moment date X) (g : Good date (w .member)) (k : ℕ) → k < 16 → Restarts date X w k
+  unfolding restartedBy
+  cut-short w g k h =
+      let e = cut-22 date small d (g .made) k h in
+      let q : then date X w (aCut k) .member ≡ opened date = ap (λ (a : bookAnswers.Answer). restartedBy date a (take k (w .member .bytes))) e in
+      record {
+        answers = inr (e, opens-well date d small, q);
+        kept = ap (λ (x : Desk). inBook (x .bytes)) q ∙ ap (map (λ (m : Msg). m .body)) (opened-empty date d small ∙ sym (ap messages (within-short (g .made) k h)));
+      }
+
+  cut-long : (w : Moment date X) (g : Good date (w .member)) (k n : ℕ) → take k (w .member .bytes) ≡ take n (w .member .bytes) → within k (items (w .member .bytes)) ≡ within n (items (w .member .bytes)) → 16 ≤ n → n ≤ length (w .member .bytes) → Restarts date X w k
+  unfolding restartedBy
+  cut-long w g k n t i h l =
+      let c = cut date small d (g .made) n h l in
+      let e : restartOf date (take k (w .member .bytes)) ≡ answer 0 (c .book) = ap (restartOf date) t ∙ c .answer-is in
+      let q : then date X w (aCut k) .member .bytes ≡ c .kept =
+      ap (λ (a : bookAnswers.Answer). restartedBy date a (take k (w .member .bytes)) .bytes) e ∙ ap (take (c .book .length)) t ∙ cut-bytes c in
+      record {
+        answers = inl (ap (λ (a : bookAnswers.Answer). a .refusal) e);
+        kept = ap inBook q ∙ ap (λ (x : List Item). map (λ (m : Msg). m .body) (messages x)) (made-items (c .made) ∙ sym (i ∙ cut-keeps (g .made) c));
+      }
+
+  restarts : (es : List Event) (k : ℕ) → Restarts date X (after date X es) k
+  restarts es k =
+      let w = after date X es in
+      let g = good-of es in
+      ⊎-elim
+      (λ (h : k < 16). cut-short w g k h)
+      (λ (h : 16 ≤ k). ⊎-elim
+      (λ (l : k < length (w .member .bytes)). cut-long w g k k refl refl h (omega arith))
+      (λ (l : length (w .member .bytes) ≤ k).
+      cut-long w g k (length (w .member .bytes)) (take-all k (w .member .bytes) l ∙ sym (take-length (w .member .bytes))) (within-more (g .made) k l) (sixteen (g .made)) (omega arith))
+      (lt-or-le k (length (w .member .bytes))))
+      (lt-or-le k 16)
+
+  -- 4
+  written : (es : List Event) (f : Fields) (room : ℕ) → Valid f → 234 ≤ room → after date X es .member .session .phase ≡ Closed
+      → Asks date X f (after date X es) (then date X (after date X es) (aLogin f room))
+  written es f room v h e =
+      let w = after date X es in
+      let g = good-of es in
+      let t = w .member .session .book .table in
+      let r : logins.recordRefusal (loginOfTable t f) room ≡ 0 =
+      default-is-written t wholeTable (f .names) (f .acknowledgments) (f .executions) room (f .long) (v .names) (v .acknowledgments) (v .executions)
+      (omega (arith, said-most t (choiceOf wholeTable) (f .names) (f .acknowledgments) (f .executions) (f .long), h)) refl (entries-fit date d small (g .made)) in
+      let y : writes f room (w .member) ≡ true = ap (λ (n : ℕ). eqb n 0) (login-zero (w .member .session) (loginOfTable t f) room e r) in
+      let q : then date X w (aLogin f room) ≡ nowLogin (dayOf date X) closed true f room w = ap₂ (λ (a : Phase) (b : Bool). nowLogin (dayOf date X) a b f room w) (ap phaseOf e) y in
+      subst (Asks date X f w) (sym q) (record { phase = ap (λ (x : Desk). x .session .phase) (logged date d small f room (w .member) y); asks = refl; asking = refl })
+
+  takes : (es : List Event) (room : ℕ) → after date X es .asks ≡ true → X .running (after date X es .venue) ≡ false → such .answerRoom ≤ room
+      → Taken date X (after date X es) (then date X (after date X es) (aTaking room))
+  unfolding the our-member-meets
+  takes es room a r h =
+      let w = after date X es in
+      let g = holds (dayOf date X) the es .good in
+      let y = such .accepts-ours room (w .asking) (w .venue) (g .asking a) (g .venue) r h in
+      let q : then date X w (aTaking room) ≡ nowTaken (dayOf date X) true true room w = ap₂ (λ (b c : Bool). nowTaken (dayOf date X) b c room w) a y in
+      let v = such .strays-is room (w .asking) (w .venue) y (g .venue) in
+      subst (Taken date X w) (sym q)
+      (record { running = sym (such .running-is (X .takesLogin room (w .asking) (w .venue))) ∙ ap (λ (x : day.Venue). x .running) (v .1); joined = refl; held = refl })
+
+  completes : (es : List Event) (room : ℕ) (b : Bytes) (rest : List Bytes) → after date X es .left ≡ false → after date X es .queue ≡ b ∷ rest → typeOf b ≡ 0x13
+      → Completes date X (after date X es) room
+  unfolding the our-member-meets
+  completes es room b rest l q t =
+      let k = replay-completes (dayOf date X) the es room rest b l q (says-complete b t) in
+      record { was = phase-back _ Replaying (k .was); is = phase-back _ Live (k .is) }
+
+pub at-every-moment-the-book-holds-the-firsts : AtEveryMoment
+at-every-moment-the-book-holds-the-firsts date d X such es u = moment date d X such es u
+
+pub when-a-replay-completes-the-book-is-whole : WhenAReplayCompletes
+when-a-replay-completes-the-book-is-whole date d X such es room c r u = completed date d X such es room c r u
+
+pub the-bench-is-such-a-venue : TheBenchIsSuchAVenue
+unfolding meets
+the-bench-is-such-a-venue = record { such = meets; for-an-answer = refl; for-a-step = refl }
+
+pub each-restart-keeps-every-whole-message : EachRestart
+each-restart-keeps-every-whole-message date d X such es k = restarts date d X such es k
+
+pub a-login-is-written : ALoginIsWritten
+a-login-is-written date d X such es f room v h e = written date d X such es f room v h e
+
+pub a-venue-takes-it : AVenueTakesIt
+a-venue-takes-it date d X such es room a r h = takes date d X such es room a r h
+
+pub the-replay-completes : TheReplayCompletes
+the-replay-completes date d X such es room b rest l q t = completes date d X such es room b rest l q t

@@ -1,0 +1,41 @@
+-- A record as 235 bytes: type, unit, number, the fixed part's 59 bytes, the count, the 15 bitfields, the 154 bytes of the full layout.
+-- Definitions alone. Assumes nothing.
+use Prim.Native.Nat.{ℕ}
+use mathlib.Core.Bool.{cond}
+use mathlib.Core.List.{List, _∷_, _++_}
+use lib.Dec.{ltb}
+use lib.ListN.{length, getD, take, drop}
+use Rattle.refusals.specs.Names.{noRoom}
+use Rattle.numbers.specs.Numbers.{numberAt, bytesOf, patched}
+use Rattle.orders.specs.declared.Record.{Record}
+use Rattle.orders.specs.Orders.{blank}
+use Rattle.block.specs.Sizes.{fixedSize, layoutSize, recordSize}
+
+-- a record's bytes
+unfoldable pub recordBytes : Record → List ℕ
+recordBytes r = (r .message ∷ r .unit ∷ bytesOf 4 (r .number)) ++ (r .fixed ++ (r .count ∷ (r .bits ++ r .slots)))
+
+-- the record that the first 235 bytes are
+unfoldable pub recordAt : List ℕ → Record
+recordAt s =
+    record {
+      message = getD s 0 0;
+      unit = getD s 1 0;
+      number = numberAt 4 2 s;
+      fixed = take fixedSize (drop 6 s);
+      count = getD s 65 0;
+      bits = take 15 (drop 66 s);
+      slots = take layoutSize (drop 81 s);
+    }
+
+-- a record from any bytes: that of the first 235, and the blank one where there are fewer
+unfoldable pub loadOf : List ℕ → Record
+loadOf s = cond (ltb (length s) recordSize) blank (recordAt s)
+
+-- a record into a buffer: 13 where the buffer has under 235 bytes, and it is as it was
+unfoldable pub storeRefusal : ℕ → ℕ
+storeRefusal room = cond (ltb room recordSize) noRoom 0
+
+-- else the record's bytes stand in its front
+unfoldable pub storeBuffer : Record → List ℕ → List ℕ
+storeBuffer r out = cond (ltb (length out) recordSize) out (patched out 0 (recordBytes r))
