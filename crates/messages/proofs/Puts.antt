@@ -12,9 +12,10 @@ use Rattle.block.specs.SlotLaws.{length-zeros}
 use Rattle.session_messages.specs.Sessions as sessions
 use Rattle.session_messages.specs.SessionLaws as sessionLaws
 use Rattle.session_messages.specs.SessionTrip.{body-small}
+use Rattle.session_messages.specs.Sizes.{sessionRecordSize}
 use Rattle.messages.specs.Messages.{sessionRecordBytes}
 
-module _ (m buffer out₁ : List ℕ) (t u n : ℕ) (least : 10 ≤ length m) (most : length m ≤ 443) (room : 439 ≤ length buffer)
+module _ (m buffer out₁ : List ℕ) (t u n : ℕ) (least : 10 ≤ length m) (most : length m ≤ 443) (room : sessionRecordSize ≤ length buffer)
     (p : out₁ ≡ patched buffer 0 (t ∷ u ∷ bytesOf 4 n)) where
   padded : List ℕ
   padded = drop 10 m ++ zeros (433 - length (drop 10 m))

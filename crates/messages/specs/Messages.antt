@@ -1,7 +1,7 @@
 -- Reading and writing by direction: the first whole message of any bytes, and the record of any message, which is bytes in a lent buffer.
 -- Definitions alone. Assumes nothing.
 use Prim.Native.Nat.{ℕ}
-use mathlib.Core.Bool.{Bool, false, cond, _||_}
+use mathlib.Core.Bool.{Bool, false, cond, not, _||_}
 use mathlib.Core.List.{List, _∷_, _++_}
 use lib.Dec.{eqb, ltb}
 use lib.ListN.{length, getD, take, drop}
@@ -14,6 +14,7 @@ use Rattle.orders.specs.Orders as orders
 use Rattle.order_records.specs.Records.{recordBytes, recordAt}
 use Rattle.session_messages.specs.Sessions as sessions
 use Rattle.session_messages.specs.declared.Record as sessionRecords
+use Rattle.session_messages.specs.Sizes.{sessionRecordSize}
 use Rattle.block.specs.Sizes.{recordSize}
 
 -- ---- the types
@@ -28,6 +29,10 @@ carries direction message =
     cond (eqb direction 0) (orderTypes.ofMember message || sessions.ofMember message)
     (cond (eqb direction 1) (orderTypes.ofVenue message || sessions.ofVenue message)
     false)
+
+-- the size of a type's record: 439 bytes of a session message, 235 of an order
+unfoldable pub recordSizeOf : ℕ → ℕ
+recordSizeOf message = cond (isSession message) sessionRecordSize recordSize
 
 -- ---- a session message's record as 439 bytes: type, unit, number, the 433 bytes of the body
 
@@ -45,7 +50,7 @@ sessionAt s = record { message = getD s 0 0; unit = getD s 1 0; number = numberA
 unfoldable pub ownRefusal : List ℕ → ℕ
 ownRefusal m = cond (isSession (typeOf m)) (sessions.readRefusal m) (orders.readRefusal m)
 
--- its record's bytes: 439 of a session message, 235 of an order
+-- its record's bytes, as many as its type's record has
 unfoldable pub recordOf : List ℕ → List ℕ
 recordOf m = cond (isSession (typeOf m)) (sessionRecordBytes (sessions.recordOf m)) (recordBytes (orders.recordOf m))
 
@@ -56,9 +61,12 @@ readRefusal direction s =
     (cond (carries direction (typeOf (framed s))) (ownRefusal (framed s)) unknownType)
     (frameRefusal s)
 
--- then 13 if the record's buffer is under 439 bytes
+-- then 13 if the record's buffer is under the size of this message's record
 unfoldable pub readCall : ℕ → List ℕ → ℕ → ℕ
-readCall direction s room = cond (eqb (readRefusal direction s) 0) (cond (ltb room 439) noRoom 0) (readRefusal direction s)
+readCall direction s room =
+    cond (eqb (readRefusal direction s) 0)
+    (cond (ltb room (recordSizeOf (typeOf (framed s)))) noRoom 0)
+    (readRefusal direction s)
 
 -- the record's buffer after it
 unfoldable pub readRecord : ℕ → List ℕ → List ℕ → List ℕ
@@ -74,17 +82,18 @@ ownWrite s room = cond (isSession (getD s 0 0)) (sessions.recordRefusal (session
 unfoldable pub messageOf : List ℕ → List ℕ
 messageOf s = cond (isSession (getD s 0 0)) (sessions.sessionBytes (sessionAt s)) (orders.orderBytes (recordAt s))
 
--- 13 if the record is under 439 bytes; 4 by the direction; then the record's own
+-- 13 if there is no type byte; 4 by the direction; 13 if the record is under its type's size; then the record's own
 unfoldable pub writeCall : ℕ → List ℕ → ℕ → ℕ
 writeCall direction s room =
-    cond (ltb (length s) 439) noRoom
-    (cond (carries direction (getD s 0 0)) (ownWrite s room)
-    unknownType)
+    cond (eqb (length s) 0) noRoom
+    (cond (not (carries direction (getD s 0 0))) unknownType
+    (cond (ltb (length s) (recordSizeOf (getD s 0 0))) noRoom
+    (ownWrite s room)))
 
 -- the output buffer after it
 unfoldable pub writeOut : ℕ → List ℕ → List ℕ → List ℕ
 writeOut direction s out = cond (eqb (writeCall direction s (length out)) 0) (patched out 0 (messageOf s)) out
 
--- what of a buffer is the record: its first 439 bytes, or of an order its first 235
+-- what of a buffer is the record: as many bytes of its front as its type's record has
 unfoldable pub heldIn : List ℕ → List ℕ
-heldIn s = cond (isSession (getD s 0 0)) (take 439 s) (take recordSize s)
+heldIn s = take (recordSizeOf (getD s 0 0)) s

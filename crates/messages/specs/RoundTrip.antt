@@ -1,15 +1,15 @@
 -- Demand 2 for every type of both directions: what is accepted is written again as the same bytes; a record that the writer takes, written and
--- read with any bytes after it, is the same record. Assumes nothing.
+-- read with any bytes after it, is the same record. A record's buffer of its own type's size suffices for both. Assumes nothing.
 use mathlib.Core.Path.{_≡_, refl, sym, ap, ap₂, _∙_, subst}
-use mathlib.Core.Bool.{Bool, true, false, cond}
+use mathlib.Core.Bool.{Bool, true, false, cond, not}
 use mathlib.Core.List.{List, [], _∷_, _++_, append-nil, append-assoc}
 use Prim.Native.Nat.{ℕ, _-_, _≤_, _<_}
 use native.Mathlib.Nat.{zero-add}
 use native.Mathlib.Omega.{arith}
 use lib.Dec.{eqb, ltb}
 use lib.ListN.{length, getD, take, drop, length-append, length-drop}
-use lib.Seq.{take-at, length-take-le}
-use borrow.Author.Tests.{eq-eqb, eqb-true, eqb-false, le-ltb, ltb-false}
+use lib.Seq.{take-at, length-take-le, getD-take}
+use borrow.Author.Tests.{eq-eqb, ne-eqb, eqb-true, eqb-false, le-ltb, ltb-false}
 use Rattle.numbers.specs.Numbers.{bytesOf, patched}
 use Rattle.numbers.specs.NumberLaws.{number-after, number-back, number-fits, bytes-first, patched-length}
 use Rattle.wire.specs.Header.{typeOf, numberOf, totalOf}
@@ -26,8 +26,10 @@ use Rattle.order_records.specs.RecordTrip.{record-length, record-again, at-soun
 use Rattle.session_messages.specs.Sessions as sessions
 use Rattle.session_messages.specs.SessionTrip as sessionTrip
 use Rattle.session_messages.specs.declared.Record as sessionRecords
-use Rattle.messages.specs.Messages.{isSession, carries, sessionRecordBytes, sessionAt, ownRefusal, recordOf, readRefusal, readCall, readRecord, ownWrite, messageOf, writeCall, writeOut, heldIn}
-use Rattle.messages.specs.MessageLaws.{own-refusal, own-write}
+use Rattle.session_messages.specs.Sizes.{sessionRecordSize}
+use Rattle.block.specs.Sizes.{recordSize}
+use Rattle.messages.specs.Messages.{isSession, carries, recordSizeOf, sessionRecordBytes, sessionAt, ownRefusal, recordOf, readRefusal, readCall, readRecord, ownWrite, messageOf, writeCall, writeOut, heldIn}
+use Rattle.messages.specs.MessageLaws.{session-size, order-size, size-not-zero, own-refusal, own-size-suffices, own-write}
 
 -- bytes put at the front, and what stood after them
 front : (xs bs : List ℕ) → patched xs 0 bs ≡ bs ++ drop (length bs) xs
@@ -49,7 +51,7 @@ session-again r l h t =
     (number-after 4 0 (r .message ∷ r .unit ∷ []) (bytesOf 4 (r .number) ++ (r .body ++ t)) ∙ number-back 4 (r .number) (r .body ++ t) h)
     (take-at (r .body) t 433 l)
 
-session-bytes-again : (s : List ℕ) → Bytes s → 439 ≤ length s → sessionRecordBytes (sessionAt s) ≡ take 439 s
+session-bytes-again : (s : List ℕ) → Bytes s → sessionRecordSize ≤ length s → sessionRecordBytes (sessionAt s) ≡ take sessionRecordSize s
 unfolding sessionAt sessionRecordBytes
 session-bytes-again s k h = ap (λ (x : List ℕ). x ++ take 433 (drop 6 s)) (head-again s k (omega arith)) ∙ joined 0 6 433 s
 
@@ -70,17 +72,18 @@ accepted direction s z = by (eqb (frameRefusal s) 0) refl (carries direction (ty
     by true p false q y = absurd (omega (arith, y))
     by false p k q y = absurd (eqb-false (frameRefusal s) 0 p y)
 
--- a call that answers 0 has room, and its message is accepted
+-- a call that answers 0 has room for this message's record, and its message is accepted
 pub record Taken (direction : ℕ) (s : List ℕ) (room : ℕ) : Type 0 where
   pub read : readRefusal direction s ≡ 0
-  pub roomy : 439 ≤ room
+  pub roomy : recordSizeOf (typeOf (framed s)) ≤ room
 
 pub taken : (direction : ℕ) (s : List ℕ) (room : ℕ) → readCall direction s room ≡ 0 → Taken direction s room
 unfolding readCall
-taken direction s room z = by (eqb (readRefusal direction s) 0) refl (ltb room 439) refl z
+taken direction s room z = by (eqb (readRefusal direction s) 0) refl (ltb room (recordSizeOf (typeOf (framed s)))) refl z
   where
-    by : (b : Bool) → eqb (readRefusal direction s) 0 ≡ b → (k : Bool) → ltb room 439 ≡ k → cond b (cond k 13 0) (readRefusal direction s) ≡ 0 → Taken direction s room
-    by true p false q y = record { read = eqb-true (readRefusal direction s) 0 p; roomy = ltb-false room 439 q }
+    by : (b : Bool) → eqb (readRefusal direction s) 0 ≡ b → (k : Bool) → ltb room (recordSizeOf (typeOf (framed s))) ≡ k
+        → cond b (cond k 13 0) (readRefusal direction s) ≡ 0 → Taken direction s room
+    by true p false q y = record { read = eqb-true (readRefusal direction s) 0 p; roomy = ltb-false room (recordSizeOf (typeOf (framed s))) q }
     by true p true q y = absurd (omega (arith, y))
     by false p k q y = absurd (eqb-false (readRefusal direction s) 0 p y)
 
@@ -100,12 +103,13 @@ module _ (m : List ℕ) (bytes : Bytes m) (w : Whole m) (exact : length m ≡ to
   pub order-held : orders.readRefusal m ≡ 0 → (t : List ℕ) → recordAt (recordBytes (orders.recordOf m) ++ t) ≡ orders.recordOf m
   order-held z t = record-again (orders.recordOf m) (orderTrip.read-sound m bytes z) t
 
-  -- a record is at most 439 bytes
-  pub recorded-at-most : ownRefusal m ≡ 0 → length (recordOf m) ≤ 439
-  unfolding ownRefusal recordOf sessionRecordBytes
-  recorded-at-most z = by (isSession (typeOf m)) z
+  -- a record is as long as its type says, no more and no less
+  pub recorded-exactly : ownRefusal m ≡ 0 → length (recordOf m) ≡ recordSizeOf (typeOf m)
+  unfolding ownRefusal recordOf recordSizeOf sessionRecordBytes
+  recorded-exactly z = by (isSession (typeOf m)) z
     where
-      by : (b : Bool) → cond b (sessions.readRefusal m) (orders.readRefusal m) ≡ 0 → length (cond b (sessionRecordBytes (sessions.recordOf m)) (recordBytes (orders.recordOf m))) ≤ 439
+      by : (b : Bool) → cond b (sessions.readRefusal m) (orders.readRefusal m) ≡ 0
+          → length (cond b (sessionRecordBytes (sessions.recordOf m)) (recordBytes (orders.recordOf m))) ≡ cond b sessionRecordSize recordSize
       by true y = let n = body-whole y in omega (arith, n)
       by false y = let n = record-length (orders.recordOf m) (orderTrip.read-sound m bytes y) in omega (arith, n)
 
@@ -142,6 +146,10 @@ module _ (m : List ℕ) (bytes : Bytes m) (w : Whole m) (exact : length m ≡ to
         by true q y = ap (λ (r : sessionRecords.Record). sessions.sessionBytes r) (session-held y t) ∙ sessionTrip.written-again m bytes w exact y
         by false q y = ap (λ (r : orderRecords.Record). orders.orderBytes r) (order-held y t) ∙ orderTrip.written-again m bytes w exact y
 
+-- a record of its type's size has a type byte
+not-empty : (s : List ℕ) → recordSizeOf (getD s 0 0) ≤ length s → length s ≡ 0 → ⊥
+not-empty s h z = omega (arith, h, z, size-not-zero (getD s 0 0))
+
 -- ---- WRITTEN AGAIN
 
 module _ (direction : ℕ) (s buffer : List ℕ) (bytes : Bytes s) (z : readCall direction s (length buffer) ≡ 0) where
@@ -165,25 +173,27 @@ module _ (direction : ℕ) (s buffer : List ℕ) (bytes : Bytes s) (z : readCall
   unfolding readRecord
   record-stored = rw (eq-eqb (readCall direction s (length buffer)) 0 z) (front buffer (recordOf (framed s)))
 
-  record-size : length (recordOf (framed s)) ≤ 439
-  record-size = recorded-at-most (framed s) part-bytes (whole (framed s) alone) exact (it .owns)
-
-  long : 439 ≤ length (readRecord direction s buffer)
-  unfolding readRecord
-  long =
-      let r : 439 ≤ length buffer = taken direction s (length buffer) z .roomy in
-      let n : length (patched buffer 0 (recordOf (framed s))) ≡ length buffer = patched-length buffer 0 (recordOf (framed s)) (omega (arith, record-size, r)) in
-      rw (eq-eqb (readCall direction s (length buffer)) 0 z) (omega (arith, n, r))
+  record-size : length (recordOf (framed s)) ≡ recordSizeOf (typeOf (framed s))
+  record-size = recorded-exactly (framed s) part-bytes (whole (framed s) alone) exact (it .owns)
 
   type-kept : getD (readRecord direction s buffer) 0 0 ≡ typeOf (framed s)
   type-kept =
       ap (λ (l : List ℕ). getD l 0 0) record-stored
       ∙ type-first (framed s) part-bytes (whole (framed s) alone) exact (it .owns) (drop (length (recordOf (framed s))) buffer)
 
+  long : recordSizeOf (getD (readRecord direction s buffer) 0 0) ≤ length (readRecord direction s buffer)
+  unfolding readRecord
+  long =
+      let r : recordSizeOf (typeOf (framed s)) ≤ length buffer = taken direction s (length buffer) z .roomy in
+      let n : length (patched buffer 0 (recordOf (framed s))) ≡ length buffer = patched-length buffer 0 (recordOf (framed s)) (omega (arith, record-size, r)) in
+      let k : length (readRecord direction s buffer) ≡ length buffer = rw (eq-eqb (readCall direction s (length buffer)) 0 z) n in
+      let e : recordSizeOf (getD (readRecord direction s buffer) 0 0) ≡ recordSizeOf (typeOf (framed s)) = ap recordSizeOf type-kept in
+      omega (arith, r, k, e)
+
   -- the writer takes the record, if it has room for the message
   pub taken-again : (room : ℕ) → length (framed s) ≤ room → writeCall direction (readRecord direction s buffer) room ≡ 0
   taken-again room h =
-      own-write direction (readRecord direction s buffer) [] long (ap (carries direction) type-kept ∙ it .carried) room
+      own-write direction (readRecord direction s buffer) [] (not-empty (readRecord direction s buffer) long) (ap (carries direction) type-kept ∙ it .carried) long room
       ∙ ap (λ (l : List ℕ). ownWrite l room) record-stored
       ∙ own-taken (framed s) part-bytes (whole (framed s) alone) exact (it .owns) (drop (length (recordOf (framed s))) buffer) room h
 
@@ -198,18 +208,20 @@ module _ (direction : ℕ) (s buffer : List ℕ) (bytes : Bytes s) (z : readCall
 -- ---- a record that the writer takes
 
 pub record Given (direction : ℕ) (s : List ℕ) (room : ℕ) : Type 0 where
-  pub long : 439 ≤ length s
+  pub long : recordSizeOf (getD s 0 0) ≤ length s
   pub carried : carries direction (getD s 0 0) ≡ true
   pub owns : ownWrite s room ≡ 0
 
 pub given : (direction : ℕ) (s : List ℕ) (room : ℕ) → writeCall direction s room ≡ 0 → Given direction s room
 unfolding writeCall
-given direction s room z = by (ltb (length s) 439) refl (carries direction (getD s 0 0)) refl z
+given direction s room z = by (eqb (length s) 0) (carries direction (getD s 0 0)) refl (ltb (length s) (recordSizeOf (getD s 0 0))) refl z
   where
-    by : (b : Bool) → ltb (length s) 439 ≡ b → (k : Bool) → carries direction (getD s 0 0) ≡ k → cond b 13 (cond k (ownWrite s room) 4) ≡ 0 → Given direction s room
-    by false p true q y = record { long = ltb-false (length s) 439 p; carried = q; owns = y }
-    by false p false q y = absurd (omega (arith, y))
-    by true p k q y = absurd (omega (arith, y))
+    by : (e k : Bool) → carries direction (getD s 0 0) ≡ k → (b : Bool) → ltb (length s) (recordSizeOf (getD s 0 0)) ≡ b
+        → cond e 13 (cond (not k) 4 (cond b 13 (ownWrite s room))) ≡ 0 → Given direction s room
+    by false true q false p y = record { long = ltb-false (length s) (recordSizeOf (getD s 0 0)) p; carried = q; owns = y }
+    by false true q true p y = absurd (omega (arith, y))
+    by false false q b p y = absurd (omega (arith, y))
+    by true k q b p y = absurd (omega (arith, y))
 
 -- what its message is, with any bytes after it
 pub record Message (s t : List ℕ) : Type 0 where
@@ -219,33 +231,38 @@ pub record Message (s t : List ℕ) : Type 0 where
   pub reads : ownRefusal (messageOf s) ≡ 0
   pub record-is : recordOf (messageOf s) ≡ heldIn s
 
-module _ (s : List ℕ) (bytes : Bytes s) (room : ℕ) (h : 439 ≤ length s) (t : List ℕ) where
-  session-sound : sessionTrip.Sound (sessionAt s)
+module _ (s : List ℕ) (bytes : Bytes s) (room : ℕ) (h : recordSizeOf (getD s 0 0) ≤ length s) (t : List ℕ) where
+  session-sound : sessionRecordSize ≤ length s → sessionTrip.Sound (sessionAt s)
   unfolding sessionAt
-  session-sound = record { body-length = let d : length (drop 6 s) ≡ length s - 6 = length-drop 6 s in length-take-le 433 (drop 6 s) (omega arith) }
+  session-sound k = record { body-length = let d : length (drop 6 s) ≡ length s - 6 = length-drop 6 s in length-take-le 433 (drop 6 s) (omega arith) }
 
   session-message : isSession (getD s 0 0) ≡ true → sessions.recordRefusal (sessionAt s) room ≡ 0 → Message s t
   unfolding messageOf ownRefusal recordOf heldIn sessionAt
   session-message b z =
       let r = sessionAt s in
-      let again = sessionTrip.read-again r room session-sound z in
+      let size = session-size (getD s 0 0) b in
+      let k : sessionRecordSize ≤ length s = omega (arith, h, size) in
+      let sound = session-sound k in
+      let again = sessionTrip.read-again r room sound z in
       let m = sessions.sessionBytes r in
       let e : messageOf s ≡ m = rw b in
       let type : typeOf m ≡ getD s 0 0 = ap (λ (x : sessionRecords.Record). x .message) again in
       let kind : isSession (typeOf m) ≡ true = ap isSession type ∙ b in
       record {
-        frames = ap (λ (x : List ℕ). frameRefusal (x ++ t)) e ∙ sessionTrip.framed-after r room session-sound z t;
-        framed-is-it = ap (λ (x : List ℕ). framed (x ++ t)) e ∙ sessionTrip.framed-as-written r room session-sound z t ∙ sym e;
+        frames = ap (λ (x : List ℕ). frameRefusal (x ++ t)) e ∙ sessionTrip.framed-after r room sound z t;
+        framed-is-it = ap (λ (x : List ℕ). framed (x ++ t)) e ∙ sessionTrip.framed-as-written r room sound z t ∙ sym e;
         type-is = ap typeOf e ∙ type;
-        reads = ap ownRefusal e ∙ rw kind (sessionTrip.read-accepts r room session-sound z);
-        record-is = ap recordOf e ∙ rw b (ap sessionRecordBytes again ∙ session-bytes-again s bytes h);
+        reads = ap ownRefusal e ∙ rw kind (sessionTrip.read-accepts r room sound z);
+        record-is = ap recordOf e ∙ rw (b, size) (ap sessionRecordBytes again ∙ session-bytes-again s bytes k);
       }
 
   order-message : isSession (getD s 0 0) ≡ false → orders.writeRefusal (recordAt s) room ≡ 0 → Message s t
   unfolding messageOf ownRefusal recordOf heldIn orders.recordOf recordAt
   order-message b z =
       let r = recordAt s in
-      let sound = at-sound s bytes (omega (arith, h)) in
+      let size = order-size (getD s 0 0) b in
+      let k : recordSize ≤ length s = omega (arith, h, size) in
+      let sound = at-sound s bytes k in
       let again = orderTrip.read-again r room sound z in
       let m = orders.orderBytes r in
       let e : messageOf s ≡ m = rw b in
@@ -256,7 +273,7 @@ module _ (s : List ℕ) (bytes : Bytes s) (room : ℕ) (h : 439 ≤ length s) (t
         framed-is-it = ap (λ (x : List ℕ). framed (x ++ t)) e ∙ orderTrip.framed-as-written r room sound z t ∙ sym e;
         type-is = ap typeOf e ∙ type;
         reads = ap ownRefusal e ∙ rw kind (orderTrip.read-accepts r room sound z);
-        record-is = ap recordOf e ∙ rw (kind, b) (ap recordBytes again ∙ bytes-again s bytes (omega (arith, h)));
+        record-is = ap recordOf e ∙ rw (kind, size) (ap recordBytes again ∙ bytes-again s bytes k);
       }
 
   its-message : ownWrite s room ≡ 0 → Message s t
@@ -279,12 +296,14 @@ module _ (direction : ℕ) (s out : List ℕ) (bytes : Bytes s) (z : writeCall d
       ∙ ap ownRefusal (m .framed-is-it)
       ∙ m .reads
 
-  pub read-after : (t buffer : List ℕ) → 439 ≤ length buffer → (readCall direction (messageOf s ++ t) (length buffer) ≡ 0) × (readRecord direction (messageOf s ++ t) buffer ≡ patched buffer 0 (heldIn s))
-  unfolding readRecord readCall
+  pub read-after : (t buffer : List ℕ) → recordSizeOf (getD s 0 0) ≤ length buffer
+      → (readCall direction (messageOf s ++ t) (length buffer) ≡ 0) × (readRecord direction (messageOf s ++ t) buffer ≡ patched buffer 0 (heldIn s))
+  unfolding readRecord
   read-after t buffer h =
       let g = given direction s (length out) z in
       let m = its-message s bytes (length out) (g .long) t (g .owns) in
-      let q : readCall direction (messageOf s ++ t) (length buffer) ≡ 0 = rw (eq-eqb (readRefusal direction (messageOf s ++ t)) 0 (accepted-after t), le-ltb (length buffer) 439 h) in
+      let size : recordSizeOf (typeOf (framed (messageOf s ++ t))) ≡ recordSizeOf (getD s 0 0) = ap (λ (x : List ℕ). recordSizeOf (typeOf x)) (m .framed-is-it) ∙ ap recordSizeOf (m .type-is) in
+      let q : readCall direction (messageOf s ++ t) (length buffer) ≡ 0 = own-size-suffices direction (messageOf s ++ t) (length buffer) (omega (arith, h, size)) ∙ accepted-after t in
       (q, rw (eq-eqb (readCall direction (messageOf s ++ t) (length buffer)) 0 q) (ap (λ (x : List ℕ). patched buffer 0 (recordOf x)) (m .framed-is-it) ∙ ap (patched buffer 0) (m .record-is)))
 
   -- what the output buffer holds: the message, and after it what stood there
@@ -293,9 +312,72 @@ module _ (direction : ℕ) (s out : List ℕ) (bytes : Bytes s) (z : writeCall d
   message-stored = rw (eq-eqb (writeCall direction s (length out)) 0 z) (front out (messageOf s))
 
   -- READ AGAIN: the output buffer, whatever it held, is read as the record
-  pub read-again : (buffer : List ℕ) → 439 ≤ length buffer → (readCall direction (writeOut direction s out) (length buffer) ≡ 0) × (readRecord direction (writeOut direction s out) buffer ≡ patched buffer 0 (heldIn s))
+  pub read-again : (buffer : List ℕ) → recordSizeOf (getD s 0 0) ≤ length buffer
+      → (readCall direction (writeOut direction s out) (length buffer) ≡ 0) × (readRecord direction (writeOut direction s out) buffer ≡ patched buffer 0 (heldIn s))
   read-again buffer h =
       let r = read-after (drop (length (messageOf s)) out) buffer h in (
         ap (λ (x : List ℕ). readCall direction x (length buffer)) message-stored ∙ r .0,
         ap (λ (x : List ℕ). readRecord direction x buffer) message-stored ∙ r .1,
       )
+
+-- ---- BYTES AFTER A RECORD PLAY NO PART: cut at its type's size, it is judged alike and gives the same message
+
+module _ (s : List ℕ) (bytes : Bytes s) (h : recordSizeOf (getD s 0 0) ≤ length s) where
+  type-cut : getD (heldIn s) 0 0 ≡ getD s 0 0
+  unfolding heldIn
+  type-cut = getD-take (recordSizeOf (getD s 0 0)) s 0 0 (size-not-zero (getD s 0 0))
+
+  cut-long : recordSizeOf (getD (heldIn s) 0 0) ≤ length (heldIn s)
+  unfolding heldIn
+  cut-long =
+      let e : recordSizeOf (getD (heldIn s) 0 0) ≡ recordSizeOf (getD s 0 0) = ap recordSizeOf type-cut in
+      let n : length (heldIn s) ≡ recordSizeOf (getD s 0 0) = length-take-le (recordSizeOf (getD s 0 0)) s h in
+      omega (arith, e, n)
+
+  session-cut : isSession (getD s 0 0) ≡ true → sessionAt (heldIn s) ≡ sessionAt s
+  unfolding heldIn sessionAt
+  session-cut b =
+      let size = session-size (getD s 0 0) b in
+      let k : sessionRecordSize ≤ length s = omega (arith, h, size) in
+      let d : length (drop 6 s) ≡ length s - 6 = length-drop 6 s in
+      let e : heldIn s ≡ sessionRecordBytes (sessionAt s) ++ [] = rw size (sym (append-nil (sessionRecordBytes (sessionAt s)) ∙ session-bytes-again s bytes k)) in
+      ap sessionAt e ∙ session-again (sessionAt s) (length-take-le 433 (drop 6 s) (omega (arith, k, d))) (number-fits 4 2 s bytes) []
+
+  order-cut : isSession (getD s 0 0) ≡ false → recordAt (heldIn s) ≡ recordAt s
+  unfolding heldIn
+  order-cut b =
+      let size = order-size (getD s 0 0) b in
+      let k : recordSize ≤ length s = omega (arith, h, size) in
+      let e : heldIn s ≡ recordBytes (recordAt s) ++ [] = rw size (sym (append-nil (recordBytes (recordAt s)) ∙ bytes-again s bytes k)) in
+      ap recordAt e ∙ record-again (recordAt s) (at-sound s bytes k) []
+
+  -- whatever is made of the record that the bytes are
+  alike : {A : Type 0} (f : sessionRecords.Record → A) (g : orderRecords.Record → A)
+      → cond (isSession (getD (heldIn s) 0 0)) (f (sessionAt (heldIn s))) (g (recordAt (heldIn s))) ≡ cond (isSession (getD s 0 0)) (f (sessionAt s)) (g (recordAt s))
+  alike f g =
+      ap (λ (x : ℕ). cond (isSession x) (f (sessionAt (heldIn s))) (g (recordAt (heldIn s)))) type-cut
+      ∙ by (isSession (getD s 0 0)) refl
+    where
+      by : (b : Bool) → isSession (getD s 0 0) ≡ b → cond b (f (sessionAt (heldIn s))) (g (recordAt (heldIn s))) ≡ cond b (f (sessionAt s)) (g (recordAt s))
+      by true q = ap f (session-cut q)
+      by false q = ap g (order-cut q)
+
+  message-cut : messageOf (heldIn s) ≡ messageOf s
+  unfolding messageOf
+  message-cut = alike sessions.sessionBytes orders.orderBytes
+
+  module _ (direction : ℕ) where
+    whole-record : (l : List ℕ) → recordSizeOf (getD l 0 0) ≤ length l → (room : ℕ) → writeCall direction l room ≡ cond (not (carries direction (getD l 0 0))) 4 (ownWrite l room)
+    unfolding writeCall
+    whole-record l k room = rw (ne-eqb (length l) 0 (not-empty l k), le-ltb (length l) (recordSizeOf (getD l 0 0)) k)
+
+    pub judged-alike : (room : ℕ) → writeCall direction (heldIn s) room ≡ writeCall direction s room
+    unfolding ownWrite
+    judged-alike room =
+        whole-record (heldIn s) cut-long room
+        ∙ ap₂ (λ (x n : ℕ). cond (not (carries direction x)) 4 n) type-cut (alike (λ (r : sessionRecords.Record). sessions.recordRefusal r room) (λ (r : orderRecords.Record). orders.writeRefusal r room))
+        ∙ sym (whole-record s h room)
+
+    pub written-alike : (out : List ℕ) → writeOut direction (heldIn s) out ≡ writeOut direction s out
+    unfolding writeOut
+    written-alike out = ap₂ (λ (n : ℕ) (m : List ℕ). cond (eqb n 0) (patched out 0 m) out) (judged-alike (length out)) message-cut

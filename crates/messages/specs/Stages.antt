@@ -1,16 +1,24 @@
--- The stages of the reader, as its functions have them. Definitions alone. Assumes nothing.
+-- The stages of the reader and of the writer, as their functions have them. Definitions alone. Assumes nothing.
 use Prim.Native.Nat.{ℕ}
 use mathlib.Core.Bool.{cond}
 use mathlib.Core.List.{List}
-use lib.Dec.{eqb}
+use lib.Dec.{eqb, ltb}
+use lib.ListN.{length}
+use Rattle.refusals.specs.Names.{noRoom}
 use Rattle.numbers.specs.Numbers.{patched}
-use Rattle.wire.specs.Frame.{framed}
-use Rattle.messages.specs.Messages.{recordOf, readRefusal}
 
--- a buffer after a refusal, or with a record's bytes in its front
-abbrev pub ownRecord : ℕ → List ℕ → List ℕ → List ℕ
-ownRecord refusal bytes buffer = cond (eqb refusal 0) (patched buffer 0 bytes) buffer
+-- a message's refusal, and after it 13 for a buffer under its record's size
+unfoldable pub roomRefusal : ℕ → ℕ → ℕ → ℕ
+roomRefusal refusal size room = cond (eqb refusal 0) (cond (ltb room size) noRoom 0) refusal
 
--- a buffer with room for any record, after the first whole message of s
-unfoldable pub wholeRecord : ℕ → List ℕ → List ℕ → List ℕ
-wholeRecord direction s buffer = ownRecord (readRefusal direction s) (recordOf (framed s)) buffer
+-- the buffer after that: as it was, or with the record's bytes in its front
+unfoldable pub roomRecord : ℕ → ℕ → List ℕ → List ℕ → List ℕ
+roomRecord refusal size bytes buffer = cond (eqb (roomRefusal refusal size (length buffer)) 0) (patched buffer 0 bytes) buffer
+
+-- 13 for a record under its type's size, and after it its own refusal
+unfoldable pub sizeRefusal : ℕ → ℕ → ℕ → ℕ
+sizeRefusal size long refusal = cond (ltb long size) noRoom refusal
+
+-- the output buffer after that: as it was, or as the record's own writing leaves it
+unfoldable pub sizeOut : ℕ → ℕ → List ℕ → List ℕ → List ℕ
+sizeOut size long after out = cond (ltb long size) out after

@@ -1,14 +1,18 @@
 // The two directions: one reader and one writer each, over all types of that direction. Direction 0 is from the member, 1 from the venue.
-// A record is bytes in a lent buffer of 439 bytes or more: 439 of a session message, 235 of an order.
+// A record is the first bytes of a lent buffer, as many as its type's record has: 439 of a session message, 235 of an order.
 ghost use mathlib.Core.Path.{_≡_};
 ghost use mathlib.Core.List.{_++_};
 ghost use Prim.Native.Nat.{_-_, _≤_};
 ghost use lib.ListN.{length};
 ghost use Rattle.numbers.specs.Numbers.{patched};
 ghost use Rattle.block.specs.Slots.{zeros};
+ghost use Rattle.block.specs.Sizes.{recordSize};
+ghost use Rattle.orders.specs.Orders as orders;
+ghost use Rattle.order_records.specs.Records.{recordBytes, recordAt};
 ghost use Rattle.session_messages.specs.Sessions as sessions;
+ghost use Rattle.session_messages.specs.Sizes.{sessionRecordSize};
 ghost use Rattle.messages.specs.Messages.{isSession, carries, sessionRecordBytes, sessionAt, readRefusal, readCall, readRecord, writeCall, writeOut};
-ghost use Rattle.messages.specs.Stages.{ownRecord, wholeRecord};
+ghost use Rattle.messages.specs.Stages.{roomRefusal, roomRecord, sizeRefusal, sizeOut};
 
 // Whether a type is a session message's.
 fn is_session(message: u8) -> bool
@@ -51,7 +55,7 @@ fn put_body(b: &[u8], tail: &mut [u8])
 
 // A session message's record into the front of a buffer.
 fn put_session(m: &[u8], buffer: &mut [u8])
-    requires { ⌜ (10 ≤ length (now m)) × (length (now m) ≤ 443) × (439 ≤ length (now buffer)) ⌝ }
+    requires { ⌜ (10 ≤ length (now m)) × (length (now m) ≤ 443) × (sessionRecordSize ≤ length (now buffer)) ⌝ }
     ensures { λ _. ⌜ now (buffer .exit) ≡ patched (now (buffer .entry)) 0 (sessionRecordBytes (sessions.recordOf (now (m .entry)))) ⌝ }
 {
     let message = wire::header::type_of(m);
@@ -61,23 +65,40 @@ fn put_session(m: &[u8], buffer: &mut [u8])
     put_body(&m[10..], &mut buffer[6..]);
 }
 
-// Reads a session message, as framing answers it, into a buffer.
+// Reads a session message, as framing answers it, into a buffer: its refusal, then 13 for a buffer under its record's size.
 fn read_session(m: &[u8], buffer: &mut [u8]) -> u8
-    requires { ⌜ 439 ≤ length (now buffer) ⌝ }
-    ensures { λ r. ⌜ (r ≡ sessions.readRefusal (now (m .entry))) × (now (buffer .exit) ≡ ownRecord (sessions.readRefusal (now (m .entry))) (sessionRecordBytes (sessions.recordOf (now (m .entry)))) (now (buffer .entry))) ⌝ }
+    ensures { λ r. ⌜ (r ≡ roomRefusal (sessions.readRefusal (now (m .entry))) sessionRecordSize (length (now (buffer .entry)))) × (now (buffer .exit) ≡ roomRecord (sessions.readRefusal (now (m .entry))) sessionRecordSize (sessionRecordBytes (sessions.recordOf (now (m .entry)))) (now (buffer .entry))) ⌝ }
 {
     let refusal = session_messages::read_refusal(m);
     if refusal != 0 {
         return refusal;
     }
+    if buffer.len() < session_messages::RECORD {
+        return refusals::NO_ROOM;
+    }
     put_session(m, buffer);
     0
 }
 
-// Reads the first whole message of any bytes into a buffer that has room for any record.
-fn read_whole(direction: u8, bytes: &[u8], buffer: &mut [u8]) -> u8
-    requires { ⌜ 439 ≤ length (now buffer) ⌝ }
-    ensures { λ r. ⌜ (r ≡ readRefusal direction (now (bytes .entry))) × (now (buffer .exit) ≡ wholeRecord direction (now (bytes .entry)) (now (buffer .entry))) ⌝ }
+// The same of an order message.
+fn read_order(m: &[u8], buffer: &mut [u8]) -> u8
+    ensures { λ r. ⌜ (r ≡ roomRefusal (orders.readRefusal (now (m .entry))) recordSize (length (now (buffer .entry)))) × (now (buffer .exit) ≡ roomRecord (orders.readRefusal (now (m .entry))) recordSize (recordBytes (orders.recordOf (now (m .entry)))) (now (buffer .entry))) ⌝ }
+{
+    if block::RECORD <= buffer.len() {
+        return order_reader::read_order(m, buffer);
+    }
+    let refusal = order_reader::order_refusal(m);
+    if refusal != 0 {
+        return refusal;
+    }
+    refusals::NO_ROOM
+}
+
+// Reads the first whole message of any bytes into a record's buffer: 0, and the record stands in the front of the buffer; or the refusal, 1
+// to 11, and after these 13 for a buffer under the size of this message's record, and the buffer is as it was. Bytes after the message play
+// no part.
+pub fn read(direction: u8, bytes: &[u8], buffer: &mut [u8]) -> u8
+    ensures { λ r. ⌜ (r ≡ readCall direction (now (bytes .entry)) (length (now (buffer .entry)))) × (now (buffer .exit) ≡ readRecord direction (now (bytes .entry)) (now (buffer .entry))) ⌝ }
 {
     let refusal = wire::frame_refusal(bytes);
     if refusal != 0 {
@@ -91,47 +112,50 @@ fn read_whole(direction: u8, bytes: &[u8], buffer: &mut [u8]) -> u8
     if is_session(message) {
         return read_session(m, buffer);
     }
-    order_reader::read_order(m, buffer)
+    read_order(m, buffer)
 }
 
-// The refusal of the first whole message of any bytes (1 to 11), or 0. Bytes after it play no part.
+// The refusal of the first whole message of any bytes (1 to 11), or 0: the scratch has room for any record. Bytes after it play no part.
 pub fn read_refusal(direction: u8, bytes: &[u8]) -> u8
     ensures { λ r. ⌜ r ≡ readRefusal direction (now (bytes .entry)) ⌝ }
 {
-    let mut scratch = [0u8; 439];
-    read_whole(direction, bytes, &mut scratch)
+    let mut scratch = [0u8; session_messages::RECORD];
+    read(direction, bytes, &mut scratch)
 }
 
-// Reads the first whole message of any bytes into a record's buffer: 0, and the record stands in the front of the buffer; or the refusal, 1
-// to 11, or 13 for a buffer under 439 bytes, and the buffer is as it was. Bytes after the message play no part.
-pub fn read(direction: u8, bytes: &[u8], buffer: &mut [u8]) -> u8
-    ensures { λ r. ⌜ (r ≡ readCall direction (now (bytes .entry)) (length (now (buffer .entry)))) × (now (buffer .exit) ≡ readRecord direction (now (bytes .entry)) (now (buffer .entry))) ⌝ }
-{
-    if 439 <= buffer.len() {
-        return read_whole(direction, bytes, buffer);
-    }
-    let refusal = read_refusal(direction, bytes);
-    if refusal != 0 {
-        return refusal;
-    }
-    refusals::NO_ROOM
-}
-
-// Writes a session message's record.
+// Writes a session message's record: 13 for one under its size, then its own refusals.
 fn write_session(given: &[u8], out: &mut [u8]) -> u8
-    requires { ⌜ 439 ≤ length (now given) ⌝ }
-    ensures { λ r. ⌜ (r ≡ sessions.recordRefusal (sessionAt (now (given .entry))) (length (now (out .entry)))) × (now (out .exit) ≡ sessions.recordBuffer (sessionAt (now (given .entry))) (now (out .entry))) ⌝ }
+    ensures { λ r. ⌜ (r ≡ sizeRefusal sessionRecordSize (length (now (given .entry))) (sessions.recordRefusal (sessionAt (now (given .entry))) (length (now (out .entry))))) × (now (out .exit) ≡ sizeOut sessionRecordSize (length (now (given .entry))) (sessions.recordBuffer (sessionAt (now (given .entry))) (now (out .entry))) (now (out .entry))) ⌝ }
 {
+    if given.len() < session_messages::RECORD {
+        return refusals::NO_ROOM;
+    }
     let number = numbers::read_u32(given, 2);
-    session_messages::write_body(given[0], given[1], number, &given[6..439], out)
+    session_messages::write_body(
+        given[0],
+        given[1],
+        number,
+        &given[6..session_messages::RECORD],
+        out,
+    )
 }
 
-// Writes a record: 0, and the buffer begins with the message's bytes and is otherwise as it was; or the refusal, 13 for a record under 439
-// bytes, 4, 5, 7 to 13, and the buffer is as it was.
+// The same of an order's record.
+fn write_order(given: &[u8], out: &mut [u8]) -> u8
+    ensures { λ r. ⌜ (r ≡ sizeRefusal recordSize (length (now (given .entry))) (orders.writeRefusal (recordAt (now (given .entry))) (length (now (out .entry))))) × (now (out .exit) ≡ sizeOut recordSize (length (now (given .entry))) (orders.writeBuffer (recordAt (now (given .entry))) (now (out .entry))) (now (out .entry))) ⌝ }
+{
+    if given.len() < block::RECORD {
+        return refusals::NO_ROOM;
+    }
+    order_writer::write_order(given, out)
+}
+
+// Writes a record: 0, and the buffer begins with the message's bytes and is otherwise as it was; or the refusal, and the buffer is as it was:
+// 13 for an empty record, which has no type, 4, 13 for a record under its type's size, and then its own, 5, 7 to 13.
 pub fn write(direction: u8, given: &[u8], out: &mut [u8]) -> u8
     ensures { λ n. ⌜ (n ≡ writeCall direction (now (given .entry)) (length (now (out .entry)))) × (now (out .exit) ≡ writeOut direction (now (given .entry)) (now (out .entry))) ⌝ }
 {
-    if given.len() < 439 {
+    if given.len() == 0 {
         return refusals::NO_ROOM;
     }
     let message = given[0];
@@ -141,5 +165,5 @@ pub fn write(direction: u8, given: &[u8], out: &mut [u8]) -> u8
     if is_session(message) {
         return write_session(given, out);
     }
-    order_writer::write_order(given, out)
+    write_order(given, out)
 }

@@ -1,3 +1,4 @@
+pub mod Sizes
 pub mod Sessions
 pub mod SessionLaws
 pub mod SessionTrip

@@ -9,6 +9,9 @@ ghost use Rattle.wire.specs.Header.{headerBytes};
 ghost use Rattle.session_messages.specs.Sessions.{ofMember, ofVenue, fixedSize, namesGood, statusGood, reasonGood, valuesGood, flagGood, pairsEnd, responseEnd, listsEnd, bodyEnd, headRefusal, bodyRefusal, readRefusal, blank, refuse, readOf, unusedRefusal, heldRefusal, writeRefusal, writeBuffer, recordRefusal, recordBuffer};
 use kinds::Kind;
 
+// The size of a session message's record as bytes: type, unit, number, body.
+pub const RECORD: usize = 439;
+
 // The record of such a message: `body` is what follows the ten bytes of the header, as on the wire, and zero after it.
 pub struct Record {
     pub message: u8,

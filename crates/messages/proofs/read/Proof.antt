@@ -1,40 +1,116 @@
--- `messages::read` meets its contract. Assumes nothing.
-use Rattle.messages.specs.MessageLaws.{room-reads, short-refused, short-no-room}
-use native.Mathlib.Omega.{arith}
+-- `messages::read` meets its contract: framing's refusal, the type's, then the message's own and 13 by its record's size. Assumes nothing.
+use Rattle.wire.specs.Header.{typeOf}
+use Rattle.orders.specs.Orders as orders
+use Rattle.order_records.specs.Records.{recordBytes}
+use Rattle.session_messages.specs.Sessions as sessions
+use Rattle.session_messages.specs.Sizes.{sessionRecordSize}
+use Rattle.block.specs.Sizes.{recordSize}
+use Rattle.messages.specs.Messages.{isSession, carries, sessionRecordBytes}
+use Rattle.messages.specs.Stages.{roomRefusal, roomRecord}
+use Rattle.messages.specs.MessageLaws.{frame-stops, type-stops, session-reads, order-reads}
+use borrow.Author.Tests.{not-true, not-false}
 use denote.Ref.{now}
+use mathlib.Core.List.{List}
+use lib.ListN.{length}
+use Prim.Native.Nat.{ℕ}
+use mathlib.Core.Path.{sym, ap, _∙_}
 use borrow.Author.Needs.{needs}
 use Rattle.messages.proofs.read.Statement.{statement}
 use Rattle.messages.proofs.read.Tie as tie
 
-read-whole-requires : tie.Need-read-whole-requires
-read-whole-requires c κs = search needs
+frame-refusal-requires : tie.Need-frame-refusal-requires
+frame-refusal-requires c κs = search needs
+
+returns : tie.Need-returns
+returns c =
+    let a = c .before .before .before .before .args in
+    frame-stops (a .direction) (now (a .bytes)) (now (a .buffer)) (c .before .frame-refusal .ensures) (c .if1 .taken)
+
+frame-requires : tie.Need-frame-requires
+frame-requires c κs = search needs
+
+type-of-requires : tie.Need-type-of-requires
+type-of-requires c κs = search needs
+
+carries-requires : tie.Need-carries-requires
+carries-requires c κs = search needs
+
+returns-2 : tie.Need-returns-2
+returns-2 c =
+    let carried = c .before in
+    let type = carried .before in
+    let frame = type .before in
+    let told = frame .before .before in
+    let a = told .before .before .before .args in
+    let t = type .type-of .ensures ∙ ap typeOf (frame .frame .ensures) in
+    type-stops (a .direction) (now (a .bytes)) (now (a .buffer)) (sym (told .frame-refusal .ensures) ∙ frame .before .if1 .left)
+    (ap (carries (a .direction)) (sym t) ∙ sym (carried .carries .ensures) ∙ not-true _ (c .if2 .taken))
+
+is-session-requires : tie.Need-is-session-requires
+is-session-requires c κs = search needs
+
+read-session-requires : tie.Need-read-session-requires
+read-session-requires c κs = search needs
 
 same-length : tie.Need-same-length
 same-length c = search needs
 
-returns : tie.Need-returns
-returns c =
-    let read = c .before .before in
-    let then = read .before .before in
-    let a = then .before .before .before .args in
-    room-reads (a .direction) (now (a .bytes)) (now (a .buffer)) (then .if1 .taken) (read .read-whole .ensures)
-
-read-refusal-requires : tie.Need-read-refusal-requires
-read-refusal-requires c κs = search needs
-
-returns-2 : tie.Need-returns-2
-returns-2 c =
-    let told = c .before in
-    let a = told .before .before .before .before .args in
-    short-refused (a .direction) (now (a .bytes)) (now (a .buffer)) (omega (arith, told .before .if1 .left)) (told .read-refusal .ensures) (c .if2 .taken)
-
 returns-3 : tie.Need-returns-3
 returns-3 c =
-    let told = c .before in
-    let a = told .before .before .before .before .args in
-    short-no-room (a .direction) (now (a .bytes)) (now (a .buffer)) (omega (arith, told .before .if1 .left)) (told .read-refusal .ensures) (c .if2 .left)
+    let read = c .before .before in
+    let then = read .before .before in
+    let kind = then .before in
+    let carried = kind .before .before in
+    let type = carried .before in
+    let frame = type .before in
+    let told = frame .before .before in
+    let a = told .before .before .before .args in
+    let t = type .type-of .ensures ∙ ap typeOf (frame .frame .ensures) in
+    session-reads (a .direction) (now (a .bytes)) (now (a .buffer)) (sym (told .frame-refusal .ensures) ∙ frame .before .if1 .left)
+    (ap (carries (a .direction)) (sym t) ∙ sym (carried .carries .ensures) ∙ not-false _ (kind .before .if2 .left))
+    (ap isSession (sym t) ∙ sym (kind .is-session .ensures) ∙ then .if3 .taken) (
+      read .read-session .ensures .0 ∙ ap (λ (m : List ℕ). roomRefusal (sessions.readRefusal m) sessionRecordSize (length (now (a .buffer)))) (frame .frame .ensures),
+      read .read-session .ensures .1 ∙ ap (λ (m : List ℕ). roomRecord (sessions.readRefusal m) sessionRecordSize (sessionRecordBytes (sessions.recordOf m)) (now (a .buffer))) (frame .frame .ensures),
+    )
+
+read-order-requires : tie.Need-read-order-requires
+read-order-requires c κs = search needs
+
+same-length-2 : tie.Need-same-length-2
+same-length-2 c = search needs
+
+returns-4 : tie.Need-returns-4
+returns-4 c =
+    let read = c .before .before in
+    let else = read .before .before in
+    let kind = else .before in
+    let carried = kind .before .before in
+    let type = carried .before in
+    let frame = type .before in
+    let told = frame .before .before in
+    let a = told .before .before .before .args in
+    let t = type .type-of .ensures ∙ ap typeOf (frame .frame .ensures) in
+    order-reads (a .direction) (now (a .bytes)) (now (a .buffer)) (sym (told .frame-refusal .ensures) ∙ frame .before .if1 .left)
+    (ap (carries (a .direction)) (sym t) ∙ sym (carried .carries .ensures) ∙ not-false _ (kind .before .if2 .left))
+    (ap isSession (sym t) ∙ sym (kind .is-session .ensures) ∙ else .if3 .left) (
+      read .read-order .ensures .0 ∙ ap (λ (m : List ℕ). roomRefusal (orders.readRefusal m) recordSize (length (now (a .buffer)))) (frame .frame .ensures),
+      read .read-order .ensures .1 ∙ ap (λ (m : List ℕ). roomRecord (orders.readRefusal m) recordSize (recordBytes (orders.recordOf m)) (now (a .buffer))) (frame .frame .ensures),
+    )
 
 pub read-spec : {M : Type 1} → statement M
 read-spec =
     tie.close
-    (tie.spec read-whole-requires same-length returns read-refusal-requires returns-2 returns-3)
+    (tie.spec
+    frame-refusal-requires
+    returns
+    frame-requires
+    type-of-requires
+    carries-requires
+    returns-2
+    is-session-requires
+    read-session-requires
+    same-length
+    returns-3
+    read-order-requires
+    same-length-2
+    returns-4)

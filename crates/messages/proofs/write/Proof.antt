@@ -1,7 +1,6 @@
 -- `messages::write` meets its contract. Assumes nothing.
-use Rattle.messages.specs.MessageLaws.{write-short, write-stops, session-writes, order-writes}
+use Rattle.messages.specs.MessageLaws.{write-empty, write-stops, session-writes, order-writes}
 use borrow.Author.Tests.{not-true, not-false}
-use native.Mathlib.Omega.{arith}
 use denote.Ref.{now}
 use mathlib.Core.Path.{sym, _∙_}
 use borrow.Author.Needs.{needs}
@@ -11,7 +10,7 @@ use Rattle.messages.proofs.write.Tie as tie
 returns : tie.Need-returns
 returns c =
     let a = c .before .before .before .args in
-    write-short (a .direction) (now (a .given)) (now (a .out)) (omega (arith, c .if1 .taken))
+    write-empty (a .direction) (now (a .given)) (now (a .out)) (c .if1 .taken)
 
 shared-slice-read-message : tie.Need-shared-slice-read-message
 shared-slice-read-message c = search needs
@@ -24,7 +23,7 @@ returns-2 c =
     let carried = c .before in
     let else = carried .before .before in
     let a = else .before .before .before .args in
-    write-stops (a .direction) (now (a .given)) (now (a .out)) (omega (arith, else .if1 .left)) (sym (carried .carries .ensures) ∙ not-true _ (c .if2 .taken))
+    write-stops (a .direction) (now (a .given)) (now (a .out)) (else .if1 .left) (sym (carried .carries .ensures) ∙ not-true _ (c .if2 .taken))
 
 is-session-requires : tie.Need-is-session-requires
 is-session-requires c κs = search needs
@@ -43,7 +42,7 @@ returns-3 c =
     let carried = kind .before .before in
     let else = carried .before .before in
     let a = else .before .before .before .args in
-    session-writes (a .direction) (now (a .given)) (now (a .out)) (omega (arith, else .if1 .left)) (sym (carried .carries .ensures) ∙ not-false _ (kind .before .if2 .left))
+    session-writes (a .direction) (now (a .given)) (now (a .out)) (else .if1 .left) (sym (carried .carries .ensures) ∙ not-false _ (kind .before .if2 .left))
     (sym (kind .is-session .ensures) ∙ then .if3 .taken) (wrote .write-session .ensures)
 
 write-order-requires : tie.Need-write-order-requires
@@ -60,7 +59,7 @@ returns-4 c =
     let carried = kind .before .before in
     let else = carried .before .before in
     let a = else .before .before .before .args in
-    order-writes (a .direction) (now (a .given)) (now (a .out)) (omega (arith, else .if1 .left)) (sym (carried .carries .ensures) ∙ not-false _ (kind .before .if2 .left))
+    order-writes (a .direction) (now (a .given)) (now (a .out)) (else .if1 .left) (sym (carried .carries .ensures) ∙ not-false _ (kind .before .if2 .left))
     (sym (kind .is-session .ensures) ∙ last .if3 .left) (wrote .write-order .ensures)
 
 pub write-spec : {M : Type 1} → statement M

@@ -1,6 +1,8 @@
--- `messages::write_session` meets its contract: the parts given are those of the record of the bytes. Assumes nothing.
+-- `messages::write_session` meets its contract: where the record is whole, the parts given are those of the record of the bytes. Assumes nothing.
 use Rattle.messages.specs.Messages.{sessionAt}
+use Rattle.messages.proofs.Stages.{size-stops, sized-writes}
 use Rattle.session_messages.specs.Sessions as sessions
+use native.Mathlib.Omega.{arith}
 use Prim.Native.Nat.{ℕ}
 use lib.ListN.{length, getD, take, drop}
 use denote.Ref.{now}
@@ -8,6 +10,11 @@ use mathlib.Core.Path.{ap, _∙_}
 use borrow.Author.Needs.{needs}
 use Rattle.messages.proofs.write_session.Statement.{statement}
 use Rattle.messages.proofs.write_session.Tie as tie
+
+returns : tie.Need-returns
+returns c =
+    let a = c .before .before .before .args in
+    size-stops _ _ _ _ (now (a .out)) (omega (arith, c .if1 .taken))
 
 read-u32-requires : tie.Need-read-u32-requires
 read-u32-requires c κs = search needs
@@ -33,14 +40,16 @@ write-body-requires c κs = search needs
 same-length : tie.Need-same-length
 same-length c = search needs
 
-returns : tie.Need-returns
+returns-2 : tie.Need-returns-2
 unfolding sessionAt
-returns c =
+returns-2 c =
     let wrote = c .before .before in
     let number = wrote .before .before .before .before .before in
-    let a = number .before .before .before .args in
+    let whole = number .before in
+    let a = whole .before .before .before .args in
     let s = now (a .given) in
-    let n = number .read-u32 .ensures in (
+    let n = number .read-u32 .ensures in
+    sized-writes _ _ _ _ (now (a .out)) (omega (arith, whole .if1 .left)) (
       wrote .write-body .ensures .0 ∙ ap (λ (x : ℕ). sessions.writeRefusal (getD s 0 0) (getD s 1 0) x (take 433 (drop 6 s)) (length (now (a .out)))) n,
       wrote .write-body .ensures .1 ∙ ap (λ (x : ℕ). sessions.writeBuffer (getD s 0 0) (getD s 1 0) x (take 433 (drop 6 s)) (now (a .out))) n,
     )
@@ -49,6 +58,7 @@ pub write-session-spec : {M : Type 1} → statement M
 write-session-spec =
     tie.close
     (tie.spec
+    returns
     read-u32-requires
     shared-slice-read-write-body
     shared-slice-read-write-body-2
@@ -57,4 +67,4 @@ write-session-spec =
     part-write-body-end
     write-body-requires
     same-length
-    returns)
+    returns-2)
