@@ -91,6 +91,31 @@ static void steps(void) {
     check(boe_table_step(1, UINT32_MAX, table, sizeof table) == BOE_ALREADY_TAKEN, "not even its own number");
 }
 
+/* A record is as long as its own type's, whatever the other types have: buffers and records of each of these lengths, for both kinds. */
+static void sizes(uint8_t direction, const uint8_t *message, size_t len) {
+    static const size_t lengths[] = {0, 1, BOE_ORDER_RECORD_LEN - 1, BOE_ORDER_RECORD_LEN, BOE_RECORD_LEN - 1, BOE_RECORD_LEN};
+    uint8_t whole[BOE_RECORD_LEN], record[BOE_RECORD_LEN + 1], out[600];
+    const struct boe_record *given = (const struct boe_record *)whole;
+    size_t own = record_len(message[4]);
+    memset(whole, 0x5A, sizeof whole);
+    check(boe_read(direction, message, len, (struct boe_record *)whole, own) == 0, "a buffer of the record's own size is enough");
+    for (size_t i = 0; i < sizeof lengths / sizeof *lengths; i++) {
+        size_t n = lengths[i];
+        unsigned expected = n < own ? BOE_NO_ROOM : 0;
+        memset(record, 0x5A, sizeof record);
+        check(boe_read(direction, message, len, (struct boe_record *)record, n) == expected, "13 for a buffer under the record's own size, and no other");
+        check(expected || memcmp(record, whole, own) == 0, "the record, whatever the buffer's length");
+        check(all_are(record + (expected ? 0 : own), sizeof record - (expected ? 0 : own), 0x5A), "no byte past it, and none where it is refused");
+        memset(out, 0x5A, sizeof out);
+        check(boe_write((uint8_t)(1 - direction), given, n, out, len) == (n ? BOE_UNKNOWN_TYPE : BOE_NO_ROOM), "4 comes before 13 where there is a type");
+        check(boe_write(2, given, n, out, len) == (n ? BOE_UNKNOWN_TYPE : BOE_NO_ROOM), "13 comes first where there is none");
+        check(all_are(out, sizeof out, 0x5A), "refusals stored nothing");
+        check(boe_write(direction, given, n, out, len) == expected, "13 for a record under its own size, and no other");
+        check(expected || memcmp(out, message, len) == 0, "the message, whatever the record's length");
+        check(all_are(out + (expected ? 0 : len), sizeof out - (expected ? 0 : len), 0x5A), "no byte past it, and none where it is refused");
+    }
+}
+
 /* A message read and written again: the same bytes, and bytes after them untouched. */
 static void again(uint8_t direction, const uint8_t *message, size_t len) {
     uint8_t bytes[600], record[BOE_RECORD_LEN + 3], out[600];
@@ -106,8 +131,6 @@ static void again(uint8_t direction, const uint8_t *message, size_t len) {
     check(memcmp(out, message, len) == 0 && out[len] == 0x5A, "as the same bytes, and no byte more");
     memset(out, 0x5A, sizeof out);
     check(boe_write(direction, lent, BOE_RECORD_LEN, out, len - 1) == BOE_NO_ROOM, "one byte short");
-    check(boe_write(direction, lent, BOE_RECORD_LEN - 1, out, len) == BOE_NO_ROOM, "a short record");
-    check(boe_write(direction, lent, BOE_ORDER_RECORD_LEN, out, len) == BOE_NO_ROOM, "an order's record alone is short too");
     check(boe_write((uint8_t)(1 - direction), lent, sizeof record, out, len) == BOE_UNKNOWN_TYPE, "the other direction");
     check(boe_write(2, lent, sizeof record, out, len) == BOE_UNKNOWN_TYPE, "no direction");
     check(all_are(out, sizeof out, 0x5A), "refusals stored nothing");
@@ -115,10 +138,9 @@ static void again(uint8_t direction, const uint8_t *message, size_t len) {
     check(boe_read(direction, bytes, len - 1, lent, sizeof record) == BOE_INCOMPLETE, "a cut message");
     check(boe_read((uint8_t)(1 - direction), bytes, len, lent, sizeof record) == BOE_UNKNOWN_TYPE, "read in the other direction");
     check(boe_read(255, bytes, len, lent, sizeof record) == BOE_UNKNOWN_TYPE, "read in no direction");
-    check(boe_read(direction, bytes, len, lent, BOE_RECORD_LEN - 1) == BOE_NO_ROOM, "a short buffer for the record");
-    check(boe_read(direction, bytes, len, lent, BOE_ORDER_RECORD_LEN) == BOE_NO_ROOM, "room for an order's record alone");
     check(boe_read(direction, bytes, 9, lent, 0) == BOE_INCOMPLETE, "13 comes after the message's refusals");
     check(all_are(record, sizeof record, 0x5A), "refusals stored nothing");
+    sizes(direction, message, len);
 }
 
 static void messages(void) {

@@ -193,19 +193,24 @@ static void try_read(uint8_t direction, uint8_t choice, const uint8_t *data, siz
     /* the same with another buffer, which may be too short */
     lend_filled(&other, (uint8_t)~FILL, room_by(choice, BOE_RECORD_LEN));
     unsigned again = boe_read(direction, bytes.at, n, record_in(&other), other.len);
-    if (other.len < BOE_RECORD_LEN && refusal == 0) {
+    if (other.len < own) {
         must(again == BOE_NO_ROOM && stayed(&other), "13 for a short record, and nothing stored");
     } else {
         must(again == refusal && stayed_from(&other, own), "the buffer changes the answer");
         must(memcmp(other.at, record.at, own) == 0, "the buffer changes the record");
     }
 
-    /* what was read is written again */
+    /* what was read is written again, of the record's own bytes alone */
     if (refusal == 0) {
         size_t total = boe_frame_length(bytes.at, n);
+        lend(&other, record.at, own);
         lend_filled(&out, FILL, total);
-        must(boe_write(direction, record_in(&record), record.len, out.at, total) == 0, "a record that was read is written");
+        must(boe_write(direction, record_in(&other), own, out.at, total) == 0, "a record that was read is written");
         must(memcmp(out.at, data, total) == 0 && stayed_from(&out, total), "it is written as it was read");
+        lend(&other, record.at, own - 1);
+        lend_filled(&out, FILL, total);
+        must(boe_write(direction, record_in(&other), own - 1, out.at, total) == BOE_NO_ROOM, "13 for a record a byte short");
+        must(stayed(&out), "a short record has stored");
         lend_filled(&out, FILL, total - 1);
         must(boe_write(direction, record_in(&record), record.len, out.at, total - 1) == BOE_NO_ROOM, "13 a byte short");
         must(stayed(&out), "a write without room has stored");
@@ -233,11 +238,11 @@ static void try_write(uint8_t direction, uint8_t form, uint16_t out_len, const u
     must(stayed(&record), "writing has stored into the record");
     must(stayed_from(&out, total), "writing has stored past its message");
 
-    /* what was written is read again */
+    /* what was written is read again, into as many bytes as its record has */
     if (refusal == 0) {
-        lend_filled(&other, FILL, BOE_RECORD_LEN);
+        size_t own = record_len(record.at[BOE_RECORD_TYPE_AT]);
+        lend_filled(&other, FILL, own);
         must(boe_read(direction, out.at, out.len, record_in(&other), other.len) == 0, "a message that was written is read");
-        size_t own = record_len(other.at[BOE_RECORD_TYPE_AT]);
         must(memcmp(other.at, record.at, own) == 0 && stayed_from(&other, own), "it is read as it was written");
     }
     ask();

@@ -115,7 +115,7 @@ uint8_t boe_book_close(uint8_t *buffer, size_t buffer_len, struct boe_state *sta
  * 18 for a bad first mark, 17, 18, and after all of these 13 for a state under 144 bytes. */
 uint8_t boe_restart(uint32_t date, const uint8_t *bytes, size_t len, struct boe_state *state, size_t state_len);
 
-/* The bytes of a record's buffer, which reading and writing want whatever the type. */
+/* The bytes of the longest record, a session message's: a buffer of as many has room for the record of any type here. */
 #define BOE_RECORD_LEN 439
 
 struct boe_record {
@@ -192,17 +192,19 @@ struct boe_record {
 
 /* Reads the first whole message of the bytes into a record: 0, and the record stands in its buffer, in the first 235 bytes for an order
  * message, in the first 439 for a session message; the bytes after these stay. Otherwise the buffer is as it was: 1 to 11 by the message
- * (4 also for a direction that is neither), and after all of these 13 for a buffer under 439 bytes. Bytes after the message play no part. */
+ * (4 also for a direction that is neither), and after all of these 13 for a buffer under the 235 or 439 bytes of this message's record. Bytes
+ * after the message play no part. */
 uint8_t boe_read(uint8_t direction, const uint8_t *bytes, size_t len, struct boe_record *record, size_t record_len);
 
 /* Writes the message of a record: 0, and the message stands in the front of the buffer; its length less 2 is in its bytes 2 and 3.
- * Otherwise the buffer is as it was: 13 for a record under 439 bytes, then 4 (also for a direction that is neither), 5, and then in this
+ * Otherwise the buffer is as it was: 13 for an empty record, which has no type; 4 (also for a direction that is neither), however short the
+ * record is; 13 for a record under the bytes of its own type, 235 for an order message and 439 for a session message; 5; and then in this
  * order
  *   for an order message 7, 8, 9, 10, 12;
  *   for Login Request, Login Response and Logout 10, 11 (also for a byte that is not zero after the last group or pair);
  *   for a heartbeat and Replay Complete 12 (a byte of the body that is not zero);
- * and last 13 for a buffer under the message's length. Bytes past 235 in the record of an order message, and past 439 in any, play no
- * part. */
+ * and last 13 for a buffer under the message's length. Bytes past 235 in the record of an order message, and past 439 in that of a
+ * session message, play no part. */
 uint8_t boe_write(uint8_t direction, const struct boe_record *record, size_t record_len, uint8_t *out, size_t out_len);
 
 /* New Order (0x38), from the member: place and width in a record; for an optional field also its bitfield byte, counted from 1, and its bit */

@@ -376,18 +376,18 @@ fn read(line: &[u8], bytes: &mut [u8]) -> bool {
 
 // The answer to `read` of the bytes.
 fn read_by(direction: u8, s: &[u8]) {
-    let mut out = [0u8; 439];
+    let mut out = [0u8; session_messages::RECORD];
     let refusal = gateway::boe_read(direction, s, &mut out);
     if refusal != 0 {
         writing::decimal(refusal as u64);
     } else if is_order(out[0]) {
-        refused(0, &out[0..235]);
+        refused(0, &out[0..block::RECORD]);
     } else {
         refused(0, &out);
     }
 }
 
-// Whether a type is an order message's, whose record is the first 235 bytes.
+// Whether a type is an order message's, whose record is the first `block::RECORD` bytes.
 fn is_order(message: u8) -> bool {
     match message {
         0x38 | 0x39 | 0x25 | 0x2C => true,
