@@ -16,6 +16,7 @@ mod outside;
 pub mod parts;
 mod reading;
 pub mod session;
+mod sizes;
 mod strokes;
 mod table;
 mod text;
@@ -35,6 +36,7 @@ pub fn all() -> String {
     outside::ask(&mut lines);
     bitfields::ask(&mut lines);
     session::ask(&mut lines);
+    sizes::ask(&mut lines);
     book::ask(&mut lines);
     listing::ask(&mut lines);
     let mut output = String::new();

@@ -47,7 +47,7 @@ fn each_call() {
     check("silent 4999 0", "0");
 }
 
-/// P8, its record by the table of README.md, and back; the record's buffer has 439 bytes.
+/// P8, its record by the table of README.md, and back; the record has 235 bytes.
 #[test]
 fn read_and_write() {
     let cancel = format!("BABA1D00390064000000414243313233{}00", "00".repeat(14));
@@ -75,7 +75,16 @@ fn read_and_write() {
     check(&format!("write 0 {} -", record), "13 -");
     check(&format!("write 1 {} 0102", record), "4 0102");
     check(&format!("write 9 {} 0102", record), "4 0102");
-    check(&format!("write 9 {} 0102", &record[2..]), "13 0102");
+    let own = &record[..470];
+    check(
+        &format!("write 0 {} {}", own, buffer),
+        &format!("0 {}EE", cancel),
+    );
+    check(&format!("write 0 {} 0102", &own[..468]), "13 0102");
+    check("write 0 39 0102", "13 0102");
+    check("write 1 39 0102", "4 0102");
+    check("write 9 39 0102", "4 0102");
+    check("write 9 - 0102", "13 0102");
     check("write 0 - -", "13 -");
 }
 
@@ -90,7 +99,13 @@ fn read_and_write_of_the_session() {
         &format!("write 0 {} {}EE", record, "EE".repeat(10)),
         &format!("0 {}EE", heartbeat),
     );
-    check(&format!("write 0 {} -", &record[2..]), "13 -");
+    let buffer = "EE".repeat(10);
+    let short = &record[..2 * 438];
+    check(
+        &format!("write 0 {} {}", short, buffer),
+        &format!("13 {}", buffer),
+    );
+    check(&format!("write 1 {} -", short), "4 -");
     let body = format!("41{}0100000000012007000000010500800000", "00".repeat(60));
     let response = format!("BABA560024{}{}", "00".repeat(5), body);
     assert_eq!(response.len(), 2 * 88);

@@ -5,8 +5,8 @@ use super::order;
 use super::parts::Parts;
 use super::reading::Asked;
 use crate::random::Random;
-use crate::rules::record::LENT;
-use crate::rules::{read, refusal, write, Refusal};
+use crate::rules::record::{SESSION_SIZE, SIZE};
+use crate::rules::{read, refusal, session, write};
 use crate::{ask, hex};
 use std::collections::{BTreeMap, BTreeSet};
 
@@ -100,15 +100,22 @@ pub fn writes(lines: &[String]) -> Seen {
 }
 
 /// Writes a record with some faults: the first of them in the order is told, and the buffer changes
-/// where there is none; a record one byte short is refused whatever its faults.
+/// where there is none. Of a shorter record only the type is judged, and that if it is there.
 pub fn first_fault_written(direction: u8, record: &[u8], before: &[u8], faults: u8, order: &[u8]) {
     let mut buffer = before.to_vec();
     let answer = refusal(write::record(direction, record, &mut buffer));
     let expected = first_of(faults, order);
     assert_eq!(answer, expected, "type {} {:08b}", record[0], faults);
     assert_eq!(buffer == before, faults != 0);
-    let answer = write::record(direction, &record[..LENT - 1], &mut buffer);
-    assert_eq!(answer, Err(Refusal::Room));
+    let of_the_session = session::ALL
+        .iter()
+        .any(|session| session.type_byte == record[0]);
+    let size = if of_the_session { SESSION_SIZE } else { SIZE };
+    for end in [0, 1, size - 1] {
+        let answer = refusal(write::record(direction, &record[..end], &mut buffer));
+        let judged = end > 0 && expected == 4;
+        assert_eq!(answer, if judged { 4 } else { 13 }, "{} bytes", end);
+    }
 }
 
 /// Each valid message that is read is also written.
@@ -137,11 +144,13 @@ pub fn agree(sample: &impl Parts) {
     let message = sample.bytes();
     let mut record = sample.record();
     assert_eq!(read::message(direction, &message), Ok(record.clone()));
-    record.resize(LENT, 0xFF);
-    let mut buffer = vec![0x5A; message.len() + 3];
-    assert_eq!(write::record(direction, &record, &mut buffer), Ok(()));
-    assert_eq!(buffer[..message.len()], message);
-    assert_eq!(buffer[message.len()..], [0x5A; 3]);
+    for more in [0, 1, 204] {
+        record.resize(record.len() + more, 0xFF);
+        let mut buffer = vec![0x5A; message.len() + 3];
+        assert_eq!(write::record(direction, &record, &mut buffer), Ok(()));
+        assert_eq!(buffer[..message.len()], message);
+        assert_eq!(buffer[message.len()..], [0x5A; 3]);
+    }
 }
 
 /// The numbers that damaged messages of a type are read with, and damaged records written.
@@ -169,8 +178,7 @@ pub fn round_trips_of_the_damaged<P: Parts>(seed: u64, types: usize, rounds: usi
     for round in 0..rounds {
         let sample = P::any(&mut random, round % types);
         let (direction, bytes) = sample.damaged(&mut random);
-        if let Ok(mut record) = read::message(direction, &bytes) {
-            record.resize(LENT, 0);
+        if let Ok(record) = read::message(direction, &bytes) {
             let mut buffer = vec![0; bytes.len()];
             assert_eq!(write::record(direction, &record, &mut buffer), Ok(()));
             let total = total_of(&buffer);

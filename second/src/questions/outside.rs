@@ -3,7 +3,6 @@
 use crate::examples;
 use crate::hex;
 use crate::rules::read;
-use crate::rules::record::LENT;
 use crate::rules::types::MEMBER;
 
 pub fn ask(lines: &mut Vec<String>) {
@@ -311,8 +310,7 @@ fn longest_of_reading(lines: &mut Vec<String>) {
 /// Long buffers and long records, as long as a line may be, and longer.
 fn longest_of_writing(lines: &mut Vec<String>) {
     for (message, total) in [(examples::cancel(), 36), (examples::login(), 69)] {
-        let mut record = read::message(MEMBER, &message).expect("a valid message");
-        record.resize(LENT, 0);
+        let record = read::message(MEMBER, &message).expect("a valid message");
         let record = hex::write(&record);
         lines.push(padded(&format!("write 0 {} FF", record), "", 7_999));
         let tail = format!("FF {}", "AA".repeat(total));

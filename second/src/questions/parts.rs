@@ -19,7 +19,7 @@ pub trait Parts: Sized {
     /// The record, its own bytes alone; what is past its places is left out.
     fn record(&self) -> Vec<u8>;
 
-    /// A record like this message's in as many bytes as are wanted for any record.
+    /// A record like this message's in its own bytes or with some after it.
     fn lent(random: &mut Random, record: &[u8]) -> Vec<u8>;
 
     /// A direction and the bytes of the damaged message, which may still be valid.

@@ -5,7 +5,7 @@ use super::frame;
 use super::login::Login;
 use super::number;
 use super::read;
-use super::record::{LENT, SIZE};
+use super::record::SIZE;
 use super::table;
 use super::types::{
     CANCEL_ORDER, CLIENT_HEARTBEAT, LOGIN_RESPONSE, LOGOUT, MEMBER, NEW_ORDER, REPLAY_COMPLETE,
@@ -118,7 +118,6 @@ impl Member {
         check(ORDERS.contains(&record[0]), Refusal::Type)?;
         let mut numbered = record.to_vec();
         numbered[2..6].copy_from_slice(&next.to_le_bytes());
-        numbered.resize(numbered.len().max(LENT), 0);
         write::record(MEMBER, &numbered, out)?;
         self.outgoing = next;
         Ok(())

@@ -8,8 +8,8 @@ pub const BITFIELDS: usize = 15;
 pub const SLOTS: usize = 154;
 pub const SIZE: usize = 235;
 
-/// The bytes that a call wants for a record of any type: those of a session message's record.
-pub const LENT: usize = 439;
+/// The bytes of a session message's record.
+pub const SESSION_SIZE: usize = 439;
 /// Where the body of a session message stands in its record.
 pub const BODY_PLACE: usize = 6;
 

@@ -5,7 +5,7 @@ use super::frame::{self, Header, HEADER};
 use super::groups::{self, Rest};
 use super::kinds::{self, Kind};
 use super::number;
-use super::record::{BODY_PLACE, LENT};
+use super::record::{BODY_PLACE, SESSION_SIZE};
 use super::types::{self, MEMBER, VENUE};
 use super::{check, Refusal};
 
@@ -139,7 +139,7 @@ impl Session {
         let mut record = vec![header.type_byte, header.unit];
         record.extend(header.number.to_le_bytes());
         record.extend(body);
-        record.resize(LENT, 0);
+        record.resize(SESSION_SIZE, 0);
         Ok(record)
     }
 
@@ -151,7 +151,7 @@ impl Session {
             number: number::get(record, 2, 4) as u32,
         };
         check_header(header.unit, header.number)?;
-        let body = &record[BODY_PLACE..LENT];
+        let body = &record[BODY_PLACE..SESSION_SIZE];
         let rest = self.check_body(body)?;
         let unused = if self.lists.is_empty() {
             Refusal::Unused
@@ -383,8 +383,10 @@ mod tests {
         bad[5] = 1;
         bad[6] = b'"';
         bad[438] = 1;
-        assert_eq!(writes(1, &bad[..438], &mut buffer), 13);
+        assert_eq!(writes(0, &[], &mut buffer), 13);
+        assert_eq!(writes(0, &bad[..1], &mut buffer), 4);
         assert_eq!(writes(0, &bad, &mut buffer), 4);
+        assert_eq!(writes(1, &bad[..438], &mut buffer), 13);
         assert_eq!(writes(1, &bad, &mut buffer), 5);
         bad[5] = 0;
         assert_eq!(writes(1, &bad, &mut buffer), 10);

@@ -4,17 +4,25 @@
 use super::frame::{self, Header};
 use super::kinds;
 use super::layout::{self, Layout, Place};
-use super::record::{Record, BODY_PLACE, LENT};
+use super::record::{Record, BODY_PLACE, SESSION_SIZE, SIZE};
 use super::session::Session;
 use super::{check, Refusal};
 
 /// Writes the record that `record` begins with to the start of `buffer`. Only the bytes of the
-/// message change, and none if it is refused.
+/// message change, and none if it is refused. Without a type byte there is nothing to judge; the
+/// type says how many bytes its record has.
 pub fn record(direction: u8, record: &[u8], buffer: &mut [u8]) -> Result<(), Refusal> {
-    check(record.len() >= LENT, Refusal::Room)?;
-    let message = match Session::of(direction, record[0]) {
-        Some(session) => session.write(record)?,
-        None => with_bitfields(Layout::of(direction, record[0])?, &Record::of_bytes(record))?,
+    let type_byte = *record.first().ok_or(Refusal::Room)?;
+    let message = match Session::of(direction, type_byte) {
+        Some(session) => {
+            check(record.len() >= SESSION_SIZE, Refusal::Room)?;
+            session.write(record)?
+        }
+        None => {
+            let layout = Layout::of(direction, type_byte)?;
+            check(record.len() >= SIZE, Refusal::Room)?;
+            with_bitfields(layout, &Record::of_bytes(record))?
+        }
     };
     check(buffer.len() >= message.len(), Refusal::Room)?;
     buffer[..message.len()].copy_from_slice(&message);
@@ -32,7 +40,7 @@ pub fn session(
     let mut bytes = vec![type_byte];
     bytes.resize(BODY_PLACE, 0);
     bytes.extend(body);
-    bytes.resize(LENT, 0);
+    bytes.resize(SESSION_SIZE, 0);
     record(direction, &bytes, buffer)
 }
 
@@ -88,14 +96,10 @@ fn unused_is_zero(layout: &Layout, record: &Record, places: &[Place]) -> bool {
 mod tests {
     use super::*;
     use crate::examples;
-    use crate::rules::record::SIZE;
     use crate::rules::{self, read};
 
-    /// The record of a message, in as many bytes as are wanted for one.
-    fn lent(direction: u8, message: &[u8]) -> Vec<u8> {
-        let mut bytes = read::message(direction, message).unwrap();
-        bytes.resize(LENT, 0);
-        bytes
+    fn record_of(direction: u8, message: &[u8]) -> Vec<u8> {
+        read::message(direction, message).unwrap()
     }
 
     fn refusal(direction: u8, bytes: &[u8], buffer: &mut [u8]) -> u8 {
@@ -120,7 +124,7 @@ mod tests {
             (1, examples::server_heartbeat()),
             (1, examples::replay_complete()),
         ] {
-            let bytes = lent(direction, &message);
+            let bytes = record_of(direction, &message);
             let total = message.len();
             let mut buffer = vec![0xEE; total + 2];
             assert_eq!(refusal(direction, &bytes, &mut buffer[..total - 1]), 13);
@@ -135,7 +139,7 @@ mod tests {
     /// One fault after another is taken away, and the next in the order is told.
     #[test]
     fn order_of_writing() {
-        let good = lent(0, &examples::new_order());
+        let good = record_of(0, &examples::new_order());
         let mut bad = good.clone();
         let mut buffer = [0xEE; 75];
         bad[1] = 1;
@@ -143,9 +147,13 @@ mod tests {
         bad[65] = 11;
         bad[67] = 0xC4;
         bad[80] = 0x80;
-        assert_eq!(refusal(1, &bad[..438], &mut buffer), 13);
-        assert_eq!(refusal(2, &bad, &mut buffer), 4);
-        assert_eq!(refusal(1, &bad, &mut buffer), 4);
+        for direction in [1, 2] {
+            assert_eq!(refusal(direction, &[], &mut buffer), 13);
+            assert_eq!(refusal(direction, &bad[..1], &mut buffer), 4);
+            assert_eq!(refusal(direction, &bad, &mut buffer), 4);
+        }
+        assert_eq!(refusal(0, &bad[..1], &mut buffer), 13);
+        assert_eq!(refusal(0, &bad[..234], &mut buffer), 13);
         assert_eq!(refusal(0, &bad, &mut buffer), 5);
         bad[1] = 0;
         assert_eq!(refusal(0, &bad, &mut buffer), 7);
@@ -169,7 +177,7 @@ mod tests {
     /// Every place of a record that P5 does not use must be zero, and no other place gives 12.
     #[test]
     fn unused_places() {
-        let good = lent(0, &examples::new_order());
+        let good = record_of(0, &examples::new_order());
         let used = [
             0..31,
             65..69,
@@ -186,16 +194,35 @@ mod tests {
         }
     }
 
-    /// Any record must have the bytes of the longest; what follows its own plays no part.
+    /// A record must have all bytes of its own type's; what follows them plays no part. The types
+    /// that a direction does not have are told however short the record is.
     #[test]
-    fn longer_records() {
-        for message in [examples::cancel(), examples::options_login()] {
-            let mut longer = read::message(0, &message).unwrap();
+    fn shorter_and_longer_records() {
+        for (direction, message, own) in [
+            (0, examples::new_order(), 235),
+            (0, examples::cancel(), 235),
+            (1, examples::acknowledgment(), 235),
+            (1, examples::execution(), 235),
+            (0, examples::options_login(), 439),
+            (0, examples::client_heartbeat(), 439),
+            (1, examples::login_response_of_the_notes(), 439),
+            (1, examples::logout_with_its_length(), 439),
+            (1, examples::server_heartbeat(), 439),
+            (1, examples::replay_complete(), 439),
+        ] {
+            let mut longer = record_of(direction, &message);
             longer.resize(500, 7);
             for size in 0..longer.len() {
-                let mut buffer = [0; 63];
-                let expected = if size < 439 { 13 } else { 0 };
-                assert_eq!(refusal(0, &longer[..size], &mut buffer), expected);
+                let mut buffer = vec![0xEE; message.len()];
+                for other in [1 - direction, 2, 255] {
+                    let expected = if size == 0 { 13 } else { 4 };
+                    assert_eq!(refusal(other, &longer[..size], &mut buffer), expected);
+                }
+                assert_eq!(buffer, vec![0xEE; message.len()]);
+                let expected = if size < own { 13 } else { 0 };
+                let answer = refusal(direction, &longer[..size], &mut buffer);
+                assert_eq!(answer, expected, "{} bytes of {:02X}", size, message[4]);
+                assert_eq!(buffer == message, size >= own);
             }
         }
     }

@@ -129,9 +129,10 @@ fn strike_record(
             change(bytes, 0, |_| other);
         }
         14 => {
-            let size = match random.below(3) {
-                0 => random.between(225, 245),
-                _ => random.between(429, 449),
+            let size = match random.below(6) {
+                0 => random.between(0, 2),
+                1 => random.between(429, 449),
+                _ => random.between(225, 245),
             };
             bytes.resize(size, random.byte());
         }

@@ -5,7 +5,7 @@ use crate::questions::parts::Parts;
 use crate::questions::values::{full_value, some_number, some_value};
 use crate::random::Random;
 use crate::rules::layout::{self, Layout, Listed, Rule};
-use crate::rules::record::LENT;
+use crate::rules::record::SESSION_SIZE;
 
 pub const NEW_ORDER: usize = 0;
 pub const CANCEL: usize = 1;
@@ -223,11 +223,20 @@ impl Parts for Sample {
         record
     }
 
-    /// What follows the record plays no part: it is zero in most, but not in all.
+    /// Most have the bytes of the longest record, some their own alone or a few after them. What
+    /// follows the record plays no part: it is zero in most, but not in all.
     fn lent(random: &mut Random, record: &[u8]) -> Vec<u8> {
+        let size = match random.below(6) {
+            0 => SIZE,
+            1 => random.between(SIZE + 1, SESSION_SIZE - 1),
+            _ => SESSION_SIZE,
+        };
         let mut bytes = record.to_vec();
-        bytes.resize(LENT, 0);
+        bytes.resize(size, 0);
         let after = &mut bytes[record.len()..];
+        if after.is_empty() {
+            return bytes;
+        }
         match random.below(12) {
             0 => {
                 let place = random.between(0, after.len() - 1);
@@ -330,19 +339,24 @@ mod tests {
         }
     }
 
-    /// What follows a record is not always zero, and the record itself stays.
+    /// What follows a record, if anything does, is not always zero, and the record itself stays.
     #[test]
     fn lent_records() {
         let mut random = Random::new(111);
         let record = Sample::any(&mut random, CANCEL).record();
-        let mut zero = 0;
+        let (mut own, mut longest, mut zero) = (0, 0, 0);
         for _ in 0..400 {
             let bytes = Sample::lent(&mut random, &record);
-            assert_eq!(bytes.len(), 439);
+            assert!((235..=439).contains(&bytes.len()));
             assert_eq!(bytes[..235], record);
-            zero += usize::from(bytes[235..] == [0; 204]);
+            own += usize::from(bytes.len() == 235);
+            longest += usize::from(bytes.len() == 439);
+            let after = &bytes[235..];
+            zero += usize::from(!after.is_empty() && after.iter().all(|byte| *byte == 0));
         }
-        assert!((200..390).contains(&zero));
+        assert!((40..100).contains(&own));
+        assert!((200..360).contains(&longest));
+        assert!((200..320).contains(&zero));
     }
 
     /// Each listed bit is both set and not set, each count is used, and both ends of the units.

@@ -4,14 +4,13 @@ mod order;
 mod unused;
 
 use super::read;
-use super::sample::{Sample, ACKNOWLEDGMENT, CANCEL, COUNT_PLACE, EXECUTION, NEW_ORDER, SIZE};
+use super::sample::{Sample, ACKNOWLEDGMENT, CANCEL, EXECUTION, NEW_ORDER};
 use super::texts::texts;
 use crate::questions::parts::Parts;
 use crate::questions::values::bad_bytes;
 use crate::questions::writing::{self, add, line, pattern};
 use crate::random::Random;
 use crate::rules::layout;
-use crate::rules::record::LENT;
 use std::collections::BTreeSet;
 
 pub fn ask(lines: &mut Vec<String>) {
@@ -19,7 +18,6 @@ pub fn ask(lines: &mut Vec<String>) {
     writing::records_of::<Sample>(lines, &mut random, read::messages());
     for which in 0..layout::ALL.len() {
         rooms(lines, &mut random, which);
-        sizes(lines, &mut random, which);
         headers(lines, &mut random, which);
         counts(lines, &mut random, which);
         bits(lines, &mut random, which);
@@ -58,35 +56,6 @@ fn rooms(lines: &mut Vec<String>, random: &mut Random, which: usize) {
         ],
     };
     writing::rooms(lines, random, &sample, rooms);
-}
-
-/// Records cut, and records with bytes after them; a record too short comes before all else.
-fn sizes(lines: &mut Vec<String>, random: &mut Random, which: usize) {
-    let sample = Sample::any(random, which);
-    let own = sample.layout.direction;
-    let total = sample.bytes().len();
-    let mut longer = Sample::lent(random, &sample.record());
-    longer.extend(random.bytes(61));
-    for size in [
-        0, 1, 2, 6, 65, 66, 81, 234, 235, 236, 300, 437, 438, 439, 440, 441, 500,
-    ] {
-        let buffer = pattern(random, total);
-        lines.push(line(own, &longer[..size], &buffer));
-    }
-    for size in [0, 1, SIZE - 1, SIZE, LENT - 1, LENT, LENT + 1] {
-        lines.push(line(own, &longer[..size], &[]));
-        for direction in [1 - own, 2] {
-            let buffer = pattern(random, 3);
-            lines.push(line(direction, &longer[..size], &buffer));
-        }
-    }
-    // Too short, with other faults.
-    let mut record = Sample::lent(random, &sample.record());
-    record[1] = 200;
-    record[COUNT_PLACE] = 200;
-    for size in [SIZE - 1, SIZE, LENT - 1] {
-        lines.push(line(own, &record[..size], &[1, 2, 3]));
-    }
 }
 
 fn headers(lines: &mut Vec<String>, random: &mut Random, which: usize) {

@@ -170,8 +170,10 @@ fn strike_record(random: &mut Random, direction: &mut u8, bytes: &mut Vec<u8>, r
         2 => strike(random, bytes, 1, 5),
         3 | 4 => strike_from(random, bytes, BODY_PLACE),
         5 => {
-            let size = match random.below(3) {
-                0 => random.between(0, RECORD),
+            let size = match random.below(6) {
+                0 => random.between(0, 2),
+                1 => random.between(0, RECORD),
+                2 => random.between(229, 241),
                 _ => random.between(429, 449),
             };
             bytes.resize(size, random.byte());

@@ -236,7 +236,7 @@ impl Parts for Sample {
         record
     }
 
-    /// No record is longer, so that nothing follows it.
+    /// Its own bytes alone.
     fn lent(_: &mut Random, record: &[u8]) -> Vec<u8> {
         let mut bytes = record.to_vec();
         bytes.resize(RECORD, 0);

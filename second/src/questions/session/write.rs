@@ -17,7 +17,6 @@ pub fn ask(lines: &mut Vec<String>) {
     writing::records_of::<Sample>(lines, &mut random, read::messages());
     for which in 0..session::ALL.len() {
         rooms(lines, &mut random, which);
-        sizes(lines, &mut random, which);
         headers(lines, &mut random, which);
         unused(lines, &mut random, which);
         order::ask(lines, &mut random, which);
@@ -51,29 +50,6 @@ fn rooms(lines: &mut Vec<String>, random: &mut Random, which: usize) {
         total + 20,
     ]);
     writing::rooms(lines, random, &sample, rooms);
-}
-
-/// Records cut, and records with bytes after them; a record too short comes before all else.
-fn sizes(lines: &mut Vec<String>, random: &mut Random, which: usize) {
-    let sample = Sample::any(random, which);
-    let own = sample.session.direction;
-    let total = sample.bytes().len();
-    let mut longer = sample.record();
-    longer.extend(random.bytes(61));
-    for size in [0, 1, 6, 7, 234, 235, 236, 437, 438, 439, 440, 500] {
-        let buffer = pattern(random, total);
-        lines.push(line(own, &longer[..size], &buffer));
-    }
-    for size in [0, RECORD - 1, RECORD, RECORD + 1] {
-        lines.push(line(own, &longer[..size], &[]));
-        let direction = random.pick(&[1 - own, 2]);
-        lines.push(line(direction, &longer[..size], &[1, 2, 3]));
-    }
-    // Too short, with other faults.
-    let mut record = sample.record();
-    record[1] = 200;
-    record[BODY_PLACE] = b'@';
-    lines.push(line(own, &record[..RECORD - 1], &[1, 2, 3]));
 }
 
 /// Units and numbers, which are all 0; directions; and other types over the same record.

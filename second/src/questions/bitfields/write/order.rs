@@ -2,12 +2,11 @@
 
 use super::unused;
 use crate::questions::bitfields::faults::{sets, small_with};
-use crate::questions::bitfields::sample::{identifier, Sample, COUNT_PLACE};
+use crate::questions::bitfields::sample::{identifier, Sample, COUNT_PLACE, SIZE};
 use crate::questions::order::numbers;
 use crate::questions::parts::Parts;
 use crate::questions::writing::{line, pattern};
 use crate::random::Random;
-use crate::rules::record::LENT;
 
 /// The numbers that a record can be refused with, in the order of writing.
 const ORDER: [u8; 8] = [4, 5, 7, 8, 9, 10, 12, 13];
@@ -42,7 +41,7 @@ fn faulty(random: &mut Random, which: usize, faults: u8) -> (u8, Vec<u8>, Vec<u8
 }
 
 /// Every set of faults but those of 4 and 5, which are asked with each of the others and with all;
-/// then a record too short with all.
+/// then records too short with all.
 pub fn ask(lines: &mut Vec<String>, random: &mut Random, which: usize) {
     let sets = sets(which, &ORDER);
     let all = sets[sets.len() - 1];
@@ -60,8 +59,10 @@ pub fn ask(lines: &mut Vec<String>, random: &mut Random, which: usize) {
         lines.push(line(direction, &record, &buffer));
     }
     for faults in [all, all - 1] {
-        let (direction, record, buffer) = faulty(random, which, faults);
-        lines.push(line(direction, &record[..LENT - 1], &buffer));
+        for size in [0, 1, SIZE - 1] {
+            let (direction, record, buffer) = faulty(random, which, faults);
+            lines.push(line(direction, &record[..size], &buffer));
+        }
     }
 }
 

@@ -7,6 +7,7 @@ use crate::questions::session::sample::{BODY_PLACE, LISTED, RECORD};
 use crate::questions::writing::{line, pattern};
 use crate::random::Random;
 use crate::rules::frame::HEADER;
+use crate::rules::record::SIZE;
 
 /// The numbers that a record can be refused with, in the order of writing.
 const ORDER: [u8; 6] = [4, 5, 10, 11, 12, 13];
@@ -48,7 +49,7 @@ fn sets(which: usize) -> Vec<u8> {
     })
 }
 
-/// Every set of faults, so that the order shows; then a record too short with all of them.
+/// Every set of faults, so that the order shows; then records too short with all of them.
 pub fn ask(lines: &mut Vec<String>, random: &mut Random, which: usize) {
     let sets = sets(which);
     let all = sets[sets.len() - 1];
@@ -57,8 +58,10 @@ pub fn ask(lines: &mut Vec<String>, random: &mut Random, which: usize) {
         lines.push(line(direction, &record, &buffer));
     }
     for faults in [all, all - 1] {
-        let (direction, record, buffer) = faulty(random, which, faults);
-        lines.push(line(direction, &record[..RECORD - 1], &buffer));
+        for size in [0, 1, SIZE, RECORD - 1] {
+            let (direction, record, buffer) = faulty(random, which, faults);
+            lines.push(line(direction, &record[..size], &buffer));
+        }
     }
 }
 
