@@ -84,9 +84,14 @@ impl Bench {
                 let result = self.member.login(&login, &mut out);
                 Some(self.member_after(result) + " " + &hex::write(&out))
             }
-            ("m-get", [bytes, room]) => {
+            ("m-get" | "m-message" | "m-response", [bytes, room]) => {
                 let (bytes, room) = (hex::read(bytes)?, read_size(room, BUFFER)?);
-                let result = self.member.get(&bytes, &mut self.book[..room]);
+                let buffer = &mut self.book[..room];
+                let result = match question {
+                    "m-message" => self.member.message(&bytes, buffer),
+                    "m-response" => self.member.response(&bytes, buffer),
+                    _ => self.member.get(&bytes, buffer),
+                };
                 Some(self.member_after(result))
             }
             ("m-order", [record, room]) => {
