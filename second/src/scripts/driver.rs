@@ -16,6 +16,10 @@ use std::collections::VecDeque;
 /// The books that are shown whole are no longer than this.
 pub const SHOWN: usize = 3_500;
 
+/// The calls by which the member gets what the venue sent: any message, an application message, a
+/// Login Response.
+pub const GETS: [&str; 3] = ["m-get", "m-message", "m-response"];
+
 /// Something that a driver does.
 pub type Step = fn(&mut Driver);
 
@@ -209,7 +213,23 @@ impl Driver {
     }
 
     pub fn get(&mut self, bytes: &[u8]) {
-        self.ask(format!("m-get {} {}", hex::write(bytes), self.book_room));
+        let call = self.call_for(bytes);
+        self.get_by(call, bytes, self.book_room);
+    }
+
+    /// A call that takes the type: the one for any message, or the one for its kind.
+    pub fn call_for(&mut self, bytes: &[u8]) -> &'static str {
+        let [any, message, response] = GETS;
+        match bytes.get(4) {
+            Some(0x25 | 0x2C) if self.one_in(2) => message,
+            Some(0x24) if self.one_in(2) => response,
+            _ => any,
+        }
+    }
+
+    /// Asks by a call, and answers the first word of the answer.
+    pub fn get_by(&mut self, call: &str, bytes: &[u8], room: usize) -> String {
+        self.ask(format!("{} {} {}", call, hex::write(bytes), room))
     }
 
     pub fn some_order(&mut self) -> Sample {

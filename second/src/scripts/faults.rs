@@ -1,7 +1,7 @@
 //! Every fault of every message and record, offered to each call that may take it, in each phase.
 
 use super::day;
-use super::driver::Driver;
+use super::driver::{Driver, GETS};
 use crate::hex;
 use crate::questions::bitfields::sample::{
     identifier, unlisted_bit, Sample, ACKNOWLEDGMENT, CANCEL, EXECUTION, NEW_ORDER,
@@ -12,6 +12,8 @@ use crate::questions::session::sample::{
     Sample as Session, CLIENT_HEARTBEAT, LOGIN, LOGOUT, REPLAY_COMPLETE, RESPONSE, SERVER_HEARTBEAT,
 };
 use crate::random::Random;
+use crate::rules::book::{BOOKED, MARK};
+use crate::rules::frame;
 use crate::rules::table::entry;
 use crate::rules::types::VENUE;
 
@@ -25,6 +27,7 @@ pub fn round(driver: &mut Driver) {
     day::log_in(driver);
     day::complete(driver);
     gets(driver);
+    kinds(driver);
     orders(driver);
     logs(driver);
     venue(driver);
@@ -148,28 +151,102 @@ fn set_phase(driver: &mut Driver, phase: u8, outgoing: u32) {
     driver.ask(line);
 }
 
+/// The faults of what the venue sends, by the call for any message; those of an application message
+/// and of a Login Response also by the calls for these alone, and of the others some.
 fn gets(driver: &mut Driver) {
     let unit = driver.units[0];
     for phase in 0..4 {
         set_phase(driver, phase, 7);
         let next = entry(&driver.bench.member.book.table, unit) + 1;
         let random = &mut driver.random;
-        let mut all = Vec::new();
+        let mut messages = Vec::new();
         for which in [ACKNOWLEDGMENT, EXECUTION] {
-            all.extend(of_message(random, which, unit, next));
+            messages.extend(of_message(random, which, unit, next));
         }
-        for which in [RESPONSE, LOGOUT, SERVER_HEARTBEAT, REPLAY_COMPLETE] {
-            all.extend(of_session(random, which));
+        let responses = of_session(random, RESPONSE);
+        let mut others = Vec::new();
+        for which in [LOGOUT, SERVER_HEARTBEAT, REPLAY_COMPLETE] {
+            others.extend(of_session(random, which));
         }
-        if phase == 0 {
-            all.truncate(12);
-        }
-        for bytes in all {
-            let room = driver.random.pick(&[0, 1, 1]);
-            let room = usize::from(room) * driver.book_room;
-            driver.ask(format!("m-get {} {}", hex::write(&bytes), room));
+        let all = [&messages[..], &responses, &others].concat();
+        for (call, own) in GETS.into_iter().zip([&all, &messages, &responses]) {
+            let foreign = all.iter().filter(|bytes| !own.contains(bytes));
+            let asked: Vec<&Vec<u8>> = own.iter().chain(foreign.step_by(4)).collect();
+            let count = if phase == 0 { 12 } else { asked.len() };
+            for bytes in &asked[..count] {
+                let room = driver.random.pick(&[0, 1, 1]);
+                let room = usize::from(room) * driver.book_room;
+                driver.get_by(call, bytes, room);
+            }
         }
     }
+}
+
+/// What each phase takes and what it does not, by each of the three calls: with a byte less than the
+/// room that it needs, and with just enough.
+fn kinds(driver: &mut Driver) {
+    for phase in 0..4 {
+        set_phase(driver, phase, 7);
+        for call in GETS {
+            for fewer in [1, 0] {
+                for bytes in of_kinds(driver) {
+                    let needed = match frame::message(&bytes) {
+                        Ok(message) if BOOKED.contains(&message[4]) => message.len(),
+                        _ => MARK,
+                    };
+                    let room = driver.bench.member.book.length + needed - fewer;
+                    if driver.get_by(call, &bytes, room) == "0" {
+                        set_phase(driver, phase, 7);
+                    }
+                }
+            }
+        }
+    }
+}
+
+/// A good message of each type of either direction, and of one that there is not. Of those that are
+/// booked numbers at, below and past the next one, which rises as they are taken. Some are followed
+/// by a second message.
+fn of_kinds(driver: &mut Driver) -> Vec<Vec<u8>> {
+    let unit = driver.units[0];
+    let last = entry(&driver.bench.member.book.table, unit);
+    let random = &mut driver.random;
+    let mut booked = Vec::new();
+    for (which, number) in [
+        (ACKNOWLEDGMENT, last),
+        (EXECUTION, last + 2),
+        (ACKNOWLEDGMENT, last + 1),
+        (EXECUTION, last.saturating_sub(1)),
+        (ACKNOWLEDGMENT, last + 3),
+        (EXECUTION, last + 2),
+        (ACKNOWLEDGMENT, last + 3),
+    ] {
+        let mut sample = Sample::least(random, which);
+        (sample.unit, sample.number) = (unit, number);
+        booked.push(sample.bytes());
+    }
+    let mut of_session = Vec::new();
+    for status in [b'A', b'N'] {
+        let mut response = Session::least(random, RESPONSE);
+        *response.value("LoginResponseStatus") = vec![status];
+        of_session.push(response.bytes());
+    }
+    for which in [
+        LOGOUT,
+        SERVER_HEARTBEAT,
+        REPLAY_COMPLETE,
+        CLIENT_HEARTBEAT,
+        LOGIN,
+    ] {
+        of_session.push(Session::least(random, which).bytes());
+    }
+    // One of each kind with the other's after it.
+    booked[6].extend(&of_session[0]);
+    of_session[0].extend(&booked[2]);
+    let orders = [NEW_ORDER, CANCEL].map(|which| Sample::least(random, which).bytes());
+    let mut unknown = booked[2].clone();
+    unknown[4] = 0x26;
+    [booked, of_session, orders.to_vec(), vec![unknown]].concat()
 }
 
 fn orders(driver: &mut Driver) {

@@ -7,8 +7,9 @@ use crate::bench::BUFFER;
 use crate::hex;
 use crate::questions::bitfields::sample::{Sample, ACKNOWLEDGMENT};
 use crate::questions::parts::Parts;
-use crate::questions::session::sample::{Sample as Session, LOGIN};
+use crate::questions::session::sample::{Sample as Session, LOGIN, RESPONSE};
 use crate::random::Random;
+use crate::rules::member::Phase;
 use crate::rules::table::{entry, set_entry, SIZE, UNITS};
 
 /// The most bytes and messages of a book.
@@ -95,7 +96,7 @@ fn some_table(random: &mut Random) -> [u8; SIZE] {
 
 fn member(driver: &mut Driver) {
     let random = &mut driver.random;
-    let phase = random.pick(&[0, 1, 2, 2, 3, 3, 3]);
+    let phase = random.pick(&[0, 1, 1, 2, 2, 3, 3, 3]);
     let length = some_length(random);
     let last = match random.below(4) {
         0 => some_length(random),
@@ -131,11 +132,17 @@ fn member(driver: &mut Driver) {
 }
 
 fn member_call(driver: &mut Driver) {
-    match driver.random.below(12) {
+    let asked = driver.bench.member.phase == Phase::Asked;
+    let call = match asked && driver.one_in(2) {
+        true => 11,
+        false => driver.random.below(13),
+    };
+    match call {
         0..=4 => {
             let message = numbered(driver);
             let room = about(driver, driver.bench.member.book.length + message.len());
-            driver.ask(format!("m-get {} {}", hex::write(&message), room));
+            let call = driver.call_for(&message);
+            driver.get_by(call, &message, room);
         }
         5 => {
             let room = about(driver, driver.bench.member.book.length + 16);
@@ -148,11 +155,23 @@ fn member_call(driver: &mut Driver) {
             let size = driver.random.between(0, 400);
             driver.ask(format!("m-restart {} {}", driver.date, size));
         }
+        11 => response(driver),
         _ => wrong::some(driver),
     }
     // What is sent from such a state is not carried on.
     driver.to_venue.clear();
     driver.to_member.clear();
+}
+
+/// A Login Response that is accepted, or one that ends the session.
+fn response(driver: &mut Driver) {
+    let mut response = Session::any(&mut driver.random, RESPONSE);
+    let status = driver.random.pick(b"AND");
+    *response.value("LoginResponseStatus") = vec![status];
+    let bytes = response.bytes();
+    let room = about(driver, driver.bench.member.book.length + 16);
+    let call = driver.call_for(&bytes);
+    driver.get_by(call, &bytes, room);
 }
 
 /// A message of a unit whose number is about the member's.

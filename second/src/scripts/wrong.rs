@@ -1,6 +1,6 @@
 //! Calls that are refused, or nearly: damaged and foreign messages, wrong phases, short buffers.
 
-use super::driver::{Driver, LoginLine, Step, SHOWN};
+use super::driver::{Driver, LoginLine, Step, GETS, SHOWN};
 use crate::examples;
 use crate::hex;
 use crate::questions::bitfields::sample::{Sample, ACKNOWLEDGMENT, EXECUTION};
@@ -66,6 +66,15 @@ const OF_THE_VENUE: [usize; 4] = [RESPONSE, LOGOUT, SERVER_HEARTBEAT, REPLAY_COM
 
 // The member's side.
 
+/// By a call that takes the type, or by any of the three.
+fn get(driver: &mut Driver, bytes: &[u8], room: usize) {
+    let call = match driver.random.below(3) {
+        0 => GETS[driver.random.between(0, GETS.len() - 1)],
+        _ => driver.call_for(bytes),
+    };
+    driver.get_by(call, bytes, room);
+}
+
 fn get_damaged(driver: &mut Driver) {
     let bytes = match (driver.random.below(3), driver.to_member.front()) {
         (0, Some(next)) => {
@@ -78,7 +87,7 @@ fn get_damaged(driver: &mut Driver) {
         }
         _ => damaged_booked(driver),
     };
-    driver.get(&bytes);
+    get(driver, &bytes, driver.book_room);
 }
 
 /// Any type of either direction, whatever the phase.
@@ -89,10 +98,10 @@ fn get_any(driver: &mut Driver) {
         2 => any_of_the_session(driver, &[LOGIN, CLIENT_HEARTBEAT]).bytes(),
         _ => any_of_the_session(driver, &OF_THE_VENUE).bytes(),
     };
-    driver.get(&bytes);
+    get(driver, &bytes, driver.book_room);
 }
 
-/// A good message whose number is not the next, or is.
+/// A good message whose number is not the next, or is; at times another message follows it.
 fn get_numbered(driver: &mut Driver) {
     let mut sample = driver.booked_today();
     let last = entry(&driver.bench.member.book.table, sample.unit);
@@ -102,7 +111,11 @@ fn get_numbered(driver: &mut Driver) {
         1 => u32::MAX,
         _ => last.wrapping_add(u32::from(by)),
     };
-    driver.get(&sample.bytes());
+    let mut bytes = sample.bytes();
+    if driver.one_in(6) {
+        bytes.extend(driver.booked().bytes());
+    }
+    get(driver, &bytes, driver.book_room);
 }
 
 /// The next message, or one like it, with a short buffer.
@@ -113,7 +126,7 @@ fn get_short(driver: &mut Driver) {
     };
     let size = driver.bench.member.book.length + next.len();
     let room = short(driver, size.min(SHOWN));
-    driver.ask(format!("m-get {} {}", hex::write(&next), room));
+    get(driver, &next, room);
 }
 
 fn open_or_restart(driver: &mut Driver) {
