@@ -10,3 +10,5 @@ pub mod Stores
 pub mod Looks
 pub mod Gives
 pub mod Loops
+pub mod FieldPlaces
+pub mod FieldPlaceLaws

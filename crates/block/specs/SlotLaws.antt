@@ -75,6 +75,11 @@ gathered-length (slot true e ∷ ss) v h =
     ∙ ap₂ (λ (x y : ℕ). x + y) (length-take-le (widthOf e) v (omega arith)) (gathered-length ss (drop (widthOf e) v) (simp length-drop (omega arith)))
 gathered-length (slot false e ∷ ss) v h = gathered-length ss (drop (widthOf e) v) (simp length-drop (omega arith)) ∙ sym (zero-add (sum takes ss))
 
+-- a measure of slots and then others is that of the ones and that of the others
+pub sum-append : (f : Slot → ℕ) (xs ys : List Slot) → sum f (xs ++ ys) ≡ sum f xs + sum f ys
+sum-append f [] ys = sym (zero-add (sum f ys))
+sum-append f (x ∷ xs) ys = let h = sum-append f xs ys in omega arith
+
 -- what the selected slots take is at most what all slots take
 pub takes-below : (ss : List Slot) → sum takes ss ≤ sum width ss
 takes-below [] = omega arith

@@ -1,0 +1,299 @@
+-- One wrong width moves every later field: where an optional field stands, for every order that is read or written, every choice of bits and every
+-- listed bit among those chosen.
+--     a-field-is-read-at-its-place       of any bytes that the reader accepts
+--     a-field-is-written-at-its-place    of the output buffer, where the writer takes a record
+-- In both the field is the `width` bytes from the count's place, 1, the count and the summed widths of all earlier set bits on; and these are the
+-- bytes of its place in the record's buffer. Assumes nothing.
+use mathlib.Core.Path.{_≡_, refl, sym, ap, ap₂, _∙_, subst}
+use mathlib.Core.Bool.{Bool, true, false, cond, _&&_, _||_, false≢true}
+use mathlib.Core.List.{List, [], _∷_, _++_, append-assoc, append-nil}
+use Prim.Native.Nat.{ℕ, _+_, _-_, _/_, _%_, _≤_, _<_}
+use native.Mathlib.Omega.{arith}
+use lib.Dec.{ltb, eqb}
+use lib.ListN.{length, getD, take, drop, length-append, length-drop, take-append-drop}
+use lib.Seq.{length-take-le, getD-take, getD-drop, drop-drop, take-append-le, drop-append-le}
+use borrow.Author.Tests.{ltb-true, eqb-true}
+use Rattle.kinds.specs.declared.Kind.{Kind}
+use Rattle.dictionary.specs.declared.Entry.the-variants.{Refused, Field}
+use Rattle.numbers.specs.NumberLaws.{bytes-first}
+use Rattle.wire.specs.Header.{headerBytes, typeOf, totalOf}
+use Rattle.wire.specs.HeaderLaws.{Bytes}
+use Rattle.wire.specs.Frame.{frameRefusal, framed}
+use Rattle.wire.specs.FrameLaws.{Whole, whole, framed-is, framed-length, framed-accepted, framed-again}
+use Rattle.block.specs.Slots.{takes, width, sum, gathered}
+use Rattle.block.specs.SlotLaws.{gathered-length, both-true}
+use Rattle.block.specs.Places.{bitSet, selectedAt, entryAt, slotsOf}
+use Rattle.block.specs.FieldPlaces.{widthsBefore}
+use Rattle.block.specs.FieldPlaceLaws.{widths-same, field-held, field-sent, field-stands}
+use Rattle.block.specs.Dictionaries.{widths-fit}
+use Rattle.block.specs.Sizes.{allPlaces, layoutSize, recordSize}
+use Rattle.orders.specs.Shapes.{countAt}
+use Rattle.orders.specs.Orders.{writeSlots, sizeOf, orderBytes, writeRefusal}
+use Rattle.orders.specs.OrderLaws.{count-bounds, most-bound, fit}
+use Rattle.orders.specs.RoundTrip.{parts-count, parts-bits, parts-rest, Sound, bytes-length, framed-after, framed-as-written}
+use Rattle.orders.specs.RoundTrip as orderTrip
+use Rattle.orders.specs.Orders as orders
+use Rattle.orders.specs.declared.Record.{Record}
+use Rattle.order_records.specs.Records.{recordBytes, recordAt}
+use Rattle.order_records.specs.RecordTrip.{record-again, at-sound, bytes-again}
+use Rattle.messages.specs.Messages.{isSession, ownRefusal, recordOf, readCall, readRecord, ownWrite, messageOf, writeCall, writeOut}
+use Rattle.messages.specs.RoundTrip.{Accepted, accepted, taken, given, record-stored, message-stored}
+use Rattle.messages.specs.OrderPlaces.{isOrder, countIn, layoutIn, setIn, setInMessage, setInRecord, fieldAt, Stands}
+
+-- ---- the bits that are set
+
+-- bytes that have a count and as many bitfields have the same bits set as the count and the bitfields
+pub set-same : (at c : ℕ) (s bits : List ℕ) → getD s at 0 ≡ c → ((j : ℕ) → j < c → getD s (at + 1 + j) 0 ≡ getD bits j 0) → (k : ℕ) → setIn at s k ≡ selectedAt c bits k
+unfolding setIn selectedAt
+set-same at c s bits e h k =
+    ap (λ (n : ℕ). ltb (k / 8) n && bitSet (getD s (at + 1 + k / 8) 0) (k % 8)) e ∙ by (ltb (k / 8) c) refl
+  where
+    by : (x : Bool) → ltb (k / 8) c ≡ x → (x && bitSet (getD s (at + 1 + k / 8) 0) (k % 8)) ≡ (x && bitSet (getD bits (k / 8) 0) (k % 8))
+    by true q = ap (λ (y : ℕ). bitSet y (k % 8)) (h (k / 8) (ltb-true (k / 8) c q))
+    by false q = refl
+
+-- a place that is selected is one of the count's bitfields
+pub selected-small : (c : ℕ) (bits : List ℕ) (k : ℕ) → selectedAt c bits k ≡ true → c ≤ 15 → k < allPlaces
+unfolding selectedAt
+selected-small c bits k e h =
+    let l : k / 8 < c = ltb-true (k / 8) c (both-true (ltb (k / 8) c) (bitSet (getD bits (k / 8) 0) (k % 8)) e .0) in
+    omega arith
+
+-- ---- a record that the writer takes, its message and its bytes, with anything after each
+
+module _ (r : Record) (room : ℕ) (ok : Sound r) (z : writeRefusal r room ≡ 0) (m b t u : List ℕ) (is-message : m ≡ orderBytes r ++ t) (is-record : b ≡ recordBytes r ++ u) where
+  low : 10 ≤ countAt (r .message)
+  low = omega (arith, count-bounds (r .message) .low)
+
+  few : r .count ≤ 15
+  few = omega (arith, fit r room z .count, most-bound (r .message))
+
+  fixed-long : length (take (countAt (r .message) - 10) (r .fixed)) ≡ countAt (r .message) - 10
+  fixed-long = length-take-le (countAt (r .message) - 10) (r .fixed) (omega (arith, count-bounds (r .message) .high, ok .fixed-length))
+
+  bits-long : length (take (r .count) (r .bits)) ≡ r .count
+  bits-long = length-take-le (r .count) (r .bits) (omega (arith, few, ok .bits-length))
+
+  optional : List ℕ
+  optional = gathered (slotsOf (r .message) (r .count) (r .bits)) (r .slots)
+
+  optional-long : length optional ≡ sum takes (slotsOf (r .message) (r .count) (r .bits))
+  unfolding optional
+  optional-long = gathered-length (slotsOf (r .message) (r .count) (r .bits)) (r .slots) (omega (arith, widths-fit (r .message) (r .count) (r .bits), ok .slots-length))
+
+  as-parts : m ≡ headerBytes (sizeOf r - 2) (r .message) (r .unit) (r .number) ++ (take (countAt (r .message) - 10) (r .fixed) ++ (r .count ∷ (take (r .count) (r .bits) ++ (optional ++ t))))
+  unfolding orderBytes writeSlots optional
+  as-parts =
+      let h = headerBytes (sizeOf r - 2) (r .message) (r .unit) (r .number) in
+      let f = take (countAt (r .message) - 10) (r .fixed) in
+      let s = take (r .count) (r .bits) in
+      is-message
+      ∙ append-assoc h (f ++ (r .count ∷ (s ++ optional))) t
+      ∙ ap (λ (x : List ℕ). h ++ x) (append-assoc f (r .count ∷ (s ++ optional)) t ∙ ap (λ (x : List ℕ). f ++ (r .count ∷ x)) (append-assoc s optional t))
+
+  type-is : typeOf m ≡ r .message
+  type-is = ap (λ (l : List ℕ). typeOf l) as-parts
+
+  count-there : getD m (countAt (r .message)) 0 ≡ r .count
+  count-there =
+      ap (λ (l : List ℕ). getD l (countAt (r .message)) 0) as-parts
+      ∙ parts-count (headerBytes (sizeOf r - 2) (r .message) (r .unit) (r .number)) (take (countAt (r .message) - 10) (r .fixed)) (r .count) (take (r .count) (r .bits)) (optional ++ t) (countAt (r .message)) refl fixed-long bits-long low
+
+  bits-there : take (r .count) (drop (countAt (r .message) + 1) m) ≡ take (r .count) (r .bits)
+  bits-there =
+      ap (λ (l : List ℕ). take (r .count) (drop (countAt (r .message) + 1) l)) as-parts
+      ∙ parts-bits (headerBytes (sizeOf r - 2) (r .message) (r .unit) (r .number)) (take (countAt (r .message) - 10) (r .fixed)) (r .count) (take (r .count) (r .bits)) (optional ++ t) (countAt (r .message)) refl fixed-long bits-long low
+
+  fields-there : drop (countAt (r .message) + 1 + r .count) m ≡ optional ++ t
+  fields-there =
+      ap (λ (l : List ℕ). drop (countAt (r .message) + 1 + r .count) l) as-parts
+      ∙ parts-rest (headerBytes (sizeOf r - 2) (r .message) (r .unit) (r .number)) (take (countAt (r .message) - 10) (r .fixed)) (r .count) (take (r .count) (r .bits)) (optional ++ t) (countAt (r .message)) refl fixed-long bits-long low
+
+  set-there : (k : ℕ) → setIn (countAt (r .message)) m k ≡ selectedAt (r .count) (r .bits) k
+  set-there =
+      set-same (countAt (r .message)) (r .count) m (r .bits) count-there
+      (λ j h.
+      sym (getD-drop (countAt (r .message) + 1) m j 0)
+      ∙ sym (getD-take (r .count) (drop (countAt (r .message) + 1) m) j 0 h)
+      ∙ ap (λ (l : List ℕ). getD l j 0) bits-there
+      ∙ getD-take (r .count) (r .bits) j 0 h)
+
+  held : recordAt b ≡ r
+  held = ap recordAt is-record ∙ record-again r ok u
+
+  count-held : getD b countIn 0 ≡ r .count
+  unfolding recordAt
+  count-held = ap (λ (x : Record). x .count) held
+
+  bits-held : take 15 (drop (countIn + 1) b) ≡ r .bits
+  unfolding recordAt
+  bits-held = ap (λ (x : Record). x .bits) held
+
+  slots-held : take layoutSize (drop layoutIn b) ≡ r .slots
+  unfolding recordAt
+  slots-held = ap (λ (x : Record). x .slots) held
+
+  set-held : (k : ℕ) → setIn countIn b k ≡ selectedAt (r .count) (r .bits) k
+  set-held =
+      set-same countIn (r .count) b (r .bits) count-held
+      (λ j h.
+      sym (getD-drop (countIn + 1) b j 0)
+      ∙ sym (getD-take 15 (drop (countIn + 1) b) j 0 (omega (arith, h, few)))
+      ∙ ap (λ (l : List ℕ). getD l j 0) bits-held)
+
+  total-is : totalOf m ≡ countAt (r .message) + 1 + r .count + sum takes (slotsOf (r .message) (r .count) (r .bits))
+  unfolding sizeOf writeSlots
+  total-is =
+      ap (λ (l : List ℕ). totalOf l) is-message
+      ∙ sym (framed-length (orderBytes r ++ t) (framed-after r room ok z t))
+      ∙ ap length (framed-as-written r room ok z t)
+      ∙ bytes-length r room ok z
+
+  starts : (k : ℕ) → fieldAt m k ≡ countAt (r .message) + 1 + r .count + widthsBefore (selectedAt (r .count) (r .bits)) (entryAt (r .message)) k
+  unfolding fieldAt
+  starts k =
+      ap (λ (x : ℕ). countAt x + 1 + getD m (countAt x) 0 + widthsBefore (setIn (countAt x) m) (entryAt x) k) type-is
+      ∙ ap₂ (λ (c n : ℕ). countAt (r .message) + 1 + c + n) count-there (widths-same (setIn (countAt (r .message)) m) (selectedAt (r .count) (r .bits)) (entryAt (r .message)) set-there k)
+
+  module _ (k : ℕ) (chosen : selectedAt (r .count) (r .bits) k ≡ true) {w p : ℕ} {kind : Kind} (listed : Field w kind p ≡ entryAt (r .message) k) where
+    small : k < allPlaces
+    small = selected-small (r .count) (r .bits) k chosen few
+
+    -- a part of the layout is a part of the record
+    in-layout : take w (drop p (r .slots)) ≡ take w (drop (layoutIn + p) b)
+    in-layout =
+        let fits : p + w ≤ layoutSize = field-held (r .message) (r .count) (r .bits) k small chosen listed in
+        let n : length (r .slots) ≡ layoutSize = ok .slots-length in
+        let d : length (drop p (r .slots)) ≡ length (r .slots) - p = length-drop p (r .slots) in
+        let rest : List ℕ = drop layoutSize (drop layoutIn b) in
+        let e : drop layoutIn b ≡ r .slots ++ rest = sym (take-append-drop layoutSize (drop layoutIn b)) ∙ ap (λ (l : List ℕ). l ++ rest) slots-held in
+        sym
+        (ap (take w) (sym (drop-drop p layoutIn b) ∙ ap (drop p) e ∙ drop-append-le p (r .slots) rest (omega arith))
+        ∙ take-append-le w (drop p (r .slots)) rest (omega arith))
+
+    -- a part of the optional bytes is a part of the message
+    in-fields : take w (drop (fieldAt m k) m) ≡ take w (drop p (r .slots))
+    unfolding optional
+    in-fields =
+        let n : ℕ = widthsBefore (selectedAt (r .count) (r .bits)) (entryAt (r .message)) k in
+        let fits = field-sent (r .message) (r .count) (r .bits) k small chosen listed in
+        let g : length optional ≡ sum takes (slotsOf (r .message) (r .count) (r .bits)) = optional-long in
+        let d : length (drop n optional) ≡ length optional - n = length-drop n optional in
+        let q : drop (fieldAt m k) m ≡ drop n optional ++ t =
+        ap (λ (i : ℕ). drop i m) (starts k) ∙ sym (drop-drop n (countAt (r .message) + 1 + r .count) m) ∙ ap (drop n) fields-there ∙ drop-append-le n optional t (omega arith) in
+        ap (take w) q
+        ∙ take-append-le w (drop n optional) t (omega arith)
+        ∙ field-stands (r .message) (r .count) (r .bits) k small chosen listed (r .slots) (omega (arith, ok .slots-length))
+
+    pub stands : Stands m b k w p
+    stands = record {
+      in-message = ap (λ (x : ℕ). setIn (countAt x) m k) type-is ∙ set-there k ∙ chosen;
+      in-record = set-held k ∙ chosen;
+      within-message = let fits = field-sent (r .message) (r .count) (r .bits) k small chosen listed in omega (arith, starts k, total-is);
+      within-record = let fits = field-held (r .message) (r .count) (r .bits) k small chosen listed in omega arith;
+      same-bytes = in-fields ∙ in-layout;
+    }
+
+-- ---- the four types
+
+-- what holds of the four types holds of every order
+pub by-type : (message : ℕ) → isOrder message ≡ true → (P : ℕ → Type 0) → P 0x38 → P 0x39 → P 0x25 → P 0x2C → P message
+by-type message o P a b c d = by (eqb message 0x38) refl (eqb message 0x39) refl (eqb message 0x25) refl (eqb message 0x2C) refl o
+  where
+    at : (x : ℕ) → P x → eqb message x ≡ true → P message
+    at x h e = subst P (sym (eqb-true message x e)) h
+
+    by : (x : Bool) → eqb message 0x38 ≡ x → (y : Bool) → eqb message 0x39 ≡ y → (v : Bool) → eqb message 0x25 ≡ v → (w : Bool) → eqb message 0x2C ≡ w → (x || (y || (v || w))) ≡ true → P message
+    by true e y f v g w h q = at 0x38 a e
+    by false e true f v g w h q = at 0x39 b f
+    by false e false f true g w h q = at 0x25 c g
+    by false e false f false g true h q = at 0x2C d h
+    by false e false f false g false h q = absurd (false≢true q)
+
+-- an order is no session message
+pub not-session : (message : ℕ) → isOrder message ≡ true → isSession message ≡ false
+not-session message o = by-type message o (λ (x : ℕ). isSession x ≡ false) refl refl refl refl
+
+-- ---- READING
+
+module _ (direction : ℕ) (s buffer : List ℕ) (bytes : Bytes s) (z : readCall direction s (length buffer) ≡ 0) (order : isOrder (typeOf s) ≡ true) where
+  it : Accepted direction s
+  it = accepted direction s (taken direction s (length buffer) z .read)
+
+  alone : frameRefusal (framed s) ≡ 0
+  alone = ap frameRefusal (sym (append-nil (framed s))) ∙ framed-accepted s [] (it .frames)
+
+  exact : length (framed s) ≡ totalOf (framed s)
+  exact = ap length (sym (ap framed (sym (append-nil (framed s))) ∙ framed-again s [] (it .frames))) ∙ framed-length (framed s) alone
+
+  part-bytes : Bytes (framed s)
+  part-bytes = subst Bytes (sym (framed-is s (it .frames))) (bytes-first (totalOf s) s bytes)
+
+  type-kept : typeOf (framed s) ≡ typeOf s
+  unfolding totalOf
+  type-kept =
+      ap (λ (l : List ℕ). getD l 4 0) (framed-is s (it .frames))
+      ∙ getD-take (totalOf s) s 4 0 (omega (arith, whole s (it .frames) .least))
+
+  no-session : isSession (typeOf (framed s)) ≡ false
+  no-session = ap (λ (x : ℕ). isSession x) type-kept ∙ not-session (typeOf s) order
+
+  own-read : orders.readRefusal (framed s) ≡ 0
+  unfolding ownRefusal
+  own-read = rw no-session at (it .owns)
+
+  is-stored : readRecord direction s buffer ≡ recordBytes (orders.recordOf (framed s)) ++ drop (length (recordOf (framed s))) buffer
+  unfolding recordOf
+  is-stored =
+      let e : recordOf (framed s) ≡ recordBytes (orders.recordOf (framed s)) = rw no-session in
+      record-stored direction s buffer bytes z ∙ ap (λ (l : List ℕ). l ++ drop (length (recordOf (framed s))) buffer) e
+
+  is-said : s ≡ orderBytes (orders.recordOf (framed s)) ++ drop (totalOf s) s
+  is-said =
+      sym (take-append-drop (totalOf s) s)
+      ∙ ap (λ (l : List ℕ). l ++ drop (totalOf s) s) (sym (framed-is s (it .frames)) ∙ sym (orderTrip.written-again (framed s) part-bytes (whole (framed s) alone) exact own-read))
+
+  -- A FIELD IS READ AT ITS PLACE: any selected optional field of a listed bit, in any message that is accepted, whatever bytes follow it
+  pub a-field-is-read-at-its-place : {w p : ℕ} {kind : Kind} (k : ℕ) → setInMessage s k ≡ true → Field w kind p ≡ entryAt (typeOf s) k → Stands s (readRecord direction s buffer) k w p
+  unfolding orders.recordOf
+  a-field-is-read-at-its-place {w} {p} {kind} k chosen listed =
+      let r = orders.recordOf (framed s) in
+      let sound = orderTrip.read-sound (framed s) part-bytes own-read in
+      let fits = orderTrip.taken-again (framed s) part-bytes (whole (framed s) alone) exact own-read (length (framed s)) (omega arith) in
+      let there : setIn (countAt (typeOf (framed s))) s k ≡ selectedAt (r .count) (r .bits) k =
+      set-there r (length (framed s)) sound fits s (readRecord direction s buffer) (drop (totalOf s) s) (drop (length (recordOf (framed s))) buffer) is-said is-stored k in
+      stands r (length (framed s)) sound fits s (readRecord direction s buffer) (drop (totalOf s) s) (drop (length (recordOf (framed s))) buffer) is-said is-stored k
+      (sym there ∙ ap (λ (x : ℕ). setIn (countAt x) s k) type-kept ∙ chosen)
+      (listed ∙ ap (λ (x : ℕ). entryAt x k) (sym type-kept))
+
+-- ---- WRITING
+
+module _ (direction : ℕ) (r out : List ℕ) (bytes : Bytes r) (z : writeCall direction r (length out) ≡ 0) (order : isOrder (getD r 0 0) ≡ true) where
+  no-session-kept : isSession (getD r 0 0) ≡ false
+  no-session-kept = not-session (getD r 0 0) order
+
+  own-written : orders.writeRefusal (recordAt r) (length out) ≡ 0
+  unfolding ownWrite
+  own-written = rw no-session-kept at (given direction r (length out) z .owns)
+
+  long : recordSize ≤ length r
+  long = omega (arith, given direction r (length out) z .long)
+
+  is-written-out : writeOut direction r out ≡ orderBytes (recordAt r) ++ drop (length (messageOf r)) out
+  unfolding messageOf
+  is-written-out =
+      let e : messageOf r ≡ orderBytes (recordAt r) = rw no-session-kept in
+      message-stored direction r out bytes z ∙ ap (λ (l : List ℕ). l ++ drop (length (messageOf r)) out) e
+
+  is-held : r ≡ recordBytes (recordAt r) ++ drop recordSize r
+  is-held = sym (take-append-drop recordSize r) ∙ ap (λ (l : List ℕ). l ++ drop recordSize r) (sym (bytes-again r bytes long))
+
+  -- A FIELD IS WRITTEN AT ITS PLACE: any optional field of a listed bit that a record selects which the writer takes, whatever the output buffer held
+  pub a-field-is-written-at-its-place : {w p : ℕ} {kind : Kind} (k : ℕ) → setInRecord r k ≡ true → Field w kind p ≡ entryAt (getD r 0 0) k → Stands (writeOut direction r out) r k w p
+  unfolding recordAt
+  a-field-is-written-at-its-place {w} {p} {kind} k chosen listed =
+      let v = recordAt r in
+      let sound = at-sound r bytes long in
+      let there : setIn countIn r k ≡ selectedAt (v .count) (v .bits) k =
+      set-held v (length out) sound own-written (writeOut direction r out) r (drop (length (messageOf r)) out) (drop recordSize r) is-written-out is-held k in
+      stands v (length out) sound own-written (writeOut direction r out) r (drop (length (messageOf r)) out) (drop recordSize r) is-written-out is-held k (sym there ∙ chosen) listed

@@ -1,0 +1,49 @@
+-- Where the parts of an order stand: in its message, and in its record of 235 bytes. Definitions alone. Assumes nothing.
+use mathlib.Core.Path.{_≡_}
+use mathlib.Core.Bool.{Bool, true, _&&_, _||_}
+use mathlib.Core.List.{List}
+use Prim.Native.Nat.{ℕ, _+_, _/_, _%_, _≤_}
+use lib.Dec.{ltb, eqb}
+use lib.ListN.{getD, take, drop}
+use Rattle.wire.specs.Header.{typeOf, totalOf}
+use Rattle.block.specs.Places.{bitSet, entryAt}
+use Rattle.block.specs.FieldPlaces.{widthsBefore}
+use Rattle.block.specs.Sizes.{recordSize}
+use Rattle.orders.specs.Shapes.{countAt}
+
+-- the types that have bitfields: New Order, Cancel Order, Order Acknowledgment, Order Execution
+abbrev pub isOrder : ℕ → Bool
+isOrder message = eqb message 0x38 || (eqb message 0x39 || (eqb message 0x25 || eqb message 0x2C))
+
+-- where a record has its count of bitfields, the bitfields after it; and where its full layout begins
+abbrev pub countIn : ℕ
+countIn = 65
+
+abbrev pub layoutIn : ℕ
+layoutIn = 81
+
+-- whether the bit of place k, which is bit k % 8 of bitfield byte k / 8 + 1, is set in bytes that have the count of bitfields at `at` and the
+-- bitfields after it; only as many bytes as the count tells are bitfields
+unfoldable pub setIn : ℕ → List ℕ → ℕ → Bool
+setIn at s k = ltb (k / 8) (getD s at 0) && bitSet (getD s (at + 1 + k / 8) 0) (k % 8)
+
+-- the bits that are set in a message, and in a record
+abbrev pub setInMessage : List ℕ → ℕ → Bool
+setInMessage m = setIn (countAt (typeOf m)) m
+
+abbrev pub setInRecord : List ℕ → ℕ → Bool
+setInRecord r = setIn countIn r
+
+-- 01: an optional field starts at the end of the bitfields plus the summed widths of all earlier set bits. So the field of place k begins at the
+-- count's place, 1, the count, and those widths
+unfoldable pub fieldAt : List ℕ → ℕ → ℕ
+fieldAt m k = countAt (typeOf m) + 1 + getD m (countAt (typeOf m)) 0 + widthsBefore (setInMessage m) (entryAt (typeOf m)) k
+
+-- an optional field of place k, which has w bytes, in a message m and, at place p of the layout, in a record r: it is selected in both, it lies
+-- within the message and within the record, and its bytes are the same
+pub record Stands (m r : List ℕ) (k w p : ℕ) : Type 0 where
+  pub in-message : setInMessage m k ≡ true
+  pub in-record : setInRecord r k ≡ true
+  pub within-message : fieldAt m k + w ≤ totalOf m
+  pub within-record : layoutIn + p + w ≤ recordSize
+  pub same-bytes : take w (drop (fieldAt m k) m) ≡ take w (drop (layoutIn + p) r)
