@@ -4,3 +4,7 @@ pub mod MessageLaws
 pub mod RoundTrip
 pub mod OrderPlaces
 pub mod FieldPlace
+pub mod Taken
+pub mod ValidOrders
+pub mod EveryChoice
+pub mod EverySession

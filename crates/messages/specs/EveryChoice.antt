@@ -1,0 +1,380 @@
+-- Nothing is refused that should pass: a reader and a writer that refused all would agree with each other, and both round trips would hold.
+--     a-valid-record-is-taken    every order's record of which holds what document 01 asks is taken by the writer, where there is room for its message,
+--                                and its message is taken by the reader, as the same record
+--     every-choice-is-taken      so for every type, every count of bitfields, every choice of listed bits with the required ones among them, and every
+--                                good fixed part: the record with these bits and blank or zero fields
+--     a-fixed-part-is-good       and there is a good fixed part of each type
+-- Assumes nothing.
+use mathlib.Core.Path.{_≡_, refl, sym, ap, ap₂, _∙_, subst}
+use mathlib.Core.Bool.{Bool, true, false, cond, not, _&&_, _||_, false≢true}
+use mathlib.Core.List.{List, [], _∷_, _++_}
+use Prim.Native.Nat.{ℕ, zero, suc, _+_, _-_, _/_, _%_, _≤_, _<_}
+use native.Mathlib.Omega.{arith}
+use lib.Dec.{leb, ltb, eqb}
+use lib.ListN.{length, getD, take, drop, length-append, length-drop, List·getD-eq-default}
+use lib.Seq.{length-take-le, getD-take, getD-drop, take-take}
+use borrow.Author.Tests.{eq-eqb, eqb-true, le-leb, ltb-true, ltb-false}
+use Rattle.kinds.specs.declared.Kind.{Kind}
+use Rattle.kinds.specs.Kinds.{allNul, agreesOf}
+use Rattle.kinds.specs.KindLaws.{blank-agrees}
+use Rattle.dictionary.specs.declared.Entry.{Entry}
+use Rattle.dictionary.specs.declared.Entry.the-variants.{Refused, Field}
+use Rattle.numbers.specs.Numbers.{bytesOf, patched}
+use Rattle.wire.specs.HeaderLaws.{Bytes}
+use Rattle.block.specs.Slots.{zeros, takes, sum, anyBad, agreeHeld, zeroElsewhere}
+use Rattle.block.specs.SlotLaws.{length-zeros, takes-below}
+use Rattle.block.specs.Places.{selectedAt, entryAt, slotsFrom, slotsOf, hasRequired}
+use Rattle.block.specs.FieldPlaces.{widthsBefore, AllListed, AllAgree, Unselected}
+use Rattle.block.specs.FieldPlaceLaws.{takes-all, widths-same, nul-part, nul-rest, no-bad-slot, selected-agree, zero-where-unset}
+use Rattle.block.specs.Dictionaries.{before, before-none, dictionary-placed, widths-fit, field-fits}
+use Rattle.block.specs.Sizes.{fixedSize, allPlaces, layoutSize, recordSize}
+use Rattle.orders.specs.Shapes.{ofMember, ofVenue, countAt, mostOf, unitGood, fixedGood}
+use Rattle.orders.specs.Orders.{writeSlots, sizeOf, writeRefusal}
+use Rattle.orders.specs.OrderLaws.{count-bounds, most-bound, Fit, is-written}
+use Rattle.orders.specs.declared.Record.{Record}
+use Rattle.orders.specs.RoundTrip.{Sound}
+use Rattle.order_records.specs.Records.{recordBytes, recordAt}
+use Rattle.order_records.specs.RecordTrip.{record-length, record-again}
+use Rattle.messages.specs.Messages.{carries, ownWrite, writeCall, heldIn}
+use Rattle.messages.specs.MessageLaws.{own-write}
+use Rattle.messages.specs.RoundTrip.{read-again}
+use Rattle.messages.specs.OrderPlaces.{isOrder, countIn, layoutIn, setIn, setInRecord}
+use Rattle.messages.specs.FieldPlace.{set-same, selected-small, not-session}
+use Rattle.messages.specs.Taken.{TakenBothWays}
+use Rattle.messages.specs.ValidOrders.{orderOf, UnitFits, Required, Valid, messageSize, GoodFixed, GoodBits, chosenRecord, sampleFixed}
+
+-- ---- the four types
+
+-- what holds of the four types holds of every order of a direction
+by-direction : (direction message : ℕ) → orderOf direction message ≡ true → (P : ℕ → ℕ → Type 0) → P 0 0x38 → P 0 0x39 → P 1 0x25 → P 1 0x2C → P direction message
+by-direction direction message o P a b c d = by (eqb direction 0) refl (eqb direction 1) refl (eqb message 0x38) refl (eqb message 0x39) refl (eqb message 0x25) refl (eqb message 0x2C) refl o
+  where
+    at : (n x : ℕ) → P n x → eqb direction n ≡ true → eqb message x ≡ true → P direction message
+    at n x h e f = subst (λ (i : ℕ). P i message) (sym (eqb-true direction n e)) (subst (P n) (sym (eqb-true message x f)) h)
+
+    by : (g : Bool) → eqb direction 0 ≡ g → (h : Bool) → eqb direction 1 ≡ h → (x : Bool) → eqb message 0x38 ≡ x → (y : Bool) → eqb message 0x39 ≡ y → (v : Bool) → eqb message 0x25 ≡ v → (w : Bool) → eqb message 0x2C ≡ w
+        → ((g && (x || y)) || (h && (v || w))) ≡ true → P direction message
+    by true eg h eh true ex y ey v ev w ew q = at 0 0x38 a eg ex
+    by true eg h eh false ex true ey v ev w ew q = at 0 0x39 b eg ey
+    by true eg true eh false ex false ey true ev w ew q = at 1 0x25 c eh ev
+    by true eg true eh false ex false ey false ev true ew q = at 1 0x2C d eh ew
+    by true eg true eh false ex false ey false ev false ew q = absurd (false≢true q)
+    by true eg false eh false ex false ey v ev w ew q = absurd (false≢true q)
+    by false eg true eh x ex y ey true ev w ew q = at 1 0x25 c eh ev
+    by false eg true eh x ex y ey false ev true ew q = at 1 0x2C d eh ew
+    by false eg true eh x ex y ey false ev false ew q = absurd (false≢true q)
+    by false eg false eh x ex y ey v ev w ew q = absurd (false≢true q)
+
+-- the direction has the type, the type is known, and it takes the direction's units
+record Known (direction message : ℕ) : Type 0 where
+  is-order : isOrder message ≡ true
+  known : (ofMember message || ofVenue message) ≡ true
+  carried : carries direction message ≡ true
+  unit-taken : (unit : ℕ) → UnitFits direction unit → unitGood message unit ≡ true
+
+known-type : (direction message : ℕ) → orderOf direction message ≡ true → Known direction message
+unfolding carries unitGood
+known-type direction message o =
+    by-direction direction message o Known (member 0x38 refl refl refl (λ u. refl)) (member 0x39 refl refl refl (λ u. refl)) (venue 0x25 refl refl refl (λ u. refl)) (venue 0x2C refl refl refl (λ u. refl))
+  where
+    member : (x : ℕ) → isOrder x ≡ true → (ofMember x || ofVenue x) ≡ true → carries 0 x ≡ true → ((u : ℕ) → unitGood x u ≡ eqb u 0) → Known 0 x
+    member x i k c g = record { is-order = i; known = k; carried = c; unit-taken = λ u f. g u ∙ eq-eqb u 0 (f .of-member refl) }
+
+    venue : (x : ℕ) → isOrder x ≡ true → (ofMember x || ofVenue x) ≡ true → carries 1 x ≡ true → ((u : ℕ) → unitGood x u ≡ (leb 1 u && leb u 32)) → Known 1 x
+    venue x i k c g = record { is-order = i; known = k; carried = c; unit-taken = λ u f. g u ∙ ap₂ (λ (p q : Bool). p && q) (le-leb 1 u (f .of-venue refl)) (le-leb u 32 (f .at-most refl)) }
+
+-- ---- parts of a record
+
+-- a byte of n bytes from place a on is zero where the record's is
+part-zero : (n a : ℕ) (r : List ℕ) → a + n ≤ length r → (i : ℕ) → (i < n → getD r (a + i) 0 ≡ 0) → getD (take n (drop a r)) i 0 ≡ 0
+part-zero n a r l i h = by (ltb i n) refl
+  where
+    by : (b : Bool) → ltb i n ≡ b → getD (take n (drop a r)) i 0 ≡ 0
+    by true e = getD-take n (drop a r) i 0 (ltb-true i n e) ∙ getD-drop a r i 0 ∙ h (ltb-true i n e)
+    by false e =
+        let d : length (drop a r) ≡ length r - a = length-drop a r in
+        let t : length (take n (drop a r)) ≡ n = length-take-le n (drop a r) (omega arith) in
+        let g = ltb-false i n e in
+        List·getD-eq-default (take n (drop a r)) 0 (omega arith)
+
+-- what follows place c of them is zero
+zero-from : (n a c : ℕ) (r : List ℕ) → a + n ≤ length r → ((i : ℕ) → a + c ≤ i → i < a + n → getD r i 0 ≡ 0) → allNul (drop c (take n (drop a r))) ≡ true
+zero-from n a c r l h = nul-rest c (take n (drop a r)) (λ i q. part-zero n a r l i (λ m. h (a + i) (omega arith) (omega arith)))
+
+-- a part of the first n bytes
+part-of-front : (w p n : ℕ) (l : List ℕ) → p + w ≤ n → take w (drop p (take n l)) ≡ take w (drop p l)
+part-of-front w zero n l h = take-take w n l (omega arith)
+part-of-front w (suc p) zero l h = absurd (omega arith)
+part-of-front w (suc p) (suc n) [] h = refl
+part-of-front w (suc p) (suc n) (x ∷ l) h = part-of-front w p n l (omega arith)
+
+required-set : (message count : ℕ) (bits : List ℕ) → Required message (selectedAt count bits) → hasRequired message count bits ≡ true
+unfolding hasRequired
+required-set message count bits q = by (eqb message 0x38) refl
+  where
+    by : (b : Bool) → eqb message 0x38 ≡ b → (not b || (selectedAt count bits 8 && (selectedAt count bits 14 && (selectedAt count bits 2 || selectedAt count bits 4)))) ≡ true
+    by false e = refl
+    by true e = let o = eqb-true message 0x38 e in rw (q .symbol o, q .capacity o, q .price-or-type o)
+
+-- ---- A VALID RECORD
+
+module _ (direction : ℕ) (r : List ℕ) (long : recordSize ≤ length r) (v : Valid direction r) where
+  few : getD r countIn 0 ≤ 15
+  few = omega (arith, v .count, most-bound (getD r 0 0))
+
+  -- the bits that are set in the record's bytes are those that the writer goes by
+  same-set : (k : ℕ) → setInRecord r k ≡ selectedAt (getD r countIn 0) (take 15 (drop (countIn + 1) r)) k
+  same-set =
+      set-same countIn (getD r countIn 0) r (take 15 (drop (countIn + 1) r)) refl
+      (λ j h. sym (getD-drop (countIn + 1) r j 0) ∙ sym (getD-take 15 (drop (countIn + 1) r) j 0 (omega (arith, h, few))))
+
+  slots-zero : (i : ℕ) → Unselected (selectedAt (getD r countIn 0) (take 15 (drop (countIn + 1) r))) (entryAt (getD r 0 0)) i → getD (take layoutSize (drop layoutIn r)) i 0 ≡ 0
+  slots-zero i u =
+      part-zero layoutSize layoutIn r long i (λ m. v .zero-elsewhere i m (λ k w p kind e q. u k w p kind (sym (same-set k) ∙ e) q))
+
+  slots-agree : AllAgree (selectedAt (getD r countIn 0) (take 15 (drop (countIn + 1) r))) (entryAt (getD r 0 0)) (take layoutSize (drop layoutIn r))
+  unfolding entryAt
+  slots-agree k w p kind e q =
+      ap (λ (l : List ℕ). agreesOf kind l) (part-of-front w p layoutSize (drop layoutIn r) (field-fits (getD r 0 0) (k / 8 + 1) (k % 8) q))
+      ∙ v .agree k w p kind (same-set k ∙ e) q
+
+  sizes : sum takes (slotsOf (getD r 0 0) (getD r countIn 0) (take 15 (drop (countIn + 1) r))) ≡ widthsBefore (setInRecord r) (entryAt (getD r 0 0)) allPlaces
+  sizes =
+      takes-all (selectedAt (getD r countIn 0) (take 15 (drop (countIn + 1) r))) (entryAt (getD r 0 0)) allPlaces
+      ∙ sym (widths-same (setInRecord r) (selectedAt (getD r countIn 0) (take 15 (drop (countIn + 1) r))) (entryAt (getD r 0 0)) same-set allPlaces)
+
+  -- a message with bitfields is at most 239 bytes
+  pub at-most-239 : messageSize r ≤ 239
+  at-most-239 =
+      let ss = slotsOf (getD r 0 0) (getD r countIn 0) (take 15 (drop (countIn + 1) r)) in
+      omega (arith, sizes, few, takes-below ss, widths-fit (getD r 0 0) (getD r countIn 0) (take 15 (drop (countIn + 1) r)), count-bounds (getD r 0 0) .high)
+
+  fits : (room : ℕ) → messageSize r ≤ room → Fit (recordAt r) room
+  unfolding recordAt writeSlots sizeOf
+  fits room roomy =
+      let message = getD r 0 0 in
+      let set = selectedAt (getD r countIn 0) (take 15 (drop (countIn + 1) r)) in
+      let slots = take layoutSize (drop layoutIn r) in
+      let start = before-none (entryAt message) in
+      record {
+        known = known-type direction message (v .type) .known;
+        unit = known-type direction message (v .type) .unit-taken (getD r 1 0) (v .unit);
+        count = v .count;
+        listed = no-bad-slot set (entryAt message) (λ k e q. v .listed k (same-set k ∙ e) q) allPlaces 0;
+        required = required-set message (getD r countIn 0) (take 15 (drop (countIn + 1) r))
+            (record {
+              symbol = λ o. sym (same-set 8) ∙ v .required .symbol o;
+              capacity = λ o. sym (same-set 14) ∙ v .required .capacity o;
+              price-or-type = λ o. ap₂ (λ (a b : Bool). a || b) (sym (same-set 2)) (sym (same-set 4)) ∙ v .required .price-or-type o;
+            });
+        fixed = v .fixed;
+        agree = ap (λ (n : ℕ). agreeHeld (slotsFrom set (entryAt message) allPlaces 0) (drop n slots)) (sym start) ∙ selected-agree set (entryAt message) layoutSize (dictionary-placed message) slots slots-agree allPlaces 0 (omega arith);
+        zero-fixed = zero-from fixedSize 6 (countAt message - 10) r (omega arith) (λ i l m. v .zero-after-fixed i (omega (arith, count-bounds message .low)) (omega arith));
+        zero-bits = zero-from 15 (countIn + 1) (getD r countIn 0) r (omega arith) (λ i l m. v .zero-after-bits i l m);
+        zero-slots =
+            ap (λ (n : ℕ). zeroElsewhere (slotsFrom set (entryAt message) allPlaces 0) (drop n slots)) (sym start)
+            ∙ zero-where-unset set (entryAt message) layoutSize (dictionary-placed message) slots (λ j e. selected-small (getD r countIn 0) (take 15 (drop (countIn + 1) r)) j e few) slots-zero allPlaces 0 refl;
+        has-room = omega (arith, sizes);
+      }
+
+  own-fits : (room : ℕ) → messageSize r ≤ room → ownWrite r room ≡ 0
+  unfolding ownWrite recordAt
+  own-fits room roomy = rw (not-session (getD r 0 0) (known-type direction (getD r 0 0) (v .type) .is-order)) (is-written (recordAt r) room (fits room roomy))
+
+-- A VALID RECORD IS TAKEN by the writer, and what is written of it by the reader
+pub a-valid-record-is-taken : (direction : ℕ) (r out : List ℕ) → Bytes r → 439 ≤ length r → Valid direction r → messageSize r ≤ length out → TakenBothWays direction r out
+unfolding heldIn
+a-valid-record-is-taken direction r out bytes long v room =
+    let z : writeCall direction r (length out) ≡ 0 =
+    own-write direction r out long (known-type direction (getD r 0 0) (v .type) .carried) (length out) ∙ own-fits direction r (omega arith) v (length out) room in
+    let e : heldIn r ≡ take recordSize r = rw (not-session (getD r 0 0) (known-type direction (getD r 0 0) (v .type) .is-order)) in
+    record {
+      written = z;
+      read = λ buffer h. read-again direction r out bytes z buffer h .0;
+      same = λ buffer h. read-again direction r out bytes z buffer h .1 ∙ ap (patched buffer 0) e;
+    }
+
+-- ---- EVERY CHOICE
+
+-- a byte in front
+pub bytes-front : (x : ℕ) (xs : List ℕ) → x < 256 → Bytes xs → Bytes (x ∷ xs)
+bytes-front x xs h k zero = h
+bytes-front x xs h k (suc i) = k i
+
+pub bytes-append : (xs ys : List ℕ) → Bytes xs → Bytes ys → (i : ℕ) → getD (xs ++ ys) i 0 < 256
+bytes-append [] ys h k i = k i
+bytes-append (x ∷ xs) ys h k zero = h 0
+bytes-append (x ∷ xs) ys h k (suc i) = bytes-append xs ys (λ j. h (suc j)) k i
+
+zero-byte : (n i : ℕ) → getD (zeros n) i 0 ≡ 0
+zero-byte zero i = refl
+zero-byte (suc n) zero = refl
+zero-byte (suc n) (suc i) = zero-byte n i
+
+pub bytes-zeros : (n i : ℕ) → getD (zeros n) i 0 < 256
+bytes-zeros n i = rw (zero-byte n i) (omega arith)
+
+pub number-bytes : (n v i : ℕ) → getD (bytesOf n v) i 0 < 256
+number-bytes zero v i = omega arith
+number-bytes (suc n) v zero = omega arith
+number-bytes (suc n) v (suc i) = number-bytes n (v / 256) i
+
+-- types and units are bytes
+type-byte : (direction message : ℕ) → orderOf direction message ≡ true → message < 256
+type-byte direction message o = by-direction direction message o (λ (d x : ℕ). x < 256) (omega arith) (omega arith) (omega arith) (omega arith)
+
+unit-byte : (direction message unit : ℕ) → orderOf direction message ≡ true → UnitFits direction unit → unit < 256
+unit-byte direction message unit o =
+    by-direction direction message o (λ (d x : ℕ). UnitFits d unit → unit < 256) (λ f. member (f .of-member refl)) (λ f. member (f .of-member refl)) (λ f. venue (f .at-most refl)) (λ f. venue (f .at-most refl))
+  where
+    member : unit ≡ 0 → unit < 256
+    member e = omega arith
+
+    venue : unit ≤ 32 → unit < 256
+    venue h = omega arith
+
+module _ (direction message unit number : ℕ) (fixed : List ℕ) (count : ℕ) (bits : List ℕ)
+    (type : orderOf direction message ≡ true) (unit-fits : UnitFits direction unit) (any : number < 4294967296) (f : GoodFixed message fixed) (b : GoodBits message count bits) where
+  the-record : Record
+  the-record = record { message = message; unit = unit; number = number; fixed = fixed; count = count; bits = bits; slots = zeros layoutSize }
+
+  sound : Sound the-record
+  unfolding the-record
+  sound = record { fixed-length = f .whole; bits-length = b .whole; slots-length = length-zeros layoutSize; number-range = any }
+
+  stored : List ℕ
+  stored = chosenRecord message unit number fixed count bits
+
+  held : recordAt stored ≡ the-record
+  unfolding stored the-record chosenRecord
+  held = record-again the-record sound (zeros 204)
+
+  long : length stored ≡ 439
+  unfolding stored the-record chosenRecord
+  long = length-append (recordBytes the-record) (zeros 204) ∙ omega (arith, record-length the-record sound, length-zeros 204)
+
+  few-bits : count ≤ 15
+  few-bits = omega (arith, b .few, most-bound message)
+
+  stored-bytes : Bytes stored
+  unfolding stored chosenRecord recordBytes
+  stored-bytes =
+      bytes-append (recordBytes (record { message = message; unit = unit; number = number; fixed = fixed; count = count; bits = bits; slots = zeros layoutSize })) (zeros 204)
+      (bytes-append (message ∷ unit ∷ bytesOf 4 number) (fixed ++ (count ∷ (bits ++ zeros layoutSize)))
+      (bytes-front message (unit ∷ bytesOf 4 number) (type-byte direction message type) (bytes-front unit (bytesOf 4 number) (unit-byte direction message unit type unit-fits) (number-bytes 4 number)))
+      (bytes-append fixed (count ∷ (bits ++ zeros layoutSize)) (f .bytes)
+      (bytes-front count (bits ++ zeros layoutSize) (omega (arith, few-bits)) (bytes-append bits (zeros layoutSize) (b .bytes) (bytes-zeros layoutSize)))))
+      (bytes-zeros 204)
+
+  type-is : getD stored 0 0 ≡ message
+  unfolding recordAt the-record
+  type-is = ap (λ (x : Record). x .message) held
+
+  unit-is : getD stored 1 0 ≡ unit
+  unfolding recordAt the-record
+  unit-is = ap (λ (x : Record). x .unit) held
+
+  count-is : getD stored countIn 0 ≡ count
+  unfolding recordAt the-record
+  count-is = ap (λ (x : Record). x .count) held
+
+  fixed-is : take fixedSize (drop 6 stored) ≡ fixed
+  unfolding recordAt the-record
+  fixed-is = ap (λ (x : Record). x .fixed) held
+
+  bits-are : take 15 (drop (countIn + 1) stored) ≡ bits
+  unfolding recordAt the-record
+  bits-are = ap (λ (x : Record). x .bits) held
+
+  slots-are : take layoutSize (drop layoutIn stored) ≡ zeros layoutSize
+  unfolding recordAt the-record
+  slots-are = ap (λ (x : Record). x .slots) held
+
+  -- a byte of a part
+  in-part : (n a i : ℕ) (l : List ℕ) → take n (drop a stored) ≡ l → i < n → getD stored (a + i) 0 ≡ getD l i 0
+  in-part n a i l e h = sym (getD-drop a stored i 0) ∙ sym (getD-take n (drop a stored) i 0 h) ∙ ap (λ (x : List ℕ). getD x i 0) e
+
+  set-is : (k : ℕ) → setInRecord stored k ≡ selectedAt count bits k
+  set-is = set-same countIn count stored bits count-is (λ j h. in-part 15 (countIn + 1) j bits bits-are (omega (arith, few-bits)))
+
+  layout-zero : (i : ℕ) → i < layoutSize → getD stored (layoutIn + i) 0 ≡ 0
+  layout-zero i h = in-part layoutSize layoutIn i (zeros layoutSize) slots-are h ∙ zero-byte layoutSize i
+
+  layout-blank : (w p : ℕ) → p + w ≤ layoutSize → allNul (take w (drop p (drop layoutIn stored))) ≡ true
+  layout-blank w p h = nul-part w p (drop layoutIn stored) (λ i l m. getD-drop layoutIn stored i 0 ∙ layout-zero i (omega arith))
+
+  after-fixed : (i : ℕ) → countAt message ≤ i + 4 → i < countIn → getD stored i 0 ≡ 0
+  after-fixed i l h =
+      let e : 6 + (i - 6) ≡ i = omega (arith, count-bounds message .low) in
+      ap (λ (n : ℕ). getD stored n 0) (sym e) ∙ in-part fixedSize 6 (i - 6) fixed fixed-is (omega arith) ∙ f .ends (i - 6) (omega arith)
+
+  after-bits : (i : ℕ) → countIn + 1 + count ≤ i → i < layoutIn → getD stored i 0 ≡ 0
+  after-bits i l h =
+      let e : countIn + 1 + (i - 66) ≡ i = omega arith in
+      ap (λ (n : ℕ). getD stored n 0) (sym e) ∙ in-part 15 (countIn + 1) (i - 66) bits bits-are (omega arith) ∙ b .ends (i - 66) (omega arith)
+
+  valid : Valid direction stored
+  unfolding entryAt
+  valid = record {
+    type = ap (λ (x : ℕ). orderOf direction x) type-is ∙ type;
+    unit = subst (UnitFits direction) (sym unit-is) unit-fits;
+    fixed = ap₂ fixedGood type-is fixed-is ∙ f .good;
+    count = rw (count-is, type-is) (b .few);
+    listed = λ k e q. b .listed k (sym (set-is k) ∙ e) (ap (λ (x : ℕ). entryAt x k) (sym type-is) ∙ q);
+    required = record {
+      symbol = λ o. set-is 8 ∙ b .required .symbol (sym type-is ∙ o);
+      capacity = λ o. set-is 14 ∙ b .required .capacity (sym type-is ∙ o);
+      price-or-type = λ o. ap₂ (λ (x y : Bool). x || y) (set-is 2) (set-is 4) ∙ b .required .price-or-type (sym type-is ∙ o);
+    };
+    agree = λ k w p kind e q. blank-agrees kind (take w (drop p (drop layoutIn stored))) (layout-blank w p (field-fits (getD stored 0 0) (k / 8 + 1) (k % 8) q));
+    zero-after-fixed = λ i l h. after-fixed i (rw type-is at l) h;
+    zero-after-bits = λ i l h. after-bits i (rw count-is at l) h;
+    zero-elsewhere = λ i h u. layout-zero i h;
+  }
+
+  -- EVERY CHOICE IS TAKEN, into any output buffer of 239 bytes or more
+  pub every-choice-is-taken : (out : List ℕ) → 239 ≤ length out → TakenBothWays direction (chosenRecord message unit number fixed count bits) out
+  unfolding stored
+  every-choice-is-taken out room =
+      a-valid-record-is-taken direction stored out stored-bytes (omega (arith, long)) valid (omega (arith, at-most-239 direction stored (omega (arith, long)) valid))
+
+-- ---- not empty
+
+-- a list that is zero from place a on
+ends-at : (a n : ℕ) (l : List ℕ) → drop a l ≡ zeros n → (i : ℕ) → a ≤ i → getD l i 0 ≡ 0
+ends-at a n l e i h =
+    let q : a + (i - a) ≡ i = omega arith in
+    ap (λ (j : ℕ). getD l j 0) (sym q) ∙ sym (getD-drop a l (i - a) 0) ∙ ap (λ (x : List ℕ). getD x (i - a) 0) e ∙ zero-byte n (i - a)
+
+venue-bytes : Bytes (zeros 8 ++ (65 ∷ zeros 50))
+venue-bytes = bytes-append (zeros 8) (65 ∷ zeros 50) (bytes-zeros 8) (bytes-front 65 (zeros 50) (omega arith) (bytes-zeros 50))
+
+-- A FIXED PART IS GOOD: there is one of each type
+pub a-fixed-part-is-good : (direction message : ℕ) → orderOf direction message ≡ true → GoodFixed message (sampleFixed message)
+unfolding fixedGood countAt
+a-fixed-part-is-good direction message o =
+    by-direction direction message o (λ (d x : ℕ). GoodFixed x (sampleFixed x))
+    (record {
+      whole = refl;
+      bytes = bytes-append (65 ∷ zeros 19) (49 ∷ 1 ∷ zeros 37) (bytes-front 65 (zeros 19) (omega arith) (bytes-zeros 19)) (bytes-front 49 (1 ∷ zeros 37) (omega arith) (bytes-front 1 (zeros 37) (omega arith) (bytes-zeros 37)));
+      good = refl;
+      ends = λ i h. ends-at 25 34 (65 ∷ zeros 19 ++ (49 ∷ 1 ∷ zeros 37)) refl i (omega arith);
+    })
+    (record {
+      whole = refl;
+      bytes = bytes-front 65 (zeros 58) (omega arith) (bytes-zeros 58);
+      good = refl;
+      ends = λ i h. ends-at 20 39 (65 ∷ zeros 58) refl i (omega arith);
+    })
+    (record {
+      whole = refl;
+      bytes = venue-bytes;
+      good = refl;
+      ends = λ i h. ends-at 37 22 (zeros 8 ++ (65 ∷ zeros 50)) refl i (omega arith);
+    })
+    (record {
+      whole = refl;
+      bytes = venue-bytes;
+      good = refl;
+      ends = λ i h. ends-at 59 0 (zeros 8 ++ (65 ∷ zeros 50)) refl i (omega arith);
+    })

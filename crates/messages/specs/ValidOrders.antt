@@ -1,0 +1,82 @@
+-- What document 01 asks of an order's record, over the bytes of the record; nothing more is asked. And the records that select any listed bits and
+-- leave every optional field blank. Definitions alone. Assumes nothing.
+use mathlib.Core.Path.{_≡_}
+use mathlib.Core.Bool.{Bool, true, cond, _&&_, _||_}
+use mathlib.Core.List.{List, _∷_, _++_}
+use Prim.Native.Nat.{ℕ, _+_, _≤_, _<_}
+use lib.Dec.{eqb}
+use lib.ListN.{length, getD, take, drop}
+use Rattle.dictionary.specs.declared.Entry.{Entry}
+use Rattle.wire.specs.HeaderLaws.{Bytes}
+use Rattle.block.specs.Slots.{zeros}
+use Rattle.block.specs.Places.{selectedAt, entryAt}
+use Rattle.block.specs.FieldPlaces.{widthsBefore, AllListed, AllAgree, Unselected}
+use Rattle.block.specs.Sizes.{fixedSize, allPlaces, layoutSize}
+use Rattle.orders.specs.Shapes.{countAt, mostOf, fixedGood}
+use Rattle.orders.specs.declared.Record.{Record}
+use Rattle.order_records.specs.Records.{recordBytes}
+use Rattle.messages.specs.OrderPlaces.{countIn, layoutIn, setInRecord}
+
+-- the types with bitfields of a direction: of 0, the member's, New Order and Cancel Order; of 1, the venue's, Order Acknowledgment and Order Execution
+abbrev pub orderOf : ℕ → ℕ → Bool
+orderOf direction message = (eqb direction 0 && (eqb message 0x38 || eqb message 0x39)) || (eqb direction 1 && (eqb message 0x25 || eqb message 0x2C))
+
+-- a member's message has unit 0, the venue's a unit 1 to 32
+pub record UnitFits (direction unit : ℕ) : Type 0 where
+  pub of-member : direction ≡ 0 → unit ≡ 0
+  pub of-venue : direction ≡ 1 → 1 ≤ unit
+  pub at-most : direction ≡ 1 → unit ≤ 32
+
+-- New Order requires Symbol (byte 2, bit 1), Capacity (byte 2, bit 64), and Price or OrdType (byte 1, bits 4 and 16)
+pub record Required (message : ℕ) (set : ℕ → Bool) : Type 0 where
+  pub symbol : message ≡ 0x38 → set 8 ≡ true
+  pub capacity : message ≡ 0x38 → set 14 ≡ true
+  pub price-or-type : message ≡ 0x38 → (set 2 || set 4) ≡ true
+
+-- a record r: its type at 0, its unit at 1, its number, which may be any, at 2, its fixed part from 6 on, its count of bitfields at 65, the bitfields from
+-- 66 on, its full layout from 81 on
+pub record Valid (direction : ℕ) (r : List ℕ) : Type 0 where
+  pub type : orderOf direction (getD r 0 0) ≡ true
+  pub unit : UnitFits direction (getD r 1 0)
+  pub fixed : fixedGood (getD r 0 0) (take fixedSize (drop 6 r)) ≡ true
+  pub count : getD r countIn 0 ≤ mostOf (getD r 0 0)
+  pub listed : AllListed (setInRecord r) (entryAt (getD r 0 0))
+  pub required : Required (getD r 0 0) (setInRecord r)
+  pub agree : AllAgree (setInRecord r) (entryAt (getD r 0 0)) (drop layoutIn r)
+  pub zero-after-fixed : (i : ℕ) → countAt (getD r 0 0) ≤ i + 4 → i < countIn → getD r i 0 ≡ 0
+  pub zero-after-bits : (i : ℕ) → countIn + 1 + getD r countIn 0 ≤ i → i < layoutIn → getD r i 0 ≡ 0
+  pub zero-elsewhere : (i : ℕ) → i < layoutSize → Unselected (setInRecord r) (entryAt (getD r 0 0)) i → getD r (layoutIn + i) 0 ≡ 0
+
+-- the bytes of its message: the count's place, 1, the count, and the widths of all set bits
+abbrev pub messageSize : List ℕ → ℕ
+messageSize r = countAt (getD r 0 0) + 1 + getD r countIn 0 + widthsBefore (setInRecord r) (entryAt (getD r 0 0)) allPlaces
+
+-- ---- any choice of bits
+
+-- a fixed part that is good, with zeros after it
+pub record GoodFixed (message : ℕ) (fixed : List ℕ) : Type 0 where
+  pub whole : length fixed ≡ fixedSize
+  pub bytes : Bytes fixed
+  pub good : fixedGood message fixed ≡ true
+  pub ends : (i : ℕ) → countAt message ≤ i + 10 → getD fixed i 0 ≡ 0
+
+-- bitfields, `count` of them with zeros after them, that set listed bits alone, the required ones among them
+pub record GoodBits (message count : ℕ) (bits : List ℕ) : Type 0 where
+  pub whole : length bits ≡ 15
+  pub bytes : Bytes bits
+  pub few : count ≤ mostOf message
+  pub ends : (i : ℕ) → count ≤ i → getD bits i 0 ≡ 0
+  pub listed : AllListed (selectedAt count bits) (entryAt message)
+  pub required : Required message (selectedAt count bits)
+
+-- the record of such a choice, in a buffer of 439 bytes: every optional field, selected or not, is blank or zero
+unfoldable pub chosenRecord : ℕ → ℕ → ℕ → List ℕ → ℕ → List ℕ → List ℕ
+chosenRecord message unit number fixed count bits =
+    recordBytes (record { message = message; unit = unit; number = number; fixed = fixed; count = count; bits = bits; slots = zeros layoutSize }) ++ zeros 204
+
+-- a fixed part of each type: the identifier A, and in New Order the side 1 and the quantity 1; all else zero
+abbrev pub sampleFixed : ℕ → List ℕ
+sampleFixed message =
+    cond (eqb message 0x38) (65 ∷ zeros 19 ++ (49 ∷ 1 ∷ zeros 37))
+    (cond (eqb message 0x39) (65 ∷ zeros 58)
+    (zeros 8 ++ (65 ∷ zeros 50)))
