@@ -9,17 +9,17 @@ use mathlib.Core.Path.{_≡_, refl, sym, ap, ap₂, _∙_, subst}
 use mathlib.Core.Bool.{Bool, true, false, cond, _&&_, true≢false}
 use mathlib.Core.List.{List, [], _∷_, _++_}
 use Prim.Native.Nat.{ℕ, zero, suc, _+_, _-_, _≤_, _<_}
-use native.Mathlib.Nat.{add-zero, zero-add, add-assoc}
+use native.Mathlib.Nat.{add-zero, zero-add}
 use native.Mathlib.Omega.{arith}
-use lib.Dec.{eqb, ltb}
-use lib.ListN.{length, getD, take, drop, length-drop, List·getD-eq-default}
-use lib.Seq.{length-take-le, getD-take, getD-drop, drop-drop}
+use lib.Dec.{ltb}
+use lib.ListN.{length, getD, take, drop, List·getD-eq-default}
+use lib.Seq.{getD-take, getD-drop, drop-drop}
 use borrow.Author.Tests.{eq-eqb, ltb-true, ltb-false}
 use Rattle.kinds.specs.declared.Kind.{Kind}
 use Rattle.kinds.specs.Kinds.{allNul, agreesOf}
 use Rattle.dictionary.specs.declared.Entry.{Entry}
 use Rattle.dictionary.specs.declared.Entry.the-variants.{Refused, Field}
-use Rattle.block.specs.Slots.{Slot, slot, widthOf, width, takes, sum, badSlot, anyBad, gathered, agreeSlot, agreeHeld, zeroSlot, zeroElsewhere}
+use Rattle.block.specs.Slots.{Slot, slot, widthOf, width, takes, sum, anyBad, gathered, agreeSlot, agreeHeld, zeroSlot, zeroElsewhere}
 use Rattle.block.specs.SlotLaws.{sum-append, field-at}
 use Rattle.block.specs.Places.{selectedAt, entryAt, slotsFrom, slotsOf}
 use Rattle.block.specs.FieldPlaces.{widthsBefore, AllListed, AllAgree, Unselected}

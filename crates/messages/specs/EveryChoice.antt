@@ -6,39 +6,36 @@
 --     a-fixed-part-is-good       and there is a good fixed part of each type
 -- Assumes nothing.
 use mathlib.Core.Path.{_≡_, refl, sym, ap, ap₂, _∙_, subst}
-use mathlib.Core.Bool.{Bool, true, false, cond, not, _&&_, _||_, false≢true}
-use mathlib.Core.List.{List, [], _∷_, _++_}
+use mathlib.Core.Bool.{Bool, true, false, not, _&&_, _||_, false≢true}
+use mathlib.Core.List.{List, [], _∷_, _++_, append-nil}
 use Prim.Native.Nat.{ℕ, zero, suc, _+_, _-_, _/_, _%_, _≤_, _<_}
 use native.Mathlib.Omega.{arith}
 use lib.Dec.{leb, ltb, eqb}
-use lib.ListN.{length, getD, take, drop, length-append, length-drop, List·getD-eq-default}
+use lib.ListN.{length, getD, take, drop, length-drop, List·getD-eq-default}
 use lib.Seq.{length-take-le, getD-take, getD-drop, take-take}
 use borrow.Author.Tests.{eq-eqb, eqb-true, le-leb, ltb-true, ltb-false}
-use Rattle.kinds.specs.declared.Kind.{Kind}
 use Rattle.kinds.specs.Kinds.{allNul, agreesOf}
 use Rattle.kinds.specs.KindLaws.{blank-agrees}
-use Rattle.dictionary.specs.declared.Entry.{Entry}
-use Rattle.dictionary.specs.declared.Entry.the-variants.{Refused, Field}
 use Rattle.numbers.specs.Numbers.{bytesOf, patched}
 use Rattle.wire.specs.HeaderLaws.{Bytes}
-use Rattle.block.specs.Slots.{zeros, takes, sum, anyBad, agreeHeld, zeroElsewhere}
+use Rattle.block.specs.Slots.{zeros, takes, sum, agreeHeld, zeroElsewhere}
 use Rattle.block.specs.SlotLaws.{length-zeros, takes-below}
 use Rattle.block.specs.Places.{selectedAt, entryAt, slotsFrom, slotsOf, hasRequired}
-use Rattle.block.specs.FieldPlaces.{widthsBefore, AllListed, AllAgree, Unselected}
+use Rattle.block.specs.FieldPlaces.{widthsBefore, AllAgree, Unselected}
 use Rattle.block.specs.FieldPlaceLaws.{takes-all, widths-same, nul-part, nul-rest, no-bad-slot, selected-agree, zero-where-unset}
-use Rattle.block.specs.Dictionaries.{before, before-none, dictionary-placed, widths-fit, field-fits}
+use Rattle.block.specs.Dictionaries.{before-none, dictionary-placed, widths-fit, field-fits}
 use Rattle.block.specs.Sizes.{fixedSize, allPlaces, layoutSize, recordSize}
-use Rattle.orders.specs.Shapes.{ofMember, ofVenue, countAt, mostOf, unitGood, fixedGood}
-use Rattle.orders.specs.Orders.{writeSlots, sizeOf, writeRefusal}
+use Rattle.orders.specs.Shapes.{ofMember, ofVenue, countAt, unitGood, fixedGood}
+use Rattle.orders.specs.Orders.{writeSlots, sizeOf}
 use Rattle.orders.specs.OrderLaws.{count-bounds, most-bound, Fit, is-written}
 use Rattle.orders.specs.declared.Record.{Record}
 use Rattle.orders.specs.RoundTrip.{Sound}
 use Rattle.order_records.specs.Records.{recordBytes, recordAt}
 use Rattle.order_records.specs.RecordTrip.{record-length, record-again}
-use Rattle.messages.specs.Messages.{carries, ownWrite, writeCall, heldIn}
-use Rattle.messages.specs.MessageLaws.{own-write}
+use Rattle.messages.specs.Messages.{carries, recordSizeOf, ownWrite, writeCall, heldIn}
+use Rattle.messages.specs.MessageLaws.{order-size, own-write}
 use Rattle.messages.specs.RoundTrip.{read-again}
-use Rattle.messages.specs.OrderPlaces.{isOrder, countIn, layoutIn, setIn, setInRecord}
+use Rattle.messages.specs.OrderPlaces.{isOrder, countIn, layoutIn, setInRecord}
 use Rattle.messages.specs.FieldPlace.{set-same, selected-small, not-session}
 use Rattle.messages.specs.Taken.{TakenBothWays}
 use Rattle.messages.specs.ValidOrders.{orderOf, UnitFits, Required, Valid, messageSize, GoodFixed, GoodBits, chosenRecord, sampleFixed}
@@ -182,16 +179,18 @@ module _ (direction : ℕ) (r : List ℕ) (long : recordSize ≤ length r) (v : 
   own-fits room roomy = rw (not-session (getD r 0 0) (known-type direction (getD r 0 0) (v .type) .is-order)) (is-written (recordAt r) room (fits room roomy))
 
 -- A VALID RECORD IS TAKEN by the writer, and what is written of it by the reader
-pub a-valid-record-is-taken : (direction : ℕ) (r out : List ℕ) → Bytes r → 439 ≤ length r → Valid direction r → messageSize r ≤ length out → TakenBothWays direction r out
+pub a-valid-record-is-taken : (direction : ℕ) (r out : List ℕ) → Bytes r → recordSize ≤ length r → Valid direction r → messageSize r ≤ length out → TakenBothWays direction r out
 unfolding heldIn
 a-valid-record-is-taken direction r out bytes long v room =
+    let k = known-type direction (getD r 0 0) (v .type) in
+    let size : recordSizeOf (getD r 0 0) ≡ recordSize = order-size (getD r 0 0) (not-session (getD r 0 0) (k .is-order)) in
     let z : writeCall direction r (length out) ≡ 0 =
-    own-write direction r out long (known-type direction (getD r 0 0) (v .type) .carried) (length out) ∙ own-fits direction r (omega arith) v (length out) room in
-    let e : heldIn r ≡ take recordSize r = rw (not-session (getD r 0 0) (known-type direction (getD r 0 0) (v .type) .is-order)) in
+    own-write direction r out (λ q. omega (arith, q, long)) (k .carried) (omega (arith, size, long)) (length out) ∙ own-fits direction r long v (length out) room in
+    let e : heldIn r ≡ take recordSize r = ap (λ (n : ℕ). take n r) size in
     record {
       written = z;
-      read = λ buffer h. read-again direction r out bytes z buffer h .0;
-      same = λ buffer h. read-again direction r out bytes z buffer h .1 ∙ ap (patched buffer 0) e;
+      read = λ buffer h. read-again direction r out bytes z buffer (omega (arith, size, h)) .0;
+      same = λ buffer h. read-again direction r out bytes z buffer (omega (arith, size, h)) .1 ∙ ap (patched buffer 0) e;
     }
 
 -- ---- EVERY CHOICE
@@ -247,11 +246,11 @@ module _ (direction message unit number : ℕ) (fixed : List ℕ) (count : ℕ) 
 
   held : recordAt stored ≡ the-record
   unfolding stored the-record chosenRecord
-  held = record-again the-record sound (zeros 204)
+  held = ap recordAt (sym (append-nil (recordBytes the-record))) ∙ record-again the-record sound []
 
-  long : length stored ≡ 439
+  long : length stored ≡ recordSize
   unfolding stored the-record chosenRecord
-  long = length-append (recordBytes the-record) (zeros 204) ∙ omega (arith, record-length the-record sound, length-zeros 204)
+  long = record-length the-record sound
 
   few-bits : count ≤ 15
   few-bits = omega (arith, b .few, most-bound message)
@@ -259,12 +258,10 @@ module _ (direction message unit number : ℕ) (fixed : List ℕ) (count : ℕ) 
   stored-bytes : Bytes stored
   unfolding stored chosenRecord recordBytes
   stored-bytes =
-      bytes-append (recordBytes (record { message = message; unit = unit; number = number; fixed = fixed; count = count; bits = bits; slots = zeros layoutSize })) (zeros 204)
-      (bytes-append (message ∷ unit ∷ bytesOf 4 number) (fixed ++ (count ∷ (bits ++ zeros layoutSize)))
+      bytes-append (message ∷ unit ∷ bytesOf 4 number) (fixed ++ (count ∷ (bits ++ zeros layoutSize)))
       (bytes-front message (unit ∷ bytesOf 4 number) (type-byte direction message type) (bytes-front unit (bytesOf 4 number) (unit-byte direction message unit type unit-fits) (number-bytes 4 number)))
       (bytes-append fixed (count ∷ (bits ++ zeros layoutSize)) (f .bytes)
-      (bytes-front count (bits ++ zeros layoutSize) (omega (arith, few-bits)) (bytes-append bits (zeros layoutSize) (b .bytes) (bytes-zeros layoutSize)))))
-      (bytes-zeros 204)
+      (bytes-front count (bits ++ zeros layoutSize) (omega (arith, few-bits)) (bytes-append bits (zeros layoutSize) (b .bytes) (bytes-zeros layoutSize))))
 
   type-is : getD stored 0 0 ≡ message
   unfolding recordAt the-record

@@ -3,17 +3,15 @@
 --     a-header-is-taken                                             both heartbeats and Replay Complete
 --     blank-values-are-good                                         and there are good fixed parts: blank ones
 -- Assumes nothing.
-use mathlib.Core.Path.{_≡_, refl, sym, ap, _∙_}
-use mathlib.Core.Bool.{Bool, true, false}
-use mathlib.Core.List.{List, [], _∷_, _++_, append-nil}
+use mathlib.Core.Path.{_≡_, refl, ap, _∙_}
+use mathlib.Core.Bool.{true}
+use mathlib.Core.List.{List, [], _∷_, _++_}
 use Prim.Native.Nat.{ℕ, _+_, _≤_, _<_}
 use native.Mathlib.Omega.{arith}
-use lib.Dec.{eqb}
 use lib.ListN.{length, getD, length-append}
 use lib.Seq.{take-at}
-use borrow.Author.Tests.{eq-eqb, le-ltb}
 use Rattle.numbers.specs.Numbers.{bytesOf, patched}
-use Rattle.wire.specs.Header.{headerBytes, lengthOf, typeOf, numberOf, totalOf}
+use Rattle.wire.specs.Header.{headerBytes, lengthOf, typeOf, totalOf}
 use Rattle.wire.specs.HeaderLaws.{Bytes, header-length, header-number, header-total}
 use Rattle.wire.specs.Frame.{frameRefusal, framed}
 use Rattle.wire.specs.FrameLaws.{accepted, framed-is}
@@ -23,8 +21,9 @@ use Rattle.session_messages.specs.Sessions as sessions
 use Rattle.session_messages.specs.SessionLaws.{header-alone}
 use Rattle.session_messages.specs.SessionMeaning.{a-value-is-a-request, a-value-is-a-response, a-value-is-a-logout}
 use Rattle.session_messages.specs.SessionTrip as sessionTrip
+use Rattle.session_messages.specs.Sizes.{sessionRecordSize}
 use Rattle.messages.specs.Messages.{isSession, carries, ownRefusal, readRefusal, readCall}
-use Rattle.messages.specs.MessageLaws.{own-refusal}
+use Rattle.messages.specs.MessageLaws.{size-at-most, own-refusal, own-size-suffices}
 use Rattle.messages.specs.RoundTrip.{taken-again, written-again}
 use Rattle.messages.specs.Taken.{TakenAsSaid}
 use Rattle.messages.specs.EveryChoice.{bytes-front, bytes-append, number-bytes}
@@ -60,9 +59,9 @@ module _ (direction message : ℕ) (b : List ℕ) (carried : carries direction m
       ∙ ap ownRefusal (framed-as-said t)
       ∙ own-said
 
-  is-taken : (t buffer : List ℕ) → 439 ≤ length buffer → readCall direction (said message b ++ t) (length buffer) ≡ 0
-  unfolding readCall
-  is-taken t buffer h = rw (eq-eqb (readRefusal direction (said message b ++ t)) 0 (is-read t), le-ltb (length buffer) 439 h)
+  is-taken : (t buffer : List ℕ) → sessionRecordSize ≤ length buffer → readCall direction (said message b ++ t) (length buffer) ≡ 0
+  is-taken t buffer h =
+      own-size-suffices direction (said message b ++ t) (length buffer) (omega (arith, size-at-most (typeOf (framed (said message b ++ t))), h)) ∙ is-read t
 
   all-bytes : (t : List ℕ) → Bytes t → Bytes (said message b ++ t)
   all-bytes t k =

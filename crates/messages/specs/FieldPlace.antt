@@ -5,22 +5,22 @@
 -- In both the field is the `width` bytes from the count's place, 1, the count and the summed widths of all earlier set bits on; and these are the
 -- bytes of its place in the record's buffer. Assumes nothing.
 use mathlib.Core.Path.{_≡_, refl, sym, ap, ap₂, _∙_, subst}
-use mathlib.Core.Bool.{Bool, true, false, cond, _&&_, _||_, false≢true}
+use mathlib.Core.Bool.{Bool, true, false, _&&_, _||_, false≢true}
 use mathlib.Core.List.{List, [], _∷_, _++_, append-assoc, append-nil}
 use Prim.Native.Nat.{ℕ, _+_, _-_, _/_, _%_, _≤_, _<_}
 use native.Mathlib.Omega.{arith}
 use lib.Dec.{ltb, eqb}
-use lib.ListN.{length, getD, take, drop, length-append, length-drop, take-append-drop}
+use lib.ListN.{length, getD, take, drop, length-drop, take-append-drop}
 use lib.Seq.{length-take-le, getD-take, getD-drop, drop-drop, take-append-le, drop-append-le}
 use borrow.Author.Tests.{ltb-true, eqb-true}
 use Rattle.kinds.specs.declared.Kind.{Kind}
-use Rattle.dictionary.specs.declared.Entry.the-variants.{Refused, Field}
+use Rattle.dictionary.specs.declared.Entry.the-variants.{Field}
 use Rattle.numbers.specs.NumberLaws.{bytes-first}
 use Rattle.wire.specs.Header.{headerBytes, typeOf, totalOf}
 use Rattle.wire.specs.HeaderLaws.{Bytes}
 use Rattle.wire.specs.Frame.{frameRefusal, framed}
-use Rattle.wire.specs.FrameLaws.{Whole, whole, framed-is, framed-length, framed-accepted, framed-again}
-use Rattle.block.specs.Slots.{takes, width, sum, gathered}
+use Rattle.wire.specs.FrameLaws.{whole, framed-is, framed-length, framed-accepted, framed-again}
+use Rattle.block.specs.Slots.{takes, sum, gathered}
 use Rattle.block.specs.SlotLaws.{gathered-length, both-true}
 use Rattle.block.specs.Places.{bitSet, selectedAt, entryAt, slotsOf}
 use Rattle.block.specs.FieldPlaces.{widthsBefore}
@@ -37,6 +37,7 @@ use Rattle.orders.specs.declared.Record.{Record}
 use Rattle.order_records.specs.Records.{recordBytes, recordAt}
 use Rattle.order_records.specs.RecordTrip.{record-again, at-sound, bytes-again}
 use Rattle.messages.specs.Messages.{isSession, ownRefusal, recordOf, readCall, readRecord, ownWrite, messageOf, writeCall, writeOut}
+use Rattle.messages.specs.MessageLaws.{order-size}
 use Rattle.messages.specs.RoundTrip.{Accepted, accepted, taken, given, record-stored, message-stored}
 use Rattle.messages.specs.OrderPlaces.{isOrder, countIn, layoutIn, setIn, setInMessage, setInRecord, fieldAt, Stands}
 
@@ -277,7 +278,7 @@ module _ (direction : ℕ) (r out : List ℕ) (bytes : Bytes r) (z : writeCall d
   own-written = rw no-session-kept at (given direction r (length out) z .owns)
 
   long : recordSize ≤ length r
-  long = omega (arith, given direction r (length out) z .long)
+  long = omega (arith, given direction r (length out) z .long, order-size (getD r 0 0) no-session-kept)
 
   is-written-out : writeOut direction r out ≡ orderBytes (recordAt r) ++ drop (length (messageOf r)) out
   unfolding messageOf

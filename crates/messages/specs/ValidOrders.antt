@@ -6,14 +6,12 @@ use mathlib.Core.List.{List, _∷_, _++_}
 use Prim.Native.Nat.{ℕ, _+_, _≤_, _<_}
 use lib.Dec.{eqb}
 use lib.ListN.{length, getD, take, drop}
-use Rattle.dictionary.specs.declared.Entry.{Entry}
 use Rattle.wire.specs.HeaderLaws.{Bytes}
 use Rattle.block.specs.Slots.{zeros}
 use Rattle.block.specs.Places.{selectedAt, entryAt}
 use Rattle.block.specs.FieldPlaces.{widthsBefore, AllListed, AllAgree, Unselected}
 use Rattle.block.specs.Sizes.{fixedSize, allPlaces, layoutSize}
 use Rattle.orders.specs.Shapes.{countAt, mostOf, fixedGood}
-use Rattle.orders.specs.declared.Record.{Record}
 use Rattle.order_records.specs.Records.{recordBytes}
 use Rattle.messages.specs.OrderPlaces.{countIn, layoutIn, setInRecord}
 
@@ -69,10 +67,10 @@ pub record GoodBits (message count : ℕ) (bits : List ℕ) : Type 0 where
   pub listed : AllListed (selectedAt count bits) (entryAt message)
   pub required : Required message (selectedAt count bits)
 
--- the record of such a choice, in a buffer of 439 bytes: every optional field, selected or not, is blank or zero
+-- the record of such a choice,: every optional field, selected or not, is blank or zero
 unfoldable pub chosenRecord : ℕ → ℕ → ℕ → List ℕ → ℕ → List ℕ → List ℕ
 chosenRecord message unit number fixed count bits =
-    recordBytes (record { message = message; unit = unit; number = number; fixed = fixed; count = count; bits = bits; slots = zeros layoutSize }) ++ zeros 204
+    recordBytes (record { message = message; unit = unit; number = number; fixed = fixed; count = count; bits = bits; slots = zeros layoutSize })
 
 -- a fixed part of each type: the identifier A, and in New Order the side 1 and the quantity 1; all else zero
 abbrev pub sampleFixed : ℕ → List ℕ
