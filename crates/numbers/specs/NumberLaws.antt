@@ -5,7 +5,7 @@ use mathlib.Core.List.{List, [], _∷_, _++_, append-assoc, append-nil}
 use Prim.Native.Nat.{ℕ, zero, suc, _+_, _-_, _*_, _/_, _%_, _^_, _≤_, _<_}
 use native.Mathlib.Nat.{le-of-suc-le-suc, not-suc-le-zero, suc-add, zero-add, pow-zero, pow-suc, mul-add, mul-comm, mul-assoc}
 use native.Mathlib.Omega.{arith}
-use lib.ListN.{length, getD, take, drop, length-append, length-drop, drop-of-length-le, List·getD-eq-default, List·getD-append}
+use lib.ListN.{length, getD, take, drop, take-append-drop, length-append, length-drop, drop-of-length-le, List·getD-eq-default, List·getD-append}
 use lib.Dec.{leb}
 use lib.Seq.{getD-append-add, getD-take, getD-drop, sets, sets-eq, take-at, drop-at, drop-drop, drop-append-add, length-take-le}
 use borrow.Author.Tests.{le-leb, lt-leb, leb-true}
@@ -173,6 +173,14 @@ number-after zero j p q = refl
 number-after (suc n) j p q =
     let e : length p + j + 1 ≡ length p + (j + 1) = omega arith in
     rw (getD-append-add p q j 0, e, number-after n (j + 1) p q)
+
+-- the bytes at a place are those of the number that is read there
+pub bytes-at : (n i : ℕ) (s : List ℕ) → ((j : ℕ) → getD s j 0 < 256) → i + n ≤ length s → bytesOf n (numberAt n i s) ≡ take n (drop i s)
+bytes-at n i s k h =
+    let z : i ≡ length (take i s) + 0 = omega (arith, length-take-le i s (omega arith)) in
+    ap (bytesOf n)
+    (ap (numberAt n i) (sym (take-append-drop i s)) ∙ ap (λ (m : ℕ). numberAt n m (take i s ++ drop i s)) z ∙ number-after n 0 (take i s) (drop i s))
+    ∙ bytes-back n (drop i s) (omega (arith, length-drop i s)) (bytes-later i s k)
 
 -- a number that fits its width and is written at a place is read there again
 pub read-of-written : (n v i : ℕ) (xs : List ℕ) → v < 256 ^ n → i + n ≤ length xs → numberAt n i (putBuffer xs i (bytesOf n v)) ≡ v
