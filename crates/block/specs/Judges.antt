@@ -1,10 +1,10 @@
 -- What judging finds, over any dictionary: the walk's answer in the words of the slots. Assumes nothing.
-use mathlib.Core.Path.{_≡_, refl, ap, _∙_, sym, subst}
-use mathlib.Core.Bool.{Bool, true, false, _&&_, _||_, or-true}
+use mathlib.Core.Path.{_≡_, refl, ap, ap₂, _∙_, sym}
+use mathlib.Core.Bool.{Bool, true, false, not, _&&_, _||_, or-true}
 use mathlib.Core.List.{List, [], _∷_}
 use Prim.Native.Nat.{ℕ, suc, _+_, _≤_, _<_}
 use native.Mathlib.Omega.{arith}
-use lib.Dec.{leb}
+use lib.Dec.{eqb}
 use lib.ListN.{length, take, drop}
 use lib.Seq.{drop-drop}
 use borrow.Author.Tests.{le-leb}
@@ -14,15 +14,15 @@ use Rattle.dictionary.specs.declared.Entry.{Entry}
 use Rattle.dictionary.specs.declared.Entry.the-variants.{Refused, Field}
 use Rattle.block.specs.Slots.{Slot, slot, takes, sum, anyBad, agreeSent}
 use Rattle.block.specs.Places.{slotsFrom}
-use Rattle.block.specs.Walk.{pick, walk, Judging, judgeEntry}
-use Rattle.block.specs.WalkLaws.{walk-slots, and-move}
+use Rattle.block.specs.Walk.{pick, walk, worseOf, Judging, judgeEntry}
+use Rattle.block.specs.WalkLaws.{walk-slots, and-move, worse-is}
 use Rattle.block.specs.Sizes.{allPlaces}
 
 -- what holds after the slots ss were judged: from the state st to the state r
 pub record Judged (m : List ℕ) (ss : List Slot) (k : ℕ) (st r : Judging) : Type 0 where
-  pub bad-is : r .bad ≡ (anyBad ss || st .bad)
+  pub bad-is : not (eqb (r .bad) 0) ≡ (anyBad ss || not (eqb (st .bad) 0))
   pub at-is : r .at ≡ st .at + sum takes ss
-  pub agree-is : st .at + sum takes ss ≤ length m → r .agree ≡ (agreeSent ss (drop (st .at) m) && st .agree)
+  pub agree-is : st .at + sum takes ss ≤ length m → eqb (r .wrong) 0 ≡ (agreeSent ss (drop (st .at) m) && eqb (st .wrong) 0)
 
 module _ (m : List ℕ) where
   none : (k : ℕ) (st : Judging) → Judged m [] k st st
@@ -46,9 +46,9 @@ module _ (m : List ℕ) where
     agree-is = λ h.
         let f : List ℕ = take w (drop (st .at) m) in
         t .agree-is (omega arith)
-        ∙ ap (λ (b : Bool). agreeSent ss (drop (st .at + w) m) && pick b (agreesOf kd f && st .agree) (st .agree)) (le-leb (st .at + w) (length m) (omega arith))
-        ∙ ap (λ (x : List ℕ). agreeSent ss x && (agreesOf kd f && st .agree)) (sym (drop-drop w (st .at) m))
-        ∙ and-move (agreeSent ss (drop w (drop (st .at) m))) (agreesOf kd f) (st .agree);
+        ∙ ap (λ (b : Bool). agreeSent ss (drop (st .at + w) m) && eqb (pick b (worseOf (st .wrong) (agreesOf kd f)) (st .wrong)) 0) (le-leb (st .at + w) (length m) (omega arith))
+        ∙ ap₂ (λ (x : List ℕ) (b : Bool). agreeSent ss x && b) (sym (drop-drop w (st .at) m)) (worse-is (st .wrong) (agreesOf kd f))
+        ∙ and-move (agreeSent ss (drop w (drop (st .at) m))) (agreesOf kd f) (eqb (st .wrong) 0);
   }
 
   one : (entry : ℕ → Entry) (k : ℕ) → k < allPlaces → (b : Bool) (ss : List Slot) (st r : Judging) → Judged m ss (suc k) (pick b (judgeEntry m (entry k) st) st) r → Judged m (slot b (entry k) ∷ ss) k st r

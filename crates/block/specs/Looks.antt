@@ -1,6 +1,6 @@
 -- What looking finds, over any dictionary: the walk's answer in the words of the slots, and the zero test by clearing. Assumes nothing.
 use mathlib.Core.Path.{_≡_, refl, sym, ap, ap₂, _∙_}
-use mathlib.Core.Bool.{Bool, true, false, _&&_, _||_, or-true}
+use mathlib.Core.Bool.{Bool, true, false, not, _&&_, _||_, or-true}
 use mathlib.Core.List.{List, [], _∷_, _++_, append-assoc}
 use Prim.Native.Nat.{ℕ, suc, _+_, _≤_, _<_}
 use native.Mathlib.Omega.{arith}
@@ -16,7 +16,7 @@ use Rattle.block.specs.Slots.{zeros, Slot, slot, widthOf, width, takes, 
 use Rattle.block.specs.SlotLaws.{length-zeros, zeros-are-nul}
 use Rattle.block.specs.Places.{slotsFrom}
 use Rattle.block.specs.Walk.{pick, walk, Looking, lookEntry}
-use Rattle.block.specs.WalkLaws.{walk-slots, and-move}
+use Rattle.block.specs.WalkLaws.{walk-slots, and-move, worse-is}
 use Rattle.block.specs.Dictionaries.{before, Placed}
 use Rattle.block.specs.Sizes.{allPlaces}
 
@@ -33,9 +33,9 @@ cleared (s ∷ ss) v = clearedSlot s v ++ cleared ss (drop (width s) v)
 -- what holds after the slots ss from place k on were looked at: from the state st, whose layout is `done` up to place k and v from there
 -- on, to the state r
 pub record Looked (entry : ℕ → Entry) (ss : List Slot) (k : ℕ) (st r : Looking) : Type 0 where
-  pub bad-is : r .bad ≡ (anyBad ss || st .bad)
+  pub bad-is : not (eqb (r .bad) 0) ≡ (anyBad ss || not (eqb (st .bad) 0))
   pub total-is : r .total ≡ st .total + sum takes ss
-  pub agree-is : (done v : List ℕ) → st .rest ≡ done ++ v → length done ≡ before entry k → sum width ss ≤ length v → r .agree ≡ (agreeHeld ss v && st .agree)
+  pub agree-is : (done v : List ℕ) → st .rest ≡ done ++ v → length done ≡ before entry k → sum width ss ≤ length v → eqb (r .wrong) 0 ≡ (agreeHeld ss v && eqb (st .wrong) 0)
   pub rest-is : (done v : List ℕ) → st .rest ≡ done ++ v → length done ≡ before entry k → sum width ss ≤ length v → r .rest ≡ done ++ cleared ss v
 
 -- bytes cleared at the end of what is done
@@ -103,8 +103,9 @@ module _ (entry : ℕ → Entry) (size : ℕ) (ok : Placed entry size) where
             let a : take w (drop p (st .rest)) ≡ take w v = ap (λ (x : List ℕ). take w (drop p x)) f ∙ ap (take w) (drop-at done v p (n ∙ sym there)) in
             t .agree-is (done ++ zeros w) (drop w v) (clear-next done v (st .rest) w p f (n ∙ sym there))
             (done-more k (Field w kd p) q done v (zeros w) n (length-zeros w)) (rest-fits w (sum width ss) v h)
-            ∙ ap (λ (x : List ℕ). agreeHeld ss (drop w v) && (agreesOf kd x && st .agree)) a
-            ∙ and-move (agreeHeld ss (drop w v)) (agreesOf kd (take w v)) (st .agree);
+            ∙ ap (λ (b : Bool). agreeHeld ss (drop w v) && b) (worse-is (st .wrong) (agreesOf kd (take w (drop p (st .rest)))))
+            ∙ ap (λ (x : List ℕ). agreeHeld ss (drop w v) && (agreesOf kd x && eqb (st .wrong) 0)) a
+            ∙ and-move (agreeHeld ss (drop w v)) (agreesOf kd (take w v)) (eqb (st .wrong) 0);
         rest-is = λ done v f n h.
             t .rest-is (done ++ zeros w) (drop w v) (clear-next done v (st .rest) w p f (n ∙ sym there))
             (done-more k (Field w kd p) q done v (zeros w) n (length-zeros w)) (rest-fits w (sum width ss) v h)

@@ -1,7 +1,7 @@
 -- A walk over the places, as the code goes: a selected place changes a state, an unselected one leaves it. And the four walks: judging a
 -- message's fields, storing them in a layout, looking at a layout's, giving them to a message. Definitions alone. Assumes nothing.
 use Prim.Native.Nat.{ℕ, zero, suc, _+_, _/_, _%_}
-use mathlib.Core.Bool.{Bool, true, false, _&&_}
+use mathlib.Core.Bool.{Bool, true, false}
 use mathlib.Core.List.{List}
 use lib.Dec.{eqb, leb}
 use lib.ListN.{length, take, drop}
@@ -32,22 +32,26 @@ bitsFrom change message byte (suc n) i x st = bitsFrom change message byte n (su
 abbrev pub inByte : {S : Type 0} → (Entry → S → S) → ℕ → ℕ → ℕ → S → S
 inByte change message byte x st = bitsFrom change message byte 8 0 x st
 
+-- 1 where a field is against its kind, and as it was where it agrees
+abbrev pub worseOf : ℕ → Bool → ℕ
+worseOf wrong agree = pick agree wrong 1
+
 -- ---- judging: a message's optional bytes where they stand
 
--- how many bytes the set bits take so far, whether all fields that are there agree, and whether a bit is bad
+-- how many bytes the set bits take so far, 1 where a field that is there is against its kind, and 1 where a bit is bad; 0 where it is not so
 pub record Judging : Type 0 where
   pub at : ℕ
-  pub agree : Bool
-  pub bad : Bool
+  pub wrong : ℕ
+  pub bad : ℕ
 
 -- a field of width w and kind k; where the message ends before it, nothing is asked of its bytes
 abbrev pub judgeField : List ℕ → ℕ → Kind → Judging → Judging
 judgeField m w k st =
-    record { at = st .at + w; agree = pick (leb (st .at + w) (length m)) (agreesOf k (take w (drop (st .at) m)) && st .agree) (st .agree); bad = st .bad }
+    record { at = st .at + w; wrong = pick (leb (st .at + w) (length m)) (worseOf (st .wrong) (agreesOf k (take w (drop (st .at) m)))) (st .wrong); bad = st .bad }
 
 -- what a set bit selects; one that is not listed is bad
 unfoldable pub judgeEntry : List ℕ → Entry → Judging → Judging
-judgeEntry m Refused st = record { at = st .at; agree = st .agree; bad = true }
+judgeEntry m Refused st = record { at = st .at; wrong = st .wrong; bad = 1 }
 judgeEntry m (Field w k p) st = judgeField m w k st
 
 -- ---- storing: a message's optional bytes into a layout
@@ -71,20 +75,21 @@ storeEntry m (Field w k p) st = storeField m w p st
 
 -- ---- looking: a record's selected fields
 
--- their bytes in all, whether all agree and whether a bit is bad, and the layout with the fields that were looked at cleared
+-- their bytes in all, 1 where one is against its kind and 1 where a bit is bad, 0 where it is not so, and the layout with the fields that were
+-- looked at cleared
 pub record Looking : Type 0 where
   pub total : ℕ
-  pub agree : Bool
-  pub bad : Bool
+  pub wrong : ℕ
+  pub bad : ℕ
   pub rest : List ℕ
 
 -- what a set bit adds; one that is not listed is bad
 unfoldable pub lookEntry : Entry → Looking → Looking
-lookEntry Refused st = record { total = st .total; agree = st .agree; bad = true; rest = st .rest }
+lookEntry Refused st = record { total = st .total; wrong = st .wrong; bad = 1; rest = st .rest }
 lookEntry (Field w k p) st =
     record {
       total = st .total + w;
-      agree = agreesOf k (take w (drop p (st .rest))) && st .agree;
+      wrong = worseOf (st .wrong) (agreesOf k (take w (drop p (st .rest))));
       bad = st .bad;
       rest = patched (st .rest) p (zeros w);
     }

@@ -5,10 +5,11 @@ use Prim.Native.Nat.{ℕ, zero, suc, _+_, _≤_, _<_}
 use native.Mathlib.Nat.{add-zero, suc-add, zero-add}
 use native.Mathlib.Omega.{arith}
 use mathlib.Core.List.{List, [], _∷_}
+use lib.Dec.{eqb}
 use Rattle.dictionary.specs.declared.Entry.{Entry}
 use Rattle.block.specs.Slots.{Slot, slot}
 use Rattle.block.specs.Places.{slotsFrom}
-use Rattle.block.specs.Walk.{pick, walk}
+use Rattle.block.specs.Walk.{pick, walk, worseOf}
 use Rattle.block.specs.Sizes.{allPlaces}
 
 module _ {S : Type 0} (selected : ℕ → Bool) (change : ℕ → S → S) where
@@ -34,6 +35,11 @@ pub and-move : (a b c : Bool) → (a && (b && c)) ≡ ((b && a) && c)
 and-move a true c = refl
 and-move true false c = refl
 and-move false false c = refl
+
+-- all agree where this one does and those before it did
+pub worse-is : (wrong : ℕ) (a : Bool) → eqb (worseOf wrong a) 0 ≡ (a && eqb wrong 0)
+worse-is wrong true = refl
+worse-is wrong false = refl
 
 -- a walk and the slots that it passes go together: what holds of no slot, and of one slot more in front, holds of them all
 pub walk-slots : {S : Type 0} (selected : ℕ → Bool) (entry : ℕ → Entry) (change : Entry → S → S) (R : List Slot → ℕ → S → S → Type 0)

@@ -9,6 +9,7 @@ use lib.Dec.{eqb}
 use lib.ListN.{length}
 use Rattle.block.specs.Slots.{Slot, takes, sum, anyBad, agreeSent}
 use Rattle.block.specs.Places.{selectedAt, entryAt, slotsOf}
+use Rattle.block.specs.Walk.{Judging}
 use Rattle.block.specs.Judges as judges
 use Rattle.block_judge.specs.declared.Judged.{Judged}
 use Rattle.block_judge.specs.State.{judging, begun, judgeWalk}
@@ -19,6 +20,10 @@ pub record JudgedAll (ss : List Slot) (m : List ℕ) (t : Judged) : Type 0 where
   pub bad-is : not (eqb (t .bad) 0) ≡ anyBad ss
   pub total-is : t .at ≡ sum takes ss
   pub agree-is : sum takes ss ≡ length m → eqb (t .wrong) 0 ≡ agreeSent ss m
+
+-- the state tells every field, so that what judging all answers is one struct
+pub judged-one : {a b : Judged} → judging a ≡ judging b → a ≡ b
+judged-one e = ap (λ (st : Judging). record { at = st .at; wrong = st .wrong; bad = st .bad }) e
 
 pub judged-all : (message count : ℕ) (bits m : List ℕ) (t : Judged) → judging t ≡ judgeWalk message count bits m allPlaces 0 begun → JudgedAll (slotsOf message count bits) m t
 judged-all message count bits m t e =

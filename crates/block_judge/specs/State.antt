@@ -1,19 +1,17 @@
 -- The state of judging, as the code holds it. Definitions alone. Assumes nothing.
 use Prim.Native.Nat.{ℕ}
-use mathlib.Core.Bool.{true, false, not}
 use mathlib.Core.List.{List}
-use lib.Dec.{eqb}
 use Rattle.block.specs.Places.{selectedAt, entryAt}
 use Rattle.block.specs.Walk.{walk, Judging, judgeEntry}
 use Rattle.block_judge.specs.declared.Judged.{Judged}
 
--- the struct
+-- the struct, field by field
 abbrev pub judging : Judged → Judging
-judging t = record { at = t .at; agree = eqb (t .wrong) 0; bad = not (eqb (t .bad) 0) }
+judging t = record { at = t .at; wrong = t .wrong; bad = t .bad }
 
 -- nothing judged yet
 abbrev pub begun : Judging
-begun = record { at = 0; agree = true; bad = false }
+begun = record { at = 0; wrong = 0; bad = 0 }
 
 -- the walk of n places from k on that judges a message's optional bytes m
 abbrev pub judgeWalk : ℕ → ℕ → List ℕ → List ℕ → ℕ → ℕ → Judging → Judging

@@ -1,27 +1,26 @@
 // Judging the optional block where it stands: a walk over the set bits that asks of each field's bytes in the message.
 ghost use mathlib.Core.Path.{_≡_};
-ghost use mathlib.Core.Bool.{_&&_};
 ghost use Prim.Native.Nat.{_+_, _*_, _%_, _≤_, _<_};
 ghost use lib.Dec.{eqb};
 ghost use lib.ListN.{length};
 ghost use Rattle.dictionary.specs.Dictionary.{entryOf};
-ghost use Rattle.block.specs.Walk.{pick, inByte, judgeField, judgeEntry};
+ghost use Rattle.block.specs.Walk.{pick, worseOf, inByte, judgeField, judgeEntry};
 ghost use Rattle.block_judge.specs.State.{judging, begun, judgeWalk};
 ghost use Rattle.block.specs.Sizes.{allPlaces};
 use dictionary::Entry;
 use kinds::Kind;
 
-// How many bytes the set bits take, not 0 where a field is against its kind, and not 0 where a set bit is not listed. Numbers, since a struct
-// with gaps costs copies.
+// How many bytes the set bits take, 1 where a field is against its kind, and 1 where a set bit is not listed; 0 where it is not so. Numbers, since
+// a struct with gaps costs copies.
 pub struct Judged {
     pub at: usize,
     pub wrong: u64,
     pub bad: u64,
 }
 
-// Not 0 where a field is against its kind or one before it was.
+// 1 where a field is against its kind, and else as it was.
 fn worse(wrong: u64, agree: bool) -> u64
-    ensures { λ r. ⌜ eqb r 0 ≡ (agree && eqb wrong 0) ⌝ }
+    ensures { λ r. ⌜ r ≡ worseOf wrong agree ⌝ }
 {
     if agree {
         return wrong;

@@ -12,6 +12,10 @@ use Rattle.block.specs.Stores.{stored}
 use Rattle.block_store.specs.State.{storing, storeWalk}
 use Rattle.block.specs.Sizes.{allPlaces, layoutSize}
 
+-- the state tells the place and the layout, so that what storing all answers and leaves is one
+pub stored-one : {i j : ℕ} {v w : List ℕ} → storing i v ≡ storing j w → (i ≡ j) × (v ≡ w)
+stored-one e = (ap (λ (st : Storing). st .at) e, ap (λ (st : Storing). st .layout) e)
+
 pub stored-all : (message count : ℕ) (bits m : List ℕ) {at : ℕ} {layout : List ℕ} → storing at layout ≡ storeWalk message count bits m allPlaces 0 (storing 0 (zeros layoutSize))
     → sum takes (slotsOf message count bits) ≡ length m → layout ≡ spread (slotsOf message count bits) m ++ zeros (layoutSize - sum width (slotsOf message count bits))
 stored-all message count bits m e h =

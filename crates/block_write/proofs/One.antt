@@ -1,6 +1,5 @@
 -- One field looked at and one given, on plain values. Assumes nothing.
 use mathlib.Core.Path.{_≡_, ap, ap₂, _∙_}
-use mathlib.Core.Bool.{Bool, _&&_}
 use mathlib.Core.List.{List}
 use Prim.Native.Nat.{ℕ, _+_, _-_, _≤_, _<_}
 use native.Mathlib.Omega.{arith}
@@ -11,7 +10,7 @@ use Rattle.kinds.specs.Kinds.{agreesOf}
 use Rattle.numbers.specs.Numbers.{patched}
 use Rattle.dictionary.specs.declared.Entry.the-variants.{Field}
 use Rattle.block.specs.Slots.{zeros}
-use Rattle.block.specs.Walk.{Looking, lookEntry, Giving, giveField}
+use Rattle.block.specs.Walk.{worseOf, Looking, lookEntry, Giving, giveField}
 
 -- ---- a field, which the code has as the part from p to p + w of the layout v
 
@@ -23,12 +22,12 @@ module _ (v : List ℕ) (w p : ℕ) where
   part-is = let n : p + w - p ≡ w = omega arith in ap (λ (i : ℕ). take i (drop p v)) n
 
   -- looked at, and cleared there
-  pub looked-is : (k : Kind) (total : ℕ) (agree bad : Bool) {a : Bool} {l : List ℕ} → a ≡ (agreesOf k part && agree) → l ≡ patched v p (zeros w)
-      → _≡_ {A = Looking} (record { total = total + w; agree = a; bad = bad; rest = l }) (lookEntry (Field w k p) (record { total = total; agree = agree; bad = bad; rest = v }))
+  pub looked-is : (k : Kind) (total wrong bad : ℕ) {a : ℕ} {l : List ℕ} → a ≡ worseOf wrong (agreesOf k part) → l ≡ patched v p (zeros w)
+      → _≡_ {A = Looking} (record { total = total + w; wrong = a; bad = bad; rest = l }) (lookEntry (Field w k p) (record { total = total; wrong = wrong; bad = bad; rest = v }))
   unfolding lookEntry
-  looked-is k total agree bad e f =
-      ap₂ (λ (b : Bool) (x : List ℕ). record { total = total + w; agree = b; bad = bad; rest = x })
-      (e ∙ ap (λ (x : List ℕ). agreesOf k x && agree) part-is)
+  looked-is k total wrong bad e f =
+      ap₂ (λ (b : ℕ) (x : List ℕ). record { total = total + w; wrong = b; bad = bad; rest = x })
+      (e ∙ ap (λ (x : List ℕ). worseOf wrong (agreesOf k x)) part-is)
       f
 
   -- given, where the message has room for it

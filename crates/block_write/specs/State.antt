@@ -1,19 +1,17 @@
 -- The states of looking and of giving, as the code holds them. Definitions alone. Assumes nothing.
 use Prim.Native.Nat.{ℕ}
-use mathlib.Core.Bool.{true, false, not}
 use mathlib.Core.List.{List}
-use lib.Dec.{eqb}
 use Rattle.block.specs.Places.{selectedAt, entryAt}
 use Rattle.block.specs.Walk.{walk, Looking, lookEntry, Giving, giveEntry}
 use Rattle.block_write.specs.declared.Seen.{Seen}
 
--- the struct, and the layout that is lent
+-- the struct, field by field, and the layout that is lent
 abbrev pub looking : Seen → List ℕ → Looking
-looking s rest = record { total = s .total; agree = eqb (s .wrong) 0; bad = not (eqb (s .bad) 0); rest = rest }
+looking s rest = record { total = s .total; wrong = s .wrong; bad = s .bad; rest = rest }
 
 -- nothing looked at yet
 abbrev pub unseen : List ℕ → Looking
-unseen v = record { total = 0; agree = true; bad = false; rest = v }
+unseen v = record { total = 0; wrong = 0; bad = 0; rest = v }
 
 -- the walk of n places from k on that looks at a layout
 abbrev pub lookWalk : ℕ → ℕ → List ℕ → ℕ → ℕ → Looking → Looking

@@ -2,13 +2,12 @@
 pub mod give;
 
 ghost use mathlib.Core.Path.{_≡_};
-ghost use mathlib.Core.Bool.{_&&_};
 ghost use Prim.Native.Nat.{_+_, _*_, _%_, _≤_};
 ghost use lib.Dec.{eqb};
 ghost use lib.ListN.{length};
 ghost use Rattle.dictionary.specs.declared.Entry.the-variants.{Field};
 ghost use Rattle.dictionary.specs.Dictionary.{entryOf};
-ghost use Rattle.block.specs.Walk.{pick, inByte, lookEntry};
+ghost use Rattle.block.specs.Walk.{pick, worseOf, inByte, lookEntry};
 ghost use Rattle.block_write.specs.State.{looking, unseen, lookWalk};
 ghost use Rattle.block.specs.Sizes.{allPlaces, layoutSize};
 use dictionary::Entry;
@@ -22,9 +21,9 @@ pub struct Seen {
     pub bad: usize,
 }
 
-// Whether a field does not agree with its kind, now or before: 1, or 0.
+// 1 where a field is against its kind, and else as it was.
 fn worse(wrong: usize, agree: bool) -> usize
-    ensures { λ r. ⌜ eqb r 0 ≡ (agree && eqb wrong 0) ⌝ }
+    ensures { λ r. ⌜ r ≡ worseOf wrong agree ⌝ }
 {
     if agree {
         return wrong;

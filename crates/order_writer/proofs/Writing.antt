@@ -79,14 +79,14 @@ module _ (r : Record) (s : Seen) (rest : List ℕ) (lv : length (r .slots) ≡ l
   fit = omega (arith, lv, widths-fit (r .message) (r .count) (r .bits))
 
   bad-is : not (eqb (s .bad) 0) ≡ anyBad (slotsOf (r .message) (r .count) (r .bits))
-  bad-is = ap (λ (x : Looking). x .bad) look ∙ seen .bad-is ∙ or-false (anyBad (slotsOf (r .message) (r .count) (r .bits)))
+  bad-is = ap (λ (x : Looking). not (eqb (x .bad) 0)) look ∙ seen .bad-is ∙ or-false (anyBad (slotsOf (r .message) (r .count) (r .bits)))
 
   pub total-is : s .total ≡ sum takes (slotsOf (r .message) (r .count) (r .bits))
   total-is = ap (λ (x : Looking). x .total) look ∙ seen .total-is ∙ zero-add (sum takes (slotsOf (r .message) (r .count) (r .bits)))
 
   agree-is : eqb (s .wrong) 0 ≡ agreeHeld (slotsOf (r .message) (r .count) (r .bits)) (r .slots)
   agree-is =
-      ap (λ (x : Looking). x .agree) look
+      ap (λ (x : Looking). eqb (x .wrong) 0) look
       ∙ seen .agree-is [] (r .slots) refl (sym (before-none (entryAt (r .message)))) fit
       ∙ and-true (agreeHeld (slotsOf (r .message) (r .count) (r .bits)) (r .slots))
 

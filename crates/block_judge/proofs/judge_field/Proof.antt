@@ -1,10 +1,9 @@
 -- `block_judge::judge_field` meets its contract: the part of the message that `agrees` is asked of is the field, where it is there. Assumes nothing.
 use Rattle.block_judge.proofs.One.{past-end, there}
 use Rattle.block_judge.specs.State.{judging}
+use Rattle.block.specs.Walk.{worseOf}
 use denote.Ref.{now}
-use lib.Dec.{eqb}
 use native.Mathlib.Omega.{arith}
-use mathlib.Core.Bool.{Bool, _&&_}
 use mathlib.Core.Path.{ap, _∙_}
 use borrow.Author.Needs.{needs}
 use Rattle.block_judge.proofs.judge_field.Statement.{statement}
@@ -35,7 +34,7 @@ returns-2 : tie.Need-returns-2
 returns-2 c =
     let a = c .before .before .before .before .before .args in (
       there (now (a .msg)) (a .width) (a .kind) (judging (a .t)) (omega arith)
-          (c .worse .ensures ∙ ap (λ (b : Bool). b && eqb (a .t .wrong) 0) (c .before .agrees .ensures)),
+          (c .worse .ensures ∙ ap (worseOf (a .t .wrong)) (c .before .agrees .ensures)),
       omega arith,
     )
 

@@ -1,11 +1,10 @@
 -- `block_write::look_field` meets its contract: the field is a part of the lent layout, `agrees` is asked of it, and `clear` puts zeros over it there.
 -- Assumes nothing.
-use mathlib.Core.Bool.{Bool, _&&_, not}
 use mathlib.Core.Path.{ap, _∙_}
 use native.Mathlib.Omega.{arith}
-use lib.Dec.{eqb}
 use denote.Ref.{now}
 use Rattle.numbers.proofs.Tail.{lent-patched}
+use Rattle.block.specs.Walk.{worseOf}
 use Rattle.block_write.proofs.One.{looked-is}
 use borrow.Author.Needs.{needs}
 use Rattle.block_write.proofs.look_field.Statement.{statement}
@@ -52,8 +51,8 @@ returns c =
     let after-clear = c .before .before .before .before in
     let after-agrees = after-clear .before .before in
     let a = after-agrees .before .before .before .before .args in (
-      looked-is (now (a .rest)) (a .width) (a .place) (a .kind) (a .s .total) (eqb (a .s .wrong) 0) (not (eqb (a .s .bad) 0))
-          (c .worse .ensures ∙ ap (λ (b : Bool). b && eqb (a .s .wrong) 0) (after-agrees .agrees .ensures))
+      looked-is (now (a .rest)) (a .width) (a .place) (a .kind) (a .s .total) (a .s .wrong) (a .s .bad)
+          (c .worse .ensures ∙ ap (worseOf (a .s .wrong)) (after-agrees .agrees .ensures))
           (lent-patched (now (a .rest)) (a .place) _ (omega arith) (after-clear .clear .ensures)),
       omega arith,
     )
