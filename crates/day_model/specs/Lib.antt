@@ -8,4 +8,6 @@ pub mod Steps
 pub mod Story
 pub mod Generic
 pub mod Halves
+pub mod Brings
+pub mod BringsLaws
 pub mod Example
