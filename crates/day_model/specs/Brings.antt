@@ -1,11 +1,13 @@
--- What a login brings on its line, as one list, and what may happen after it: the venue makes moves, and its log grows. Definitions alone.
--- Assumes nothing.
-use Prim.Native.Nat.{suc}
+-- What a login brings on its line, as one list, and what may happen after it: the venue makes moves, and its log grows; and the same by the calls of
+-- a venue's code. Definitions alone. Assumes nothing.
+use Prim.Native.Nat.{ℕ, suc}
 use mathlib.Core.Path.{_≡_}
 use mathlib.Core.List.{List, [], _∷_, _++_, map}
 use lib.ListN.{length, take}
 use Rattle.day_model.specs.Model.{Msg, Table, keep, Sent, message, complete, Venue, above, move, moved, sends, logged, nextInLog}
 use Rattle.day_model.specs.Steps.{movesSend, docStep}
+use Rattle.day_model.specs.Story.{Bytes}
+use Rattle.day_model.specs.Halves.{VenueCode}
 
 -- ---- the list
 
@@ -57,3 +59,32 @@ pub record Brought (t : Table) (log : List Msg) (sent : List Sent) (now : Venue)
   pub next : docStep (suc (length (now .log))) now .sent ≡ take 1 rest
   -- so many moves as the log has messages, and one, bring all of it
   pub enough : movesSend (suc (length (now .log))) now ≡ rest
+
+-- ---- a session by the calls of a venue's code
+
+-- a number is the length of the buffer that is lent
+pub data Call : Type 0 where
+  -- the log is offered a message; the venue hears what a member sends; it makes a step
+  offers : ℕ → Bytes → Call
+  hears : Bytes → Call
+  steps : ℕ → Call
+
+module _ (B : VenueCode) where
+  abbrev pub called : Call → B .Ven → B .Ven
+  called (offers room b) v = B .adds room b v
+  called (hears b) v = B .hears b v
+  called (steps room) v = B .stepTo room v
+
+  abbrev pub bytesOut : Call → B .Ven → List Bytes
+  bytesOut (offers room b) v = []
+  bytesOut (hears b) v = []
+  bytesOut (steps room) v = B .stepSends room v
+
+  -- one after the other: the venue after them, and all that was sent
+  abbrev pub calls : List Call → B .Ven → B .Ven
+  calls [] v = v
+  calls (c ∷ cs) v = calls cs (called c v)
+
+  abbrev pub sentBy : List Call → B .Ven → List Bytes
+  sentBy [] v = []
+  sentBy (c ∷ cs) v = bytesOut c v ++ sentBy cs (called c v)

@@ -10,7 +10,7 @@ use native.Mathlib.Omega.{arith}
 use mathlib.Core.Logic.{_⊎_, inl, inr}
 use mathlib.Core.Path.{_≡_, refl, sym, ap, ap₂, _∙_}
 use mathlib.Core.Bool.{Bool, true, false}
-use mathlib.Core.List.{List, [], _∷_, _++_, map, append-assoc, append-nil}
+use mathlib.Core.List.{List, [], _∷_, _++_, map, append-assoc, append-nil, map-append}
 use lib.Dec.{eqb, ltb}
 use lib.ListN.{length, take, getD, length-append}
 use lib.Seq.{getD-append-seam}
@@ -56,6 +56,7 @@ pub record Lives (t : Table) (v : Venue) (xs : List Sent) : Type 0 where
   pub is : xs ≡ map message later
 
 pub record Owes (t : Table) (v : Venue) (xs : List Sent) : Type 0 where
+  pub runs : v .running ≡ true
   pub listed : v .listed ≡ t
   pub low : (u : ℕ) → t u ≤ count u (v .log)
   pub has : Replays t v xs ⊎ Lives t v xs
@@ -69,7 +70,7 @@ data Does (t : Table) (v : Venue) (xs : List Sent) : Type 0 where
   gives : (m : Msg) (ys : List Sent) → move v ≡ passes m → above t m ≡ true → xs ≡ message m ∷ ys → Owes t (moved (passes m) v) ys → Does t v xs
   skips : (m : Msg) → move v ≡ passes m → above t m ≡ false → Owes t (moved (passes m) v) xs → Does t v xs
 
-module _ (t : Table) (v : Venue) (listed : v .listed ≡ t) (low : (u : ℕ) → t u ≤ count u (v .log)) where
+module _ (t : Table) (v : Venue) (runs : v .running ≡ true) (listed : v .listed ≡ t) (low : (u : ℕ) → t u ≤ count u (v .log)) where
   -- at a message
   passes-at : (a c : List Msg) (m : Msg) → v .log ≡ a ++ m ∷ c → v .at ≡ length a → (ltb (v .at) (length (v .log)) ≡ true) × (getD (v .log) (v .at) none-msg ≡ m)
   passes-at a c m l e =
@@ -79,7 +80,7 @@ module _ (t : Table) (v : Venue) (listed : v .listed ≡ t) (low : (u : ℕ) →
   replay-does : (a b c : List Msg) → v .log ≡ a ++ (b ++ c) → v .at ≡ length a → v .upTo ≡ length a + length b → v .told ≡ false → AllAbove t c → Does t v (brings t b c)
   replay-does a [] c l e p u h =
       tellsIt (map message c) (rw (u, eq-eqb (v .at) (v .upTo) (omega arith))) u refl
-      (record { listed = listed; low = low; has = inr (record { passed = a; later = c; log = l; at = e; told = refl; higher = h; is = refl }) })
+      (record { runs = runs; listed = listed; low = low; has = inr (record { passed = a; later = c; log = l; at = e; told = refl; higher = h; is = refl }) })
   replay-does a (m ∷ b) c l e p u h = by (above t m) refl
     where
       there : (ltb (v .at) (length (v .log)) ≡ true) × (getD (v .log) (v .at) none-msg ≡ m)
@@ -90,6 +91,7 @@ module _ (t : Table) (v : Venue) (listed : v .listed ≡ t) (low : (u : ℕ) →
 
       on : (xs : List Sent) → xs ≡ brings t b c → Owes t (moved (passes m) v) xs
       on xs z = record {
+        runs = runs;
         listed = listed;
         low = low;
         has = inl
@@ -118,6 +120,7 @@ module _ (t : Table) (v : Venue) (listed : v .listed ≡ t) (low : (u : ℕ) →
       let there = passes-at a c m l e in
       gives m (map message c) (rw (u, there .0, there .1)) (h .0) refl
       (record {
+        runs = runs;
         listed = listed;
         low = low;
         has = inr
@@ -136,8 +139,8 @@ does : (t : Table) (v : Venue) (xs : List Sent) → Owes t v xs → Does t v xs
 does t v xs o = by (o .has)
   where
     by : Replays t v xs ⊎ Lives t v xs → Does t v xs
-    by (inl r) = rw (r .is) (replay-does t v (o .listed) (o .low) (r .passed) (r .filters) (r .later) (r .log) (r .at) (r .upTo) (r .untold) (r .higher))
-    by (inr r) = rw (r .is) (live-does t v (o .listed) (o .low) (r .passed) (r .later) (r .log) (r .at) (r .told) (r .higher))
+    by (inl r) = rw (r .is) (replay-does t v (o .runs) (o .listed) (o .low) (r .passed) (r .filters) (r .later) (r .log) (r .at) (r .upTo) (r .untold) (r .higher))
+    by (inr r) = rw (r .is) (live-does t v (o .runs) (o .listed) (o .low) (r .passed) (r .later) (r .log) (r .at) (r .told) (r .higher))
 
 inside : (t : Table) (v : Venue) (xs : List Sent) → Owes t v xs → v .at ≤ length (v .log)
 inside t v xs o = by (o .has)
@@ -180,18 +183,14 @@ moves-go (suc n) t v xs o =
 
 -- ---- a message that is logged
 
-map-snoc : (l : List Msg) (m : Msg) → map message (l ++ m ∷ []) ≡ map message l ++ message m ∷ []
-map-snoc [] m = refl
-map-snoc (x ∷ l) m = ap (λ (y : List Sent). message x ∷ y) (map-snoc l m)
-
 brings-more : (t : Table) (b c : List Msg) (m : Msg) → brings t b c ++ message m ∷ [] ≡ brings t b (c ++ m ∷ [])
 brings-more t b c m =
     append-assoc (map message (aboveOf t b)) (complete ∷ map message c) (message m ∷ [])
-    ∙ ap (λ (l : List Sent). map message (aboveOf t b) ++ complete ∷ l) (sym (map-snoc c m))
+    ∙ ap (λ (l : List Sent). map message (aboveOf t b) ++ complete ∷ l) (sym (map-append message c (m ∷ [])))
 
 -- comes after all that is to be sent
 pub a-message-more : (t : Table) (v : Venue) (xs : List Sent) (m : Msg) → nextInLog m v ≡ true → Owes t v xs → Owes t (logged true m v) (xs ++ message m ∷ [])
-a-message-more t v xs m n o = record { listed = o .listed; low = higher; has = by (o .has) }
+a-message-more t v xs m n o = record { runs = o .runs; listed = o .listed; low = higher; has = by (o .has) }
   where
     more : (k : Bool) (u : ℕ) → t u ≤ count u (v .log) → t u ≤ pick k (suc (count u (v .log))) (count u (v .log))
     more true u h = omega (arith, h)
@@ -225,13 +224,14 @@ a-message-more t v xs m n o = record { listed = o .listed; low = higher; has = b
           at = r .at;
           told = r .told;
           higher = all-snoc t (r .later) m (r .higher) is-above;
-          is = ap (λ (l : List Sent). l ++ message m ∷ []) (r .is) ∙ sym (map-snoc (r .later) m);
+          is = ap (λ (l : List Sent). l ++ message m ∷ []) (r .is) ∙ sym (map-append message (r .later) (m ∷ []));
         })
 
 -- ---- a login
 
 pub a-login-owes : (t : Table) (v : Venue) → ((u : ℕ) → t u ≤ count u (v .log)) → Owes t (took t v) (brings t (v .log) [])
 a-login-owes t v h = record {
+  runs = refl;
   listed = refl;
   low = h;
   has = inl
@@ -331,10 +331,6 @@ module _ (t : Table) (v : Venue) (xs : List Sent) (o : Owes t v xs) where
   went-by-a-message m true h = record { later = m ∷ []; grew = refl; rest = xs ++ message m ∷ []; is = refl; owes = a-message-more t v xs m (h refl) o }
   went-by-a-message m false h = went-nowhere
 
-map-append : (a b : List Msg) → map message (a ++ b) ≡ map message a ++ map message b
-map-append [] b = refl
-map-append (x ∷ a) b = ap (λ (y : List Sent). message x ∷ y) (map-append a b)
-
 -- one after the other
 pub went-on : (t : Table) (v u w : Venue) (xs s s′ : List Sent) (p : Went t v xs s u) → Went t u (p .rest) s′ w → Went t v xs (s ++ s′) w
 went-on t v u w xs s s′ p q =
@@ -349,7 +345,7 @@ went-on t v u w xs s s′ p q =
           ∙ sym (append-assoc s (p .rest) b)
           ∙ ap (λ (l : List Sent). l ++ b) (p .is)
           ∙ append-assoc xs a b
-          ∙ ap (λ (l : List Sent). xs ++ l) (sym (map-append (p .later) (q .later)));
+          ∙ ap (λ (l : List Sent). xs ++ l) (sym (map-append message (p .later) (q .later)));
       owes = q .owes;
     }
 

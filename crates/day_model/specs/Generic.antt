@@ -84,7 +84,7 @@ pub record Meets (C : Code) : Type 1 where
   pub bye-fine : (b : Bytes) → C .isBye b ≡ true → Fine (C .bye b)
   pub bye-is : (b : Bytes) → C .isBye b ≡ true → says (C .bye b) ≡ logout
 
-all-append : (P : Bytes → Type 0) (a b : List Bytes) → All P a → All P b → All P (a ++ b)
+pub all-append : (P : Bytes → Type 0) (a b : List Bytes) → All P a → All P b → All P (a ++ b)
 all-append P [] b h k = k
 all-append P (x ∷ a) b h k = (h .0, all-append P a b (h .1) k)
 

@@ -10,4 +10,5 @@ pub mod Generic
 pub mod Halves
 pub mod Brings
 pub mod BringsLaws
+pub mod BringsCalls
 pub mod Example
