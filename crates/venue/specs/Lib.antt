@@ -24,4 +24,6 @@ pub mod VenueLogin
 pub mod MeetsVenue
 pub mod VenueLive
 pub mod VenueMust
+pub mod Brings
+pub mod BringsLaws
 pub mod VenueExample

@@ -18,7 +18,7 @@ use Rattle.messages.specs.Messages.{isSession, carries, ownRefusal, readRefusal
 use Rattle.messages.specs.MessageLaws.{own-refusal}
 use Rattle.book.specs.Books.{messageRefusal}
 use Rattle.book.specs.BookLaws.{frames}
-use Rattle.day_model.specs.Model.{message, complete, heartbeat, logout}
+use Rattle.day_model.specs.Model.{Sent, response, message, complete, heartbeat, logout}
 use Rattle.day_model.specs.Story.{Bytes}
 use Rattle.day_line.specs.Lines.{msgOf, says, Fine}
 use Rattle.venue.specs.Venues.{completeBytes}
@@ -75,6 +75,23 @@ message-says m w =
     by : (t : ℕ) → typeOf m ≡ t → eqb t 0x24 ≡ false → eqb t 0x13 ≡ false → eqb t 0x08 ≡ false → eqb t 0x09 ≡ false → says m ≡ message (msgOf m)
     by t e a b c d = rw (e, a, b, c, d)
 
+-- ---- what a step says, and its bytes again
+
+-- the bytes of a message and of Replay Complete; a step says nothing else
+abbrev pub spoken : Sent → Bytes
+spoken (message m) = m .body
+spoken complete = completeBytes
+spoken (response ok) = []
+spoken heartbeat = []
+spoken logout = []
+
+-- bytes that what they say determines
+abbrev pub Clear : Bytes → Type 0
+Clear b = spoken (says b) ≡ b
+
+pub message-clear : (m : Bytes) → Wholly m → Clear m
+message-clear m w = ap spoken (message-says m w)
+
 -- ---- Replay Complete and the heartbeat
 
 pub complete-fine : Fine completeBytes
@@ -84,6 +101,9 @@ complete-fine = record { reads = refl; whole = refl }
 pub complete-says : says completeBytes ≡ complete
 unfolding says
 complete-says = refl
+
+pub complete-clear : Clear completeBytes
+complete-clear = ap spoken complete-says
 
 pub beat-fine : Fine beat
 unfolding readRefusal carries ownRefusal sessions.readRefusal sessions.fixedSize sessions.valuesGood sessions.bodyEnd numberOf framed frameRefusal notBA startsBad lengthBad cutShort lengthOf totalOf
