@@ -21,6 +21,7 @@ use Rattle.book.specs.Books.{roomless, messageRefusal, nextRefusal, appendRefus
 use Rattle.day_model.specs.Story.{Bytes}
 use Rattle.venue.specs.Venues.{logOf, logBuffer, sendOf, sendOut, loginReadRefusal, thresholdOf, thresholdsOf, responseRecord, loginRefusal, loginOf, passing, seek, placeOf, tellsAt, completeBytes, bytesAt, afterAt, stepOf, stepOut}
 use Rattle.venue.specs.VenueDay.{Bench, empty, adds, takesLogin, stepTo, stepSends}
+use Rattle.venue.specs.Brings.{listFor}
 
 -- an Order Acknowledgment of a unit, with a number under 256 and no bitfields
 abbrev msg : ℕ → ℕ → Bytes
@@ -46,3 +47,8 @@ pub a-day : (stepSends 2048 day ∷ stepSends 2048 (stepTo 2048 day) ∷ stepSen
     ≡ (msg 1 2 ∷ []) ∷ (completeBytes ∷ []) ∷ [] ∷ (msg 2 2 ∷ []) ∷ [] ∷ []
 unfolding patched lengthOf totalOf numberOf notBA startsBad lengthBad cutShort frameRefusal framed unitRefusal entryRefusal entryOf raisedTable stepRefusal dictionary.entryOf selectedAt entryAt slotsFrom hasRequired countAt mostOf unitGood fixedGood orders.readRefusal orders.headRefusal orders.blockRefusal orders.bitsOf orders.optionalOf orders.fixedOf groups.unitsFrom groups.pairsGood groups.bitsGood groups.groupKey groups.groupSize groups.nextSize groups.groupsFrom logins.readRefusal logins.fixedSize logins.valuesGood logins.flagGood logins.responseEnd logins.listsEnd logins.bodyEnd logins.bodyOf logins.writeRefusal choiceOf unitsPart bitsPart groupCount loginRecord groupFrom requestGroup groupFlag listedFrom groupListed roomless messageRefusal nextRefusal appendRefusal appendedBy appendOf appendBuffer logOf logBuffer sendOf sendOut loginReadRefusal thresholdOf thresholdsOf responseRecord loginRefusal loginOf passing seek placeOf tellsAt bytesAt afterAt stepOf stepOut
 a-day = refl
+
+-- and what the login brings, as one list: of the log's three messages the second of unit 1, Replay Complete, the later message
+pub a-days-list : listFor login (msg 1 1 ∷ msg 2 1 ∷ msg 1 2 ∷ []) (msg 2 2 ∷ []) ≡ msg 1 2 ∷ completeBytes ∷ msg 2 2 ∷ []
+unfolding lengthOf totalOf numberOf notBA startsBad lengthBad cutShort frameRefusal framed unitRefusal entryOf raisedTable groups.unitsFrom groups.pairsGood groups.groupKey groups.groupSize groups.nextSize groups.groupsFrom logins.bodyOf logins.fixedSize logins.flagGood logins.listsEnd logins.bodyEnd choiceOf unitsPart bitsPart groupCount loginRecord groupFrom requestGroup groupFlag listedFrom groupListed
+a-days-list = refl
