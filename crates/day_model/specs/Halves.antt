@@ -111,11 +111,6 @@ pub record MeetsMember (L : Line) (A : MemberCode) : Type 1 where
   pub restart-good : (k : ℕ) (s : A .State) → Good s → Readable (view s .book) → Good (A .restart k s)
   pub restart-is : (k : ℕ) (s : A .State) → Good s → Readable (view s .book) → view (A .restart k s) ≡ restarted (restartOf (take (keeps k s) (view s .book))) (take (keeps k s) (view s .book))
 
--- one step of document 01's, of a venue v: to v′, with xs sent
-pub record StepsAs (v v′ : Venue) (xs : List Sent) : Type 0 where
-  pub to : v′ ≡ docStep (suc (length (v .log))) v .to
-  pub sent : xs ≡ docStep (suc (length (v .log))) v .sent
-
 -- Such a venue: its log only grows, and it keeps and replays it as document 01 says. Said on states that it can come to, over the venue of Model.antt.
 pub record MeetsVenue (L : Line) (B : VenueCode) : Type 1 where
   -- how a state is seen, and which it can come to
@@ -146,14 +141,11 @@ pub record MeetsVenue (L : Line) (B : VenueCode) : Type 1 where
   -- it is answered with status A
   pub answers-fine : (room : ℕ) (b : Bytes) (v : B .Ven) → B .accepts room b v ≡ true → GoodV v → All (L .Fine) (B .answers room b v)
   pub answers-is : (room : ℕ) (b : Bytes) (v : B .Ven) → B .accepts room b v ≡ true → GoodV v → map (L .says) (B .answers room b v) ≡ response true ∷ []
-  -- whatever the room, a step goes no other way, and what it sends can be read
+  -- a step goes some way in the log's order, sends of it what is above, and Replay Complete at the place where the log stood at login; it may send
+  -- nothing, or more than one; what it sends can be read
   pub step-good : (room : ℕ) (v : B .Ven) → GoodV v → B .running v ≡ true → GoodV (B .stepTo room v)
   pub step-fine : (room : ℕ) (v : B .Ven) → GoodV v → B .running v ≡ true → All (L .Fine) (B .stepSends room v)
   pub step-is : (room : ℕ) (v : B .Ven) → GoodV v → B .running v ≡ true → StepIs (viewV v) (viewV (B .stepTo room v)) (map (L .says) (B .stepSends room v))
-  -- with room for the longest message, a step is the one that document 01 describes: what is not above the listed number is passed over, then the
-  -- first that is goes out, or Replay Complete at the place where the log stood at login, or nothing at the log's end
-  pub stepRoom : ℕ
-  pub steps-as-told : (room : ℕ) (v : B .Ven) → GoodV v → B .running v ≡ true → stepRoom ≤ room → StepsAs (viewV v) (viewV (B .stepTo room v)) (map (L .says) (B .stepSends room v))
   -- a break ends the session
   pub stop-good : (v : B .Ven) → GoodV v → GoodV (B .stop v)
   pub stop-is : (v : B .Ven) → GoodV v → viewV (B .stop v) ≡ stopped (viewV v)
@@ -162,6 +154,19 @@ pub record MeetsVenue (L : Line) (B : VenueCode) : Type 1 where
   pub beat-is : L .says (B .beat) ≡ heartbeat
   pub bye-fine : (b : Bytes) → B .isBye b ≡ true → L .Fine (B .bye b)
   pub bye-is : (b : Bytes) → B .isBye b ≡ true → L .says (B .bye b) ≡ logout
+
+-- one step of document 01's, of a venue v: to v′, with xs sent
+pub record StepsAs (v v′ : Venue) (xs : List Sent) : Type 0 where
+  pub to : v′ ≡ docStep (suc (length (v .log))) v .to
+  pub sent : xs ≡ docStep (suc (length (v .log))) v .sent
+
+-- What the day does not ask for, and a replay that is to end does: with room for the longest message, a step is the one that document 01 describes. What
+-- is not above the listed number is passed over, then the first that is goes out, or Replay Complete at the place where the log stood at login, or
+-- nothing at the log's end.
+pub record StepsAsTold (L : Line) (B : VenueCode) (N : MeetsVenue L B) : Type 1 where
+  pub stepRoom : ℕ
+  pub steps-as-told : (room : ℕ) (v : B .Ven) → N .GoodV v → B .running v ≡ true → stepRoom ≤ room
+      → StepsAs (N .viewV v) (N .viewV (B .stepTo room v)) (map (L .says) (B .stepSends room v))
 
 -- a member and a venue that are proved apart are what the day asks for
 abbrev pub both : (L : Line) (A : MemberCode) (B : VenueCode) → MeetsMember L A → MeetsVenue L B → Meets (code A B)

@@ -15,7 +15,7 @@ use Rattle.calendar.specs.Calendar.{isDay}
 use Rattle.book.specs.Books.{answer, blankBook, openOf}
 use Rattle.book_restart.specs.Restarts.{restartOf}
 use Rattle.day_model.specs.Story.{Code, Happens, aLogin, aTaking, aDelivery, aCut, Now, next, story, dawn}
-use Rattle.day_model.specs.Halves.{VenueCode, MeetsVenue, code}
+use Rattle.day_model.specs.Halves.{VenueCode, MeetsVenue, StepsAsTold, code}
 use Rattle.day_line.specs.Lines.{Fields, ourLine}
 use Rattle.session.specs.declared.Phase.the-variants.{Closed, Asked, Replaying, Live}
 use Rattle.session.specs.MemberDay.{opened, loginBytes, ourMember}
@@ -141,8 +141,9 @@ TheReplayCompletes =
 
 -- ---- our bench venue is such a venue
 
--- with 443 bytes for its answer to a login, and 2,048 for a step
+-- with 443 bytes for its answer to a login; and, which the statements above do not ask for, its steps are those of document 01, with 2,048 bytes for each
 pub record TheBenchIsSuchAVenue : Type 1 where
   pub such : SuchAVenue ourVenue
   pub for-an-answer : such .answerRoom ≡ 443
-  pub for-a-step : such .stepRoom ≡ 2048
+  pub told : StepsAsTold ourLine ourVenue such
+  pub for-a-step : told .stepRoom ≡ 2048

@@ -40,7 +40,7 @@ use Rattle.session.specs.MadeItems.{made-items, made-headed, made-size}
 use Rattle.session.specs.MemberSteps.{Good}
 use Rattle.session.specs.MemberGets.{says-complete}
 use Rattle.session.specs.MeetsMember.{opens-well, opened-empty, entries-fit, logged, our-member-meets}
-use Rattle.venue.specs.MeetsVenue.{meets}
+use Rattle.venue.specs.MeetsVenue.{meets, steps-told}
 use Rattle.day_proved.specs.Words.{Bytes, inBook, ofUnit, keepItem, within}
 use Rattle.day_proved.specs.WordLaws.{unit-bodies, take-bodies, bodies-long, booked-unit, within-all, cut-keeps}
 use Rattle.day_proved.specs.Demand3.{SuchAVenue, dayOf, Event, Moment, after, then, book, HoldsFirsts, AtEveryMoment, Restarts, EachRestart, Completes, WhenAReplayCompletes, Valid, Asks, ALoginIsWritten, Taken, AVenueTakesIt, TheReplayCompletes, TheBenchIsSuchAVenue}
@@ -199,8 +199,8 @@ pub when-a-replay-completes-the-book-is-whole : WhenAReplayCompletes
 when-a-replay-completes-the-book-is-whole date d X such es room c r u = completed date d X such es room c r u
 
 pub the-bench-is-such-a-venue : TheBenchIsSuchAVenue
-unfolding meets
-the-bench-is-such-a-venue = record { such = meets; for-an-answer = refl; for-a-step = refl }
+unfolding meets steps-told
+the-bench-is-such-a-venue = record { such = meets; for-an-answer = refl; told = steps-told; for-a-step = refl }
 
 pub each-restart-keeps-every-whole-message : EachRestart
 each-restart-keeps-every-whole-message date d X such es k = restarts date d X such es k

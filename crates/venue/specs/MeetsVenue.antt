@@ -1,7 +1,7 @@
 -- The bench venue is such a venue as demand 3 speaks of. Assumes nothing.
 use mathlib.Core.List.{map, [], _∷_}
 use mathlib.Core.Path.{refl, ap, _∙_}
-use Rattle.day_model.specs.Halves.{MeetsVenue}
+use Rattle.day_model.specs.Halves.{MeetsVenue, StepsAsTold}
 use Rattle.day_line.specs.Lines.{ourLine, says}
 use Rattle.venue.specs.VenueDay.{ourVenue}
 use Rattle.venue.specs.VenueView.{viewV, GoodV}
@@ -38,8 +38,6 @@ meets = record {
   step-good = λ room w g r. steps w g r room .good;
   step-fine = λ room w g r. steps w g r room .fine;
   step-is = λ room w g r. steps w g r room .is;
-  stepRoom = 2048;
-  steps-as-told = λ room w g r h. steps-as-told w g r room h;
   stop-good = stop-good;
   stop-is = stop-is;
   beat-fine = beat-fine;
@@ -47,3 +45,8 @@ meets = record {
   bye-fine = bye-fine;
   bye-is = bye-says;
 }
+
+-- AND ITS STEPS ARE DOCUMENT 01'S, with room for the longest message
+unfoldable pub steps-told : StepsAsTold ourLine ourVenue meets
+unfolding meets
+steps-told = record { stepRoom = 2048; steps-as-told = λ room w g r h. steps-as-told w g r room h }

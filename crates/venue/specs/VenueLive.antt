@@ -1,4 +1,4 @@
--- A replay completes: any venue that is such a venue, stepped with room for the longest message, sends Replay Complete at the latest when it has made
+-- A replay completes: any such venue whose steps are document 01's, stepped with room for the longest message, sends Replay Complete at the latest when it has made
 -- as many steps as the log held messages at the login; and so does the bench after every login that it takes. Assumes nothing.
 use Prim.Native.Nat.{ℕ, zero, suc, _+_, _≤_, _<_}
 use native.Mathlib.Omega.{arith}
@@ -12,13 +12,13 @@ use borrow.Author.Tests.{eqb-true, eqb-false}
 use Rattle.day_model.specs.Model.{Msg, none-msg, above, complete, Venue, passes, moved}
 use Rattle.day_model.specs.Steps.{Stepped, docStep, move-tells, move-passes}
 use Rattle.day_model.specs.Story.{Bytes}
-use Rattle.day_model.specs.Halves.{Line, VenueCode, MeetsVenue}
+use Rattle.day_model.specs.Halves.{Line, VenueCode, MeetsVenue, StepsAsTold}
 use Rattle.day_line.specs.Lines.{ourLine, msgOf}
 use Rattle.venue.specs.VenueDay.{Bench, ourVenue, accepts, takesLogin, messagesIn}
 use Rattle.venue.specs.VenueView.{GoodV}
 use Rattle.venue.specs.VenueRuns.{map-long}
 use Rattle.venue.specs.VenueWalk.{step-tells, step-sends, step-passes}
-use Rattle.venue.specs.MeetsVenue.{meets}
+use Rattle.venue.specs.MeetsVenue.{meets, steps-told}
 
 -- ---- one step of a venue in a replay: it tells, or comes further
 
@@ -87,10 +87,10 @@ module _ (L : Line) (B : VenueCode) (N : MeetsVenue L B) (room : ℕ) where
   runs : (v : B .Ven) (d : ℕ) → Replaying (N .viewV v) d → B .running v ≡ true
   runs v d r = sym (N .running-is v) ∙ r .running
 
-  module _ (roomy : N .stepRoom ≤ room) where
+  module _ (T : StepsAsTold L B N) (roomy : T .stepRoom ≤ room) where
     now : (v : B .Ven) (d : ℕ) → N .GoodV v → B .running v ≡ true → Tells (docStep (suc (length (N .viewV v .log))) (N .viewV v)) → Completes v d
     now v d g r t =
-        let s = N .steps-as-told room v g r roomy in
+        let s = T .steps-as-told room v g r roomy in
         record { steps = 0; few = omega arith; sends = s .sent ∙ t .sent; told = ap (λ (x : Venue). x .told) (s .to) ∙ t .told }
 
     -- A REPLAY COMPLETES
@@ -101,7 +101,7 @@ module _ (L : Line) (B : VenueCode) (N : MeetsVenue L B) (room : ℕ) where
         go : Goes d (docStep (suc (length (N .viewV v .log))) (N .viewV v)) → (Replaying (N .viewV (B .stepTo room v)) d → Completes (B .stepTo room v) d) → Completes v (suc d)
         go (inl t) ih = now v (suc d) g (runs v (suc d) r) t
         go (inr q) ih =
-            let s = N .steps-as-told room v g (runs v (suc d) r) roomy in
+            let s = T .steps-as-told room v g (runs v (suc d) r) roomy in
             let c = ih (rw (s .to) q) in
             record { steps = suc (c .steps); few = omega (arith, c .few); sends = c .sends; told = c .told }
 
@@ -119,6 +119,6 @@ module _ (L : Line) (B : VenueCode) (N : MeetsVenue L B) (room : ℕ) where
 -- more sends Replay Complete
 pub bench-completes : (room lent : ℕ) (b : Bytes) (w : Bench) → 2048 ≤ room → GoodV w → accepts lent b w ≡ true
     → Completes ourLine ourVenue meets room (takesLogin lent b w) (length (messagesIn (w .bytes)))
-unfolding meets
+unfolding meets steps-told
 bench-completes room lent b w h g ok =
-    rw (sym (map-long msgOf (messagesIn (w .bytes)))) (login-completes ourLine ourVenue meets room h lent b w g ok)
+    rw (sym (map-long msgOf (messagesIn (w .bytes)))) (login-completes ourLine ourVenue meets room steps-told h lent b w g ok)
