@@ -1,7 +1,7 @@
 -- A day that computes: three messages are logged; the line breaks during one replay and again during the next; the book is cut in the middle of a
 -- message; the third replay completes, and the book holds all that the log held. Assumes nothing.
-use mathlib.Core.Path.{_≡_, refl}
-use mathlib.Core.Bool.{false}
+use mathlib.Core.Path.{_≡_, refl, ap}
+use mathlib.Core.Bool.{Bool, false}
 use mathlib.Core.List.{List, [], _∷_, _++_}
 use Prim.Native.Nat.{ℕ}
 use Rattle.numbers.specs.Numbers.{patched}
@@ -24,6 +24,7 @@ use Rattle.book.specs.Books.{markBytes, openRefusal, openOf, openBuffer, roomle
 use Rattle.book_restart.specs.Restarts.{frontZero, torn, markNext, inLimit, found, nextBook, run, firstMark, restartOf}
 use Rattle.day_model.specs.Story.{theLog, aLogin, aTaking, aStep, aDelivery, aBreak, aDrop, aCut}
 use Rattle.day_line.specs.Lines.{Fields}
+use Rattle.session.specs.declared.Phase.{Phase}
 use Rattle.session.specs.declared.Phase.the-variants.{Live}
 use Rattle.session.specs.Sessions.{passes, endedBy, brokenBy, brokenBuffer, respondedBy, respondedBuffer, receiveRefusal, receivedBy, receiveOf, receivedBuffer, receiveBuffer, loginRefusal, loginOf}
 use Rattle.session.specs.Booked.{itemOf, itemLength, itemsFrom}
@@ -31,7 +32,7 @@ use Rattle.session.specs.MemberDay.{restartedBy, refusedForRoom}
 use Rattle.venue.specs.Venues as venue
 use Rattle.venue.specs.VenueDay.{split, ourVenue}
 use Rattle.day_proved.specs.Words.{Bytes, inBook}
-use Rattle.day_proved.specs.Demand3.{Event, Moment, after, book}
+use Rattle.day_proved.specs.Demand3.{Event, Moment, after, then, book}
 
 -- an Order Acknowledgment of a unit, with a number under 256 and no bitfields: 48 bytes
 abbrev msg : ℕ → ℕ → Bytes
@@ -63,35 +64,60 @@ events =
     theLog 1000 (msg 1 1) ∷ theLog 1000 (msg 2 1) ∷ theLog 1000 (msg 1 2)
     ∷ begins (next (breaks (begins (next (breaks (aCut 100 ∷ begins (next (next (aStep 2048 ∷ [])))))))))
 
-abbrev pub last : Moment 20250819 ourVenue
+unfoldable pub last : Moment 20250819 ourVenue
 last = after 20250819 ourVenue events
 
 abbrev pub done : Moment 20250819 ourVenue
-done = after 20250819 ourVenue (events ++ aDelivery 1000 ∷ [])
+done = then 20250819 ourVenue last (aDelivery 1000)
+
+-- what is told of it: before the last delivery whether a message was refused for room or a Logout was sent, what stands on the line, and what the log held
+-- when the venue took the login; after it the phase, and the messages of the book
+pub record Facts : Type 0 where
+  pub refused : Bool
+  pub left : Bool
+  pub queue : List Bytes
+  pub held : List Bytes
+  pub phase : Phase
+  pub booked : List Bytes
+
+told : Moment 20250819 ourVenue → Moment 20250819 ourVenue → Facts
+told w v = record { refused = w .refused; left = w .left; queue = w .queue; held = w .held; phase = v .member .session .phase; booked = inBook (book 20250819 ourVenue v) }
+
+-- the argument is computed once
+toldFrom : Moment 20250819 ourVenue → Facts
+toldFrom w = told w (then 20250819 ourVenue w (aDelivery 1000))
+
+abbrev logged : List Bytes
+logged = msg 1 1 ∷ msg 2 1 ∷ msg 1 2 ∷ []
+
+-- the day, computed once
+the-day : toldFrom last ≡ record { refused = false; left = false; queue = headerBytes 8 0x13 0 0 ∷ []; held = logged; phase = Live; booked = logged }
+unfolding patched lengthOf totalOf numberOf notBA startsBad lengthBad cutShort frameRefusal framed unitRefusal entryRefusal entryOf raisedTable stepRefusal dictionary.entryOf selectedAt entryAt slotsFrom hasRequired countAt mostOf unitGood fixedGood orders.readRefusal orders.headRefusal orders.blockRefusal orders.bitsOf orders.optionalOf orders.fixedOf groups.unitsFrom groups.pairsGood groups.bitsGood groups.groupKey groups.groupSize groups.nextSize groups.groupsFrom logins.readRefusal logins.fixedSize logins.valuesGood logins.flagGood logins.responseEnd logins.listsEnd logins.bodyEnd logins.bodyOf logins.writeRefusal choiceOf unitsPart bitsPart groupCount loginRecord groupFrom requestGroup groupFlag listedFrom groupListed carries ownRefusal readRefusal leap daysIn isDay dayRefusal markBytes openRefusal openOf openBuffer roomless messageRefusal nextRefusal appendRefusal appendedBy appendOf appendBuffer closeOf closeBuffer frontZero torn markNext inLimit found nextBook run firstMark restartOf passes endedBy brokenBy brokenBuffer respondedBy respondedBuffer receiveRefusal receivedBy receiveOf receivedBuffer receiveBuffer loginRefusal loginOf itemOf itemLength itemsFrom restartedBy refusedForRoom venue.logOf venue.logBuffer venue.sendOf venue.sendOut venue.loginReadRefusal venue.thresholdOf venue.thresholdsOf venue.responseRecord venue.loginRefusal venue.loginOf venue.loginOut venue.passing venue.seek venue.placeOf venue.tellsAt venue.bytesAt venue.afterAt venue.stepOf venue.stepOut venue.brokenOf split last told toldFrom
+the-day = refl
 
 -- before the last delivery no message was refused for room, no Logout was sent, Replay Complete stands alone on the line, and the log held three messages
 -- when the venue took the login
 pub none-was-refused : last .refused ≡ false
-unfolding patched lengthOf totalOf numberOf notBA startsBad lengthBad cutShort frameRefusal framed unitRefusal entryRefusal entryOf raisedTable stepRefusal dictionary.entryOf selectedAt entryAt slotsFrom hasRequired countAt mostOf unitGood fixedGood orders.readRefusal orders.headRefusal orders.blockRefusal orders.bitsOf orders.optionalOf orders.fixedOf groups.unitsFrom groups.pairsGood groups.bitsGood groups.groupKey groups.groupSize groups.nextSize groups.groupsFrom logins.readRefusal logins.fixedSize logins.valuesGood logins.flagGood logins.responseEnd logins.listsEnd logins.bodyEnd logins.bodyOf logins.writeRefusal choiceOf unitsPart bitsPart groupCount loginRecord groupFrom requestGroup groupFlag listedFrom groupListed carries ownRefusal readRefusal leap daysIn isDay dayRefusal markBytes openRefusal openOf openBuffer roomless messageRefusal nextRefusal appendRefusal appendedBy appendOf appendBuffer closeOf closeBuffer frontZero torn markNext inLimit found nextBook run firstMark restartOf passes endedBy brokenBy brokenBuffer respondedBy respondedBuffer receiveRefusal receivedBy receiveOf receivedBuffer receiveBuffer loginRefusal loginOf itemOf itemLength itemsFrom restartedBy refusedForRoom venue.logOf venue.logBuffer venue.sendOf venue.sendOut venue.loginReadRefusal venue.thresholdOf venue.thresholdsOf venue.responseRecord venue.loginRefusal venue.loginOf venue.loginOut venue.passing venue.seek venue.placeOf venue.tellsAt venue.bytesAt venue.afterAt venue.stepOf venue.stepOut venue.brokenOf split
-none-was-refused = refl
+unfolding told toldFrom
+none-was-refused = ap (λ (f : Facts). f .refused) the-day
 
 pub no-logout-was-sent : last .left ≡ false
-unfolding patched lengthOf totalOf numberOf notBA startsBad lengthBad cutShort frameRefusal framed unitRefusal entryRefusal entryOf raisedTable stepRefusal dictionary.entryOf selectedAt entryAt slotsFrom hasRequired countAt mostOf unitGood fixedGood orders.readRefusal orders.headRefusal orders.blockRefusal orders.bitsOf orders.optionalOf orders.fixedOf groups.unitsFrom groups.pairsGood groups.bitsGood groups.groupKey groups.groupSize groups.nextSize groups.groupsFrom logins.readRefusal logins.fixedSize logins.valuesGood logins.flagGood logins.responseEnd logins.listsEnd logins.bodyEnd logins.bodyOf logins.writeRefusal choiceOf unitsPart bitsPart groupCount loginRecord groupFrom requestGroup groupFlag listedFrom groupListed carries ownRefusal readRefusal leap daysIn isDay dayRefusal markBytes openRefusal openOf openBuffer roomless messageRefusal nextRefusal appendRefusal appendedBy appendOf appendBuffer closeOf closeBuffer frontZero torn markNext inLimit found nextBook run firstMark restartOf passes endedBy brokenBy brokenBuffer respondedBy respondedBuffer receiveRefusal receivedBy receiveOf receivedBuffer receiveBuffer loginRefusal loginOf itemOf itemLength itemsFrom restartedBy refusedForRoom venue.logOf venue.logBuffer venue.sendOf venue.sendOut venue.loginReadRefusal venue.thresholdOf venue.thresholdsOf venue.responseRecord venue.loginRefusal venue.loginOf venue.loginOut venue.passing venue.seek venue.placeOf venue.tellsAt venue.bytesAt venue.afterAt venue.stepOf venue.stepOut venue.brokenOf split
-no-logout-was-sent = refl
+unfolding told toldFrom
+no-logout-was-sent = ap (λ (f : Facts). f .left) the-day
 
 pub the-line-ends-with-replay-complete : last .queue ≡ headerBytes 8 0x13 0 0 ∷ []
-unfolding patched lengthOf totalOf numberOf notBA startsBad lengthBad cutShort frameRefusal framed unitRefusal entryRefusal entryOf raisedTable stepRefusal dictionary.entryOf selectedAt entryAt slotsFrom hasRequired countAt mostOf unitGood fixedGood orders.readRefusal orders.headRefusal orders.blockRefusal orders.bitsOf orders.optionalOf orders.fixedOf groups.unitsFrom groups.pairsGood groups.bitsGood groups.groupKey groups.groupSize groups.nextSize groups.groupsFrom logins.readRefusal logins.fixedSize logins.valuesGood logins.flagGood logins.responseEnd logins.listsEnd logins.bodyEnd logins.bodyOf logins.writeRefusal choiceOf unitsPart bitsPart groupCount loginRecord groupFrom requestGroup groupFlag listedFrom groupListed carries ownRefusal readRefusal leap daysIn isDay dayRefusal markBytes openRefusal openOf openBuffer roomless messageRefusal nextRefusal appendRefusal appendedBy appendOf appendBuffer closeOf closeBuffer frontZero torn markNext inLimit found nextBook run firstMark restartOf passes endedBy brokenBy brokenBuffer respondedBy respondedBuffer receiveRefusal receivedBy receiveOf receivedBuffer receiveBuffer loginRefusal loginOf itemOf itemLength itemsFrom restartedBy refusedForRoom venue.logOf venue.logBuffer venue.sendOf venue.sendOut venue.loginReadRefusal venue.thresholdOf venue.thresholdsOf venue.responseRecord venue.loginRefusal venue.loginOf venue.loginOut venue.passing venue.seek venue.placeOf venue.tellsAt venue.bytesAt venue.afterAt venue.stepOf venue.stepOut venue.brokenOf split
-the-line-ends-with-replay-complete = refl
+unfolding told toldFrom
+the-line-ends-with-replay-complete = ap (λ (f : Facts). f .queue) the-day
 
 pub the-log-held-three : last .held ≡ msg 1 1 ∷ msg 2 1 ∷ msg 1 2 ∷ []
-unfolding patched lengthOf totalOf numberOf notBA startsBad lengthBad cutShort frameRefusal framed unitRefusal entryRefusal entryOf raisedTable stepRefusal dictionary.entryOf selectedAt entryAt slotsFrom hasRequired countAt mostOf unitGood fixedGood orders.readRefusal orders.headRefusal orders.blockRefusal orders.bitsOf orders.optionalOf orders.fixedOf groups.unitsFrom groups.pairsGood groups.bitsGood groups.groupKey groups.groupSize groups.nextSize groups.groupsFrom logins.readRefusal logins.fixedSize logins.valuesGood logins.flagGood logins.responseEnd logins.listsEnd logins.bodyEnd logins.bodyOf logins.writeRefusal choiceOf unitsPart bitsPart groupCount loginRecord groupFrom requestGroup groupFlag listedFrom groupListed carries ownRefusal readRefusal leap daysIn isDay dayRefusal markBytes openRefusal openOf openBuffer roomless messageRefusal nextRefusal appendRefusal appendedBy appendOf appendBuffer closeOf closeBuffer frontZero torn markNext inLimit found nextBook run firstMark restartOf passes endedBy brokenBy brokenBuffer respondedBy respondedBuffer receiveRefusal receivedBy receiveOf receivedBuffer receiveBuffer loginRefusal loginOf itemOf itemLength itemsFrom restartedBy refusedForRoom venue.logOf venue.logBuffer venue.sendOf venue.sendOut venue.loginReadRefusal venue.thresholdOf venue.thresholdsOf venue.responseRecord venue.loginRefusal venue.loginOf venue.loginOut venue.passing venue.seek venue.placeOf venue.tellsAt venue.bytesAt venue.afterAt venue.stepOf venue.stepOut venue.brokenOf split
-the-log-held-three = refl
+unfolding told toldFrom
+the-log-held-three = ap (λ (f : Facts). f .held) the-day
 
 -- after it: live, with a full book
 pub the-day-ends-live : done .member .session .phase ≡ Live
-unfolding patched lengthOf totalOf numberOf notBA startsBad lengthBad cutShort frameRefusal framed unitRefusal entryRefusal entryOf raisedTable stepRefusal dictionary.entryOf selectedAt entryAt slotsFrom hasRequired countAt mostOf unitGood fixedGood orders.readRefusal orders.headRefusal orders.blockRefusal orders.bitsOf orders.optionalOf orders.fixedOf groups.unitsFrom groups.pairsGood groups.bitsGood groups.groupKey groups.groupSize groups.nextSize groups.groupsFrom logins.readRefusal logins.fixedSize logins.valuesGood logins.flagGood logins.responseEnd logins.listsEnd logins.bodyEnd logins.bodyOf logins.writeRefusal choiceOf unitsPart bitsPart groupCount loginRecord groupFrom requestGroup groupFlag listedFrom groupListed carries ownRefusal readRefusal leap daysIn isDay dayRefusal markBytes openRefusal openOf openBuffer roomless messageRefusal nextRefusal appendRefusal appendedBy appendOf appendBuffer closeOf closeBuffer frontZero torn markNext inLimit found nextBook run firstMark restartOf passes endedBy brokenBy brokenBuffer respondedBy respondedBuffer receiveRefusal receivedBy receiveOf receivedBuffer receiveBuffer loginRefusal loginOf itemOf itemLength itemsFrom restartedBy refusedForRoom venue.logOf venue.logBuffer venue.sendOf venue.sendOut venue.loginReadRefusal venue.thresholdOf venue.thresholdsOf venue.responseRecord venue.loginRefusal venue.loginOf venue.loginOut venue.passing venue.seek venue.placeOf venue.tellsAt venue.bytesAt venue.afterAt venue.stepOf venue.stepOut venue.brokenOf split
-the-day-ends-live = refl
+unfolding told toldFrom
+the-day-ends-live = ap (λ (f : Facts). f .phase) the-day
 
 pub the-book-is-full : inBook (book 20250819 ourVenue done) ≡ msg 1 1 ∷ msg 2 1 ∷ msg 1 2 ∷ []
-unfolding patched lengthOf totalOf numberOf notBA startsBad lengthBad cutShort frameRefusal framed unitRefusal entryRefusal entryOf raisedTable stepRefusal dictionary.entryOf selectedAt entryAt slotsFrom hasRequired countAt mostOf unitGood fixedGood orders.readRefusal orders.headRefusal orders.blockRefusal orders.bitsOf orders.optionalOf orders.fixedOf groups.unitsFrom groups.pairsGood groups.bitsGood groups.groupKey groups.groupSize groups.nextSize groups.groupsFrom logins.readRefusal logins.fixedSize logins.valuesGood logins.flagGood logins.responseEnd logins.listsEnd logins.bodyEnd logins.bodyOf logins.writeRefusal choiceOf unitsPart bitsPart groupCount loginRecord groupFrom requestGroup groupFlag listedFrom groupListed carries ownRefusal readRefusal leap daysIn isDay dayRefusal markBytes openRefusal openOf openBuffer roomless messageRefusal nextRefusal appendRefusal appendedBy appendOf appendBuffer closeOf closeBuffer frontZero torn markNext inLimit found nextBook run firstMark restartOf passes endedBy brokenBy brokenBuffer respondedBy respondedBuffer receiveRefusal receivedBy receiveOf receivedBuffer receiveBuffer loginRefusal loginOf itemOf itemLength itemsFrom restartedBy refusedForRoom venue.logOf venue.logBuffer venue.sendOf venue.sendOut venue.loginReadRefusal venue.thresholdOf venue.thresholdsOf venue.responseRecord venue.loginRefusal venue.loginOf venue.loginOut venue.passing venue.seek venue.placeOf venue.tellsAt venue.bytesAt venue.afterAt venue.stepOf venue.stepOut venue.brokenOf split
-the-book-is-full = refl
+unfolding told toldFrom
+the-book-is-full = ap (λ (f : Facts). f .booked) the-day
