@@ -38,10 +38,10 @@ pub record Meets (C : Code) : Type 1 where
   pub table-is : (s : C .State) → view s .table ≡ C .table s
   pub new-good : Good (C .new)
   pub new-is : view (C .new) ≡ start .member
-  pub login-good : (f : C .Fields) (room : ℕ) (s : C .State) → Good s → C .phase s ≡ closed → C .writes f room s ≡ true → Good (C .login f room s)
-  pub login-is : (f : C .Fields) (room : ℕ) (s : C .State) → Good s → C .phase s ≡ closed → C .writes f room s ≡ true → view (C .login f room s) ≡ inPhase asked (view s)
-  pub login-ours : (f : C .Fields) (room : ℕ) (s : C .State) → Good s → C .phase s ≡ closed → C .writes f room s ≡ true → OurLogin (C .loginBytes f s)
-  pub login-lists : (f : C .Fields) (room : ℕ) (s : C .State) → Good s → C .phase s ≡ closed → C .writes f room s ≡ true → lists (C .loginBytes f s) ≡ C .table s
+  pub login-good : (f : C .Fields) (out : Bytes) (s : C .State) → Good s → C .phase s ≡ closed → C .writes f out s ≡ true → Good (C .login f out s)
+  pub login-is : (f : C .Fields) (out : Bytes) (s : C .State) → Good s → C .phase s ≡ closed → C .writes f out s ≡ true → view (C .login f out s) ≡ inPhase asked (view s)
+  pub login-ours : (f : C .Fields) (out : Bytes) (s : C .State) → Good s → C .phase s ≡ closed → C .writes f out s ≡ true → OurLogin (C .loginBytes f out s)
+  pub login-lists : (f : C .Fields) (out : Bytes) (s : C .State) → Good s → C .phase s ≡ closed → C .writes f out s ≡ true → lists (C .loginBytes f out s) ≡ C .table s
   pub sends-good : (room : ℕ) (b : Bytes) (s : C .State) → Good s → Good (C .sends room b s)
   pub sends-is : (room : ℕ) (b : Bytes) (s : C .State) → Good s → view (C .sends room b s) ≡ view s
   -- how much of a lent buffer a book may use
@@ -128,16 +128,16 @@ module _ (C : Code) (M : Meets C) where
     is = rw (M .adds-is room b (w .venue) (g .venue), e);
   }
 
-  sim-login : (w : Now C) (p : Phase) (r : Bool) (f : C .Fields) (room : ℕ) → C .phase (w .member) ≡ p → C .writes f room (w .member) ≡ r → GoodNow w → Sim w (nowLogin C p r f room w)
-  sim-login w closed true f room e k g = record {
-    good = record { member = M .login-good f room (w .member) (g .member) e k; venue = g .venue; queue = tt; asking = λ _. M .login-ours f room (w .member) (g .member) e k };
+  sim-login : (w : Now C) (p : Phase) (r : Bool) (f : C .Fields) (out : Bytes) → C .phase (w .member) ≡ p → C .writes f out (w .member) ≡ r → GoodNow w → Sim w (nowLogin C p r f out w)
+  sim-login w closed true f out e k g = record {
+    good = record { member = M .login-good f out (w .member) (g .member) e k; venue = g .venue; queue = tt; asking = λ _. M .login-ours f out (w .member) (g .member) e k };
     events = logsIn ∷ [];
-    is = rw (M .phase-is (w .member), e, M .login-is f room (w .member) (g .member) e k, M .login-lists f room (w .member) (g .member) e k, M .table-is (w .member));
+    is = rw (M .phase-is (w .member), e, M .login-is f out (w .member) (g .member) e k, M .login-lists f out (w .member) (g .member) e k, M .table-is (w .member));
   }
-  sim-login w closed false f room e k g = record { good = g; events = []; is = refl }
-  sim-login w asked r f room e k g = record { good = g; events = []; is = refl }
-  sim-login w replaying r f room e k g = record { good = g; events = []; is = refl }
-  sim-login w live r f room e k g = record { good = g; events = []; is = refl }
+  sim-login w closed false f out e k g = record { good = g; events = []; is = refl }
+  sim-login w asked r f out e k g = record { good = g; events = []; is = refl }
+  sim-login w replaying r f out e k g = record { good = g; events = []; is = refl }
+  sim-login w live r f out e k g = record { good = g; events = []; is = refl }
 
   sim-sends : (w : Now C) (room : ℕ) (b : Bytes) → GoodNow w → Sim w (next C (aSending room b) w)
   sim-sends w room b g = record {
@@ -238,7 +238,7 @@ module _ (C : Code) (M : Meets C) where
 
   pub sim : (e : Happens (C .Fields)) (w : Now C) → Inv (seen w) → GoodNow w → Sim w (next C e w)
   sim (theLog room b) w h g = sim-log w room b (M .readable room b (w .venue)) refl g
-  sim (aLogin f room) w h g = sim-login w (C .phase (w .member)) (C .writes f room (w .member)) f room refl refl g
+  sim (aLogin f out) w h g = sim-login w (C .phase (w .member)) (C .writes f out (w .member)) f out refl refl g
   sim (aSending room b) w h g = sim-sends w room b g
   sim (aHearing b) w h g = sim-hears w b g
   sim (aTaking room) w h g = sim-taken w (w .asks) (C .accepts room (w .asking) (w .venue)) room h refl refl g

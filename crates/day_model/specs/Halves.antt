@@ -27,9 +27,9 @@ pub record MemberCode : Type 1 where
   pub table : State → Table
   pub new : State
   pub Fields : Type 0
-  pub writes : Fields → ℕ → State → Bool
-  pub login : Fields → ℕ → State → State
-  pub loginBytes : Fields → State → Bytes
+  pub writes : Fields → Bytes → State → Bool
+  pub login : Fields → Bytes → State → State
+  pub loginBytes : Fields → Bytes → State → Bytes
   pub gets : ℕ → Bytes → State → State
   pub sends : ℕ → Bytes → State → State
   pub noRoom : ℕ → Bytes → State → Bool
@@ -94,10 +94,11 @@ pub record MeetsMember (L : Line) (A : MemberCode) : Type 1 where
   pub table-is : (s : A .State) → view s .table ≡ A .table s
   pub new-good : Good (A .new)
   pub new-is : view (A .new) ≡ start .member
-  pub login-good : (f : A .Fields) (room : ℕ) (s : A .State) → Good s → A .phase s ≡ closed → A .writes f room s ≡ true → Good (A .login f room s)
-  pub login-is : (f : A .Fields) (room : ℕ) (s : A .State) → Good s → A .phase s ≡ closed → A .writes f room s ≡ true → view (A .login f room s) ≡ inPhase asked (view s)
-  pub login-ours : (f : A .Fields) (room : ℕ) (s : A .State) → Good s → A .phase s ≡ closed → A .writes f room s ≡ true → L .OurLogin (A .loginBytes f s)
-  pub login-lists : (f : A .Fields) (room : ℕ) (s : A .State) → Good s → A .phase s ≡ closed → A .writes f room s ≡ true → L .lists (A .loginBytes f s) ≡ A .table s
+  -- a closed session's login: the state after it, and that what stands in the buffer's front is a login of ours with the whole table
+  pub login-good : (f : A .Fields) (out : Bytes) (s : A .State) → Good s → A .phase s ≡ closed → A .writes f out s ≡ true → Good (A .login f out s)
+  pub login-is : (f : A .Fields) (out : Bytes) (s : A .State) → Good s → A .phase s ≡ closed → A .writes f out s ≡ true → view (A .login f out s) ≡ inPhase asked (view s)
+  pub login-ours : (f : A .Fields) (out : Bytes) (s : A .State) → Good s → A .phase s ≡ closed → A .writes f out s ≡ true → L .OurLogin (A .loginBytes f out s)
+  pub login-lists : (f : A .Fields) (out : Bytes) (s : A .State) → Good s → A .phase s ≡ closed → A .writes f out s ≡ true → L .lists (A .loginBytes f out s) ≡ A .table s
   pub sends-good : (room : ℕ) (b : Bytes) (s : A .State) → Good s → Good (A .sends room b s)
   pub sends-is : (room : ℕ) (b : Bytes) (s : A .State) → Good s → view (A .sends room b s) ≡ view s
   -- how much of a lent buffer a book may use

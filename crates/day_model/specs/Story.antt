@@ -17,11 +17,12 @@ pub record Code : Type 1 where
   pub phase : State → Phase
   pub table : State → Table
   pub new : State
-  -- a login, by what the desk gives it: whether it is written, the state after it, its bytes
+  -- a login, by what the desk gives it and by the buffer that is lent for it: whether it is written, the state after it, and what then stands in the
+  -- buffer's front
   pub Fields : Type 0
-  pub writes : Fields → ℕ → State → Bool
-  pub login : Fields → ℕ → State → State
-  pub loginBytes : Fields → State → Bytes
+  pub writes : Fields → Bytes → State → Bool
+  pub login : Fields → Bytes → State → State
+  pub loginBytes : Fields → Bytes → State → Bytes
   -- the state after it got a message, after it sent an order; whether a message is refused for room
   pub gets : ℕ → Bytes → State → State
   pub sends : ℕ → Bytes → State → State
@@ -54,9 +55,10 @@ pub record Code : Type 1 where
 pub data Happens (F : Type 0) : Type 0 where
   -- the venue's log is offered a message
   theLog : ℕ → Bytes → Happens F
-  -- the member logs in with its whole table, on a new line
-  aLogin : F → ℕ → Happens F
-  -- the member sends an order; the venue gets what a member sent
+  -- the member logs in with its whole table, on a new line; the bytes are what stands in the buffer that is lent for the login
+  aLogin : F → Bytes → Happens F
+  -- the member sends an order; the venue gets what a member sends: any bytes at any time, so that whatever orders and heartbeats the member's calls write
+  -- are among them
   aSending : ℕ → Bytes → Happens F
   aHearing : Bytes → Happens F
   -- the venue sends a heartbeat, or a Logout
@@ -107,12 +109,12 @@ module _ (C : Code) where
   ofVenue v xs w = record { venue = v; member = w .member; joined = w .joined; asks = w .asks; asking = w .asking; queue = putOn (w .joined) (w .queue) xs; refused = w .refused; held = w .held; left = w .left }
 
   -- closed? is it written? A login that is not written, like one that the venue does not take, is refused, and a refused call changes nothing
-  abbrev pub nowLogin : Phase → Bool → C .Fields → ℕ → Now C → Now C
-  nowLogin closed true f room w = record { venue = w .venue; member = C .login f room (w .member); joined = false; asks = true; asking = C .loginBytes f (w .member); queue = []; refused = false; held = w .held; left = false }
-  nowLogin closed false f room w = w
-  nowLogin asked r f room w = w
-  nowLogin replaying r f room w = w
-  nowLogin live r f room w = w
+  abbrev pub nowLogin : Phase → Bool → C .Fields → Bytes → Now C → Now C
+  nowLogin closed true f out w = record { venue = w .venue; member = C .login f out (w .member); joined = false; asks = true; asking = C .loginBytes f out (w .member); queue = []; refused = false; held = w .held; left = false }
+  nowLogin closed false f out w = w
+  nowLogin asked r f out w = w
+  nowLogin replaying r f out w = w
+  nowLogin live r f out w = w
 
   -- one side alone
   abbrev pub nowMember : C .State → Now C → Now C
@@ -160,7 +162,7 @@ module _ (C : Code) where
   -- what each of them does
   abbrev pub next : Happens (C .Fields) → Now C → Now C
   next (theLog room b) w = nowVenue (C .adds room b (w .venue)) w
-  next (aLogin f room) w = nowLogin (C .phase (w .member)) (C .writes f room (w .member)) f room w
+  next (aLogin f out) w = nowLogin (C .phase (w .member)) (C .writes f out (w .member)) f out w
   next (aSending room b) w = nowMember (C .sends room b (w .member)) w
   next (aHearing b) w = nowVenue (C .hears b (w .venue)) w
   next (aTaking room) w = nowTaken (w .asks) (C .accepts room (w .asking) (w .venue)) room w

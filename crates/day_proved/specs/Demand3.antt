@@ -8,17 +8,19 @@ use mathlib.Core.Bool.{true, false}
 use mathlib.Core.List.{List, _∷_}
 use lib.ListN.{length, take}
 use Rattle.wire.specs.Header.{typeOf}
+use Rattle.wire.specs.Frame.{framed}
 use Rattle.table.specs.Table.{lastOf}
-use Rattle.session_messages.specs.Sessions.{namesGood}
+use Rattle.session_messages.specs.Sessions.{namesGood, sessionBytes}
 use Rattle.session_logins.specs.LoginRequestLaws.{BitsInOrder}
 use Rattle.calendar.specs.Calendar.{isDay}
 use Rattle.book.specs.Books.{answer, blankBook, openOf}
 use Rattle.book_restart.specs.Restarts.{restartOf}
 use Rattle.day_model.specs.Story.{Code, Happens, aLogin, aTaking, aDelivery, aCut, Now, next, story, dawn}
 use Rattle.day_model.specs.Halves.{VenueCode, MeetsVenue, StepsAsTold, code}
-use Rattle.day_line.specs.Lines.{Fields, ourLine}
+use Rattle.day_line.specs.Lines.{Fields, loginOfTable, ourLine}
 use Rattle.session.specs.declared.Phase.the-variants.{Closed, Asked, Replaying, Live}
-use Rattle.session.specs.MemberDay.{opened, loginBytes, ourMember}
+use Rattle.session.specs.Sessions.{loginOut}
+use Rattle.session.specs.MemberDay.{opened, ourMember}
 use Rattle.venue.specs.VenueDay.{ourVenue}
 use Rattle.day_proved.specs.Words.{Bytes, inBook, ofUnit, wholeIn}
 
@@ -105,18 +107,19 @@ pub record Valid (f : Fields) : Type 0 where
   pub acknowledgments : f .acknowledgments .given ≡ true → BitsInOrder (f .acknowledgments)
   pub executions : f .executions .given ≡ true → BitsInOrder (f .executions)
 
--- the session has asked, and the login stands on a new line
-pub record Asks (date : ℕ) (X : VenueCode) (f : Fields) (w v : Moment date X) : Type 0 where
+-- the session has asked; what the call left in the front of the buffer that it was lent stands on a new line, and is the login with the whole table
+pub record Asks (date : ℕ) (X : VenueCode) (f : Fields) (out : Bytes) (w v : Moment date X) : Type 0 where
   pub phase : v .member .session .phase ≡ Asked
   pub asks : v .asks ≡ true
-  pub asking : v .asking ≡ loginBytes f (w .member)
+  pub asking : v .asking ≡ framed (loginOut (w .member .session) (loginOfTable (w .member .session .book .table) f) out)
+  pub written : v .asking ≡ sessionBytes (loginOfTable (w .member .session .book .table) f)
 
--- 'With valid fields and room a closed session's login is written,'
+-- 'With valid fields and room a closed session's login is written,' whatever stood in the buffer
 abbrev pub ALoginIsWritten : Type 1
 ALoginIsWritten =
-    (date : ℕ) → isDay date ≡ true → (X : VenueCode) → SuchAVenue X → (es : List Event) (f : Fields) (room : ℕ)
-    → Valid f → 234 ≤ room → after date X es .member .session .phase ≡ Closed
-    → Asks date X f (after date X es) (then date X (after date X es) (aLogin f room))
+    (date : ℕ) → isDay date ≡ true → (X : VenueCode) → SuchAVenue X → (es : List Event) (f : Fields) (out : Bytes)
+    → Valid f → 234 ≤ length out → after date X es .member .session .phase ≡ Closed
+    → Asks date X f out (after date X es) (then date X (after date X es) (aLogin f out))
 
 -- a session runs on the line of that login, and what the log held is kept for 3
 pub record Taken (date : ℕ) (X : VenueCode) (w v : Moment date X) : Type 0 where

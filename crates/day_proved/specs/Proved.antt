@@ -12,7 +12,6 @@ use borrow.Author.Tests.{lt-leb}
 use Rattle.wire.specs.Header.{typeOf}
 use Rattle.wire.specs.FrameLaws.{lt-or-le}
 use Rattle.table.specs.Table.{lastOf}
-use Rattle.session_messages.specs.declared.Record.{Record}
 use Rattle.session_messages.specs.Sessions as logins
 use Rattle.session_logins.specs.LoginRequests.{choiceOf}
 use Rattle.session_logins.specs.LoginRequestLaws.{said-most, default-is-written}
@@ -32,14 +31,14 @@ use Rattle.day_model.specs.Halves.{VenueCode, both}
 use Rattle.day_line.specs.Lines.{Fields, ourLine, loginOfTable, wholeTable}
 use Rattle.session.specs.declared.Phase as phases
 use Rattle.session.specs.declared.Phase.the-variants.{Closed, Asked, Replaying, Live}
-use Rattle.session.specs.declared.Session.{Session}
-use Rattle.session.specs.Sessions.{loginRefusal}
+use Rattle.session.specs.declared.Answer as sessionAnswers
+use Rattle.session.specs.SessionSteps.{login-asks}
 use Rattle.session.specs.MemberDay.{Desk, opened, restartedBy, phaseOf, writes, ourMember}
 use Rattle.session.specs.Booked.{items}
 use Rattle.session.specs.MadeItems.{made-items, made-headed, made-size}
 use Rattle.session.specs.MemberSteps.{Good}
 use Rattle.session.specs.MemberGets.{says-complete}
-use Rattle.session.specs.MeetsMember.{opens-well, opened-empty, entries-fit, logged, our-member-meets}
+use Rattle.session.specs.MeetsMember.{opens-well, opened-empty, entries-fit, logged, login-stands, our-member-meets}
 use Rattle.venue.specs.MeetsVenue.{meets, steps-told}
 use Rattle.day_proved.specs.Words.{Bytes, inBook, ofUnit, keepItem, within}
 use Rattle.day_proved.specs.WordLaws.{unit-bodies, take-bodies, bodies-long, booked-unit, within-all, cut-keeps}
@@ -63,11 +62,6 @@ phase-back Live Closed e = let z : _≡_ {A = ℕ} 0 1 = cc in absurd (omega ari
 phase-back Live Asked e = let z : _≡_ {A = ℕ} 0 1 = cc in absurd (omega arith)
 phase-back Live Replaying e = let z : _≡_ {A = ℕ} 0 1 = cc in absurd (omega arith)
 phase-back Live Live e = refl
-
--- a closed session's login is refused only by the writer
-login-zero : (s : Session) (r : Record) (room : ℕ) → s .phase ≡ Closed → logins.recordRefusal r room ≡ 0 → loginRefusal s r room ≡ 0
-unfolding loginRefusal
-login-zero s r room e z = rw e z
 
 -- ---- books that are cut short
 
@@ -160,18 +154,19 @@ module _ (date : ℕ) (d : isDay date ≡ true) (X : VenueCode) (such : SuchAVen
       (lt-or-le k 16)
 
   -- 4
-  written : (es : List Event) (f : Fields) (room : ℕ) → Valid f → 234 ≤ room → after date X es .member .session .phase ≡ Closed
-      → Asks date X f (after date X es) (then date X (after date X es) (aLogin f room))
-  written es f room v h e =
+  written : (es : List Event) (f : Fields) (out : Bytes) → Valid f → 234 ≤ length out → after date X es .member .session .phase ≡ Closed
+      → Asks date X f out (after date X es) (then date X (after date X es) (aLogin f out))
+  written es f out v h e =
       let w = after date X es in
       let g = good-of es in
       let t = w .member .session .book .table in
-      let r : logins.recordRefusal (loginOfTable t f) room ≡ 0 =
-      default-is-written t wholeTable (f .names) (f .acknowledgments) (f .executions) room (f .long) (v .names) (v .acknowledgments) (v .executions)
+      let r : logins.recordRefusal (loginOfTable t f) (length out) ≡ 0 =
+      default-is-written t wholeTable (f .names) (f .acknowledgments) (f .executions) (length out) (f .long) (v .names) (v .acknowledgments) (v .executions)
       (omega (arith, said-most t (choiceOf wholeTable) (f .names) (f .acknowledgments) (f .executions) (f .long), h)) refl (entries-fit date d small (g .made)) in
-      let y : writes f room (w .member) ≡ true = ap (λ (n : ℕ). eqb n 0) (login-zero (w .member .session) (loginOfTable t f) room e r) in
-      let q : then date X w (aLogin f room) ≡ nowLogin (dayOf date X) closed true f room w = ap₂ (λ (a : Phase) (b : Bool). nowLogin (dayOf date X) a b f room w) (ap phaseOf e) y in
-      subst (Asks date X f w) (sym q) (record { phase = ap (λ (x : Desk). x .session .phase) (logged date d small f room (w .member) y); asks = refl; asking = refl })
+      let y : writes f out (w .member) ≡ true = ap (λ (a : sessionAnswers.Answer). eqb (a .refusal) 0) (login-asks (w .member .session) (loginOfTable t f) out e r .0) in
+      let q : then date X w (aLogin f out) ≡ nowLogin (dayOf date X) closed true f out w = ap₂ (λ (a : Phase) (b : Bool). nowLogin (dayOf date X) a b f out w) (ap phaseOf e) y in
+      subst (Asks date X f out w) (sym q)
+      (record { phase = ap (λ (x : Desk). x .session .phase) (logged date d small f out (w .member) y); asks = refl; asking = refl; written = login-stands date d small f out (w .member) e r })
 
   takes : (es : List Event) (room : ℕ) → after date X es .asks ≡ true → X .running (after date X es .venue) ≡ false → such .answerRoom ≤ room
       → Taken date X (after date X es) (then date X (after date X es) (aTaking room))
@@ -206,7 +201,7 @@ pub each-restart-keeps-every-whole-message : EachRestart
 each-restart-keeps-every-whole-message date d X such es k = restarts date d X such es k
 
 pub a-login-is-written : ALoginIsWritten
-a-login-is-written date d X such es f room v h e = written date d X such es f room v h e
+a-login-is-written date d X such es f out v h e = written date d X such es f out v h e
 
 pub a-venue-takes-it : AVenueTakesIt
 a-venue-takes-it date d X such es room a r h = takes date d X such es room a r h

@@ -6,9 +6,9 @@ use mathlib.Core.Bool.{Bool, true, false, cond}
 use mathlib.Core.List.{List, []}
 use native.Mathlib.Omega.{arith}
 use lib.Dec.{eqb}
-use lib.ListN.{length, take}
+use lib.ListN.{length, take, drop}
 use lib.Seq.{take-all, take-take, take-append-seam, take-length}
-use borrow.Author.Tests.{eqb-true}
+use borrow.Author.Tests.{eqb-true, eq-eqb}
 use Rattle.numbers.specs.Numbers.{patched}
 use Rattle.numbers.specs.NumberLaws.{patched-take}
 use Rattle.wire.specs.Frame.{framed}
@@ -17,7 +17,9 @@ use Rattle.wire.specs.FrameLaws.{lt-or-le}
 use Rattle.block.specs.Slots.{zeros}
 use Rattle.table.specs.declared.OutgoingNumber.{OutgoingNumber}
 use Rattle.table.specs.Table.{lastOf, zeroTable}
+use Rattle.session_messages.specs.declared.Record.{Record}
 use Rattle.session_messages.specs.Sessions as logins
+use Rattle.session_messages.specs.SessionTrip.{framed-as-written}
 use Rattle.calendar.specs.Calendar.{isDay, dayRefusal}
 use Rattle.book.specs.declared.Book.{Book}
 use Rattle.book.specs.declared.Answer as bookAnswers
@@ -29,14 +31,14 @@ use Rattle.book_restart.specs.Steps.{mark-long}
 use Rattle.day_model.specs.Model.{Item, Table, Member, Restart, closed, restartOf, restarted, start, short, good}
 use Rattle.day_model.specs.Model as day
 use Rattle.day_model.specs.Halves.{MeetsMember}
-use Rattle.day_line.specs.Lines.{Fields, Fine, says, ourLine, loginOfTable}
-use Rattle.day_line.specs.OurLogins.{our-lists}
+use Rattle.day_line.specs.Lines.{Fields, Fine, says, lists, ourLine, loginOfTable, OurLogin}
+use Rattle.day_line.specs.OurLogins.{body-long, our-lists}
 use Rattle.day_line.specs.Lent.{kept}
 use Rattle.session.specs.declared.Phase.{Phase}
 use Rattle.session.specs.declared.Phase.the-variants.{Closed, Asked, Replaying, Live}
-use Rattle.session.specs.Sessions.{closedWith, isClosed, brokenBy, brokenBuffer, loginRefusal, loginOf, orderRefusal, orderOf}
+use Rattle.session.specs.Sessions.{closedWith, isClosed, brokenBy, brokenBuffer, loginRefusal, loginOf, loginOut, orderRefusal, orderOf}
 use Rattle.session.specs.Booked.{items, first-items}
-use Rattle.session.specs.MemberDay.{Desk, opened, gets, ended, writes, login, sends, restartedBy, phaseOf, ourMember}
+use Rattle.session.specs.MemberDay.{Desk, opened, gets, ended, writes, login, loginBytes, sends, restartedBy, phaseOf, ourMember}
 use Rattle.session.specs.MemberKinds.{kind-of}
 use Rattle.session.specs.MadeItems.{itemsOf, coded, below, made-items, made-restarts}
 use Rattle.session.specs.MemberSteps.{capOf, seen, Good, deskOf, Comes, comes-as, left-alone, as-it-was, ends-as}
@@ -164,25 +166,46 @@ module _ (date : ℕ) (d : isDay date ≡ true) (hd : date < 4294967296) where
 
   -- ---- a login
 
-  pub is-closed : (p : Phase) → phaseOf p ≡ closed → isClosed p ≡ true
-  is-closed Closed e = refl
-  is-closed Asked e = let z : _≡_ {A = ℕ} 0 1 = cc in absurd (omega arith)
-  is-closed Replaying e = let z : _≡_ {A = ℕ} 0 1 = cc in absurd (omega arith)
-  is-closed Live e = let z : _≡_ {A = ℕ} 0 1 = cc in absurd (omega arith)
-
-  written : (f : Fields) (room : ℕ) (s : Desk) → writes f room s ≡ true → loginRefusal (s .session) (loginOfTable (s .session .book .table) f) room ≡ 0
-  written f room s w = eqb-true (loginRefusal (s .session) (loginOfTable (s .session .book .table) f) room) 0 w
-
-  pub logged : (f : Fields) (room : ℕ) (s : Desk) → writes f room s ≡ true → login f room s ≡ deskOf Asked (s .session .outgoing) (s .session .book) (s .bytes)
-  unfolding loginOf
-  logged f room s w = rw w
-
-  pub record-written : (f : Fields) (room : ℕ) (s : Desk) → phaseOf (s .session .phase) ≡ closed → writes f room s ≡ true → logins.recordRefusal (loginOfTable (s .session .book .table) f) room ≡ 0
-  unfolding loginRefusal
-  record-written f room s e w = (rw (is-closed (s .session .phase) e) at (written f room s w))
-
   pub entries-fit : {k : ℕ} {b : Book} {xs : List ℕ} → Made date k b xs → (u : ℕ) → lastOf (b .table) u < 4294967296
   entries-fit made u = let h = unit-few made u in let b = below made in omega (arith, counted made u, count-is made)
+
+  closed-back : (p : Phase) → phaseOf p ≡ closed → p ≡ Closed
+  closed-back Closed e = refl
+  closed-back Asked e = let z : _≡_ {A = ℕ} 0 1 = cc in absurd (omega arith)
+  closed-back Replaying e = let z : _≡_ {A = ℕ} 0 1 = cc in absurd (omega arith)
+  closed-back Live e = let z : _≡_ {A = ℕ} 0 1 = cc in absurd (omega arith)
+
+  module _ (f : Fields) (out : List ℕ) (s : Desk) where
+    -- the login's record
+    abbrev asked-for : Record
+    asked-for = loginOfTable (s .session .book .table) f
+
+    pub logged : writes f out s ≡ true → login f out s ≡ deskOf Asked (s .session .outgoing) (s .session .book) (s .bytes)
+    unfolding loginOf
+    logged w = rw w
+
+    -- a closed session's login is answered 0 only where the writer takes its record
+    record-written : s .session .phase ≡ Closed → writes f out s ≡ true → logins.recordRefusal asked-for (length out) ≡ 0
+    unfolding loginOf loginRefusal
+    record-written e w = rw e at (eqb-true (loginRefusal (s .session) asked-for (length out)) 0 w)
+
+    -- and then it stands in the front of the buffer that was lent
+    pub login-stands : s .session .phase ≡ Closed → logins.recordRefusal asked-for (length out) ≡ 0 → loginBytes f out s ≡ logins.sessionBytes asked-for
+    unfolding loginOut logins.writeBuffer patched
+    login-stands e z =
+        ap (λ (p : Phase). framed (cond (isClosed p) (logins.recordBuffer asked-for out) out)) e
+        ∙ ap (λ (q : Bool). framed (cond q (patched out 0 (logins.sessionBytes asked-for)) out)) (eq-eqb (logins.recordRefusal asked-for (length out)) 0 z)
+        ∙ framed-as-written asked-for (length out) (record { body-length = body-long (s .session .book .table) f }) z (drop (0 + length (logins.sessionBytes asked-for)) out)
+
+    pub our-login : phaseOf (s .session .phase) ≡ closed → writes f out s ≡ true → Good date s → OurLogin (loginBytes f out s)
+    our-login e w g =
+        let c = closed-back (s .session .phase) e in
+        let z = record-written c w in
+        record { table = s .session .book .table; fit = entries-fit (g .made); fields = f; room = length out; written = z; is = login-stands c z }
+
+    pub our-login-lists : (e : phaseOf (s .session .phase) ≡ closed) (w : writes f out s ≡ true) (g : Good date s) → lists (loginBytes f out s) ≡ lastOf (s .session .book .table)
+    unfolding our-login
+    our-login-lists e w g = our-lists (our-login e w g)
 
   -- ---- the whole
 
@@ -210,10 +233,10 @@ module _ (date : ℕ) (d : isDay date ≡ true) (hd : date < 4294967296) where
     table-is = λ s. refl;
     new-good = opened-good;
     new-is = opened-seen;
-    login-good = λ f room s g e w. subst (Good date) (sym (logged f room s w)) (record { many = g .many; made = g .made });
-    login-is = λ f room s g e w. ap seen (logged f room s w);
-    login-ours = λ f room s g e w. record { table = s .session .book .table; fit = entries-fit (g .made); fields = f; room = room; written = record-written f room s e w; is = refl };
-    login-lists = λ f room s g e w. our-lists (record { table = s .session .book .table; fit = entries-fit (g .made); fields = f; room = room; written = record-written f room s e w; is = refl });
+    login-good = λ f out s g e w. subst (Good date) (sym (logged f out s w)) (record { many = g .many; made = g .made });
+    login-is = λ f out s g e w. ap seen (logged f out s w);
+    login-ours = λ f out s g e w. our-login f out s e w g;
+    login-lists = λ f out s g e w. our-login-lists f out s e w g;
     sends-good = λ room b s g. sent-as room b s g .good;
     sends-is = λ room b s g. sent-as room b s g .is;
     cap = capOf;

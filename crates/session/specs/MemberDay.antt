@@ -5,10 +5,10 @@ use mathlib.Core.List.{List, []}
 use lib.Dec.{eqb, ltb}
 use lib.ListN.{length, take}
 use Rattle.wire.specs.Header.{typeOf, unitOf, numberOf}
+use Rattle.wire.specs.Frame.{framed}
 use Rattle.block.specs.Slots.{zeros}
 use Rattle.table.specs.Table.{lastOf}
 use Rattle.orders.specs.Shapes.{ofVenue}
-use Rattle.session_messages.specs.Sessions as logins
 use Rattle.book.specs.declared.Answer.{Answer}
 use Rattle.book.specs.Books.{limit, blankBook, openOf, openBuffer}
 use Rattle.book_restart.specs.Restarts as restarts
@@ -20,7 +20,7 @@ use Rattle.day_line.specs.Lent.{lent, kept}
 use Rattle.session.specs.declared.Phase.{Phase}
 use Rattle.session.specs.declared.Phase.the-variants.{Closed, Asked, Replaying, Live}
 use Rattle.session.specs.declared.Session.{Session}
-use Rattle.session.specs.Sessions.{closedWith, isOpen, receiveOf, receiveBuffer, brokenBy, brokenBuffer, loginRefusal, loginOf, orderOf}
+use Rattle.session.specs.Sessions.{closedWith, isOpen, receiveOf, receiveBuffer, brokenBy, brokenBuffer, loginOf, loginOut, orderOf}
 
 -- the session's state, and the bytes that the book holds
 pub record Desk : Type 0 where
@@ -43,18 +43,19 @@ gets room b d = after (receiveOf (d .session) room b .session) room (receiveBuff
 abbrev pub ended : ℕ → Desk → Desk
 ended room d = after (brokenBy (d .session) room) room (brokenBuffer (d .session) (lent room (d .bytes))) (d .bytes)
 
--- a login with the whole table, into a buffer of so many bytes: whether it is written, the state after it, and the bytes that go out, which are those
--- that the call leaves in the buffer's front (`login-asks`, SessionSteps.antt)
-abbrev pub writes : Fields → ℕ → Desk → Bool
-writes f room d = eqb (loginRefusal (d .session) (loginOfTable (d .session .book .table) f) room) 0
+-- a login with the whole table, into a buffer in which anything may stand: whether it is written, the state after it, and what goes onto the line, which
+-- is the message that the call leaves in the buffer's front
+abbrev pub writes : Fields → List ℕ → Desk → Bool
+writes f out d = eqb (loginOf (d .session) (loginOfTable (d .session .book .table) f) (length out) .refusal) 0
 
-abbrev pub login : Fields → ℕ → Desk → Desk
-login f room d = record { session = loginOf (d .session) (loginOfTable (d .session .book .table) f) room .session; bytes = d .bytes }
+abbrev pub login : Fields → List ℕ → Desk → Desk
+login f out d = record { session = loginOf (d .session) (loginOfTable (d .session .book .table) f) (length out) .session; bytes = d .bytes }
 
-abbrev pub loginBytes : Fields → Desk → List ℕ
-loginBytes f d = logins.sessionBytes (loginOfTable (d .session .book .table) f)
+abbrev pub loginBytes : Fields → List ℕ → Desk → List ℕ
+loginBytes f out d = framed (loginOut (d .session) (loginOfTable (d .session .book .table) f) out)
 
--- an order goes out; a heartbeat changes no state
+-- an order goes out; a heartbeat changes no state. What the two leave in their buffers the day does not follow: its venue may get any bytes at any time
+-- (`aHearing`), those among them
 abbrev pub sends : ℕ → List ℕ → Desk → Desk
 sends room given d = record { session = orderOf (d .session) given room .session; bytes = d .bytes }
 
