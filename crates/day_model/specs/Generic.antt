@@ -5,13 +5,14 @@ use mathlib.Core.Bool.{Bool, true, false, _&&_, false≢true}
 use mathlib.Core.List.{List, [], _∷_, _++_, map}
 use Prim.Native.Nat.{ℕ, _≤_}
 use lib.ListN.{length, take}
-use Rattle.day_model.specs.Model.{Msg, Table, ofUnit, count, messages, Phase, closed, asked, replaying, live, Sent, response, complete, heartbeat, logout, Member, broken, inPhase, got, full, restartOf, restarted, Venue, took, stopped, logged, nextInLog, onLine, World, Event, logs, logsIn, takesIt, beats, logsOut, delivers, breaks, drops, strays, cuts, apply, run, start}
+use Rattle.day_model.specs.Moments.{withMember, noLine, onLine}
+use Rattle.day_model.specs.Model.{Msg, Table, ofUnit, count, messages, Phase, closed, asked, replaying, live, Sent, response, complete, heartbeat, logout, Member, broken, inPhase, got, full, restartOf, restarted, Venue, took, stopped, logged, nextInLog, World, Event, logs, logsIn, takesIt, beats, logsOut, delivers, breaks, drops, strays, cuts, apply, run, start}
 use Rattle.day_model.specs.Inv.{Inv, inv-run, inv-asking}
 use Rattle.day_model.specs.Safe.{Readable, counted}
 use Rattle.day_model.specs.Laws.{prefix-length}
 use Rattle.day_model.specs.Steps.{movesTo, movesSend, many, run-many}
-use Rattle.day_model.specs.Story.{Bytes, Code, Happens, theLog, aLogin, aSending, aHearing, aBeat, aBye, aTaking, aStep, aStray, aDelivery, aBreak, aDrop, aCut, Now, putOn, noLine, nowLogin, nowTaken, nowStep, nowBeat, nowBye, nowGets, nowDrop, nowStray, next, story, dawn, All}
-use Rattle.day_model.specs.Demand.{exact, restarts, Completes, complete-whole, must-complete}
+use Rattle.day_model.specs.Story.{Bytes, Code, Happens, theLog, aLogin, aSending, aHearing, aBeat, aBye, aTaking, aStep, aStray, aDelivery, aBreak, aDrop, aCut, Now, nowLogin, nowTaken, nowStep, nowBeat, nowBye, nowGets, nowDrop, nowStray, next, story, dawn, All}
+use Rattle.day_model.specs.Demand.{exact, restarts, TurnsLive, complete-whole, must-complete}
 
 -- ---- what the code's functions must be proved to do: an equation a function
 
@@ -92,11 +93,11 @@ pub map-++ : {X : Type 0} (f : Bytes → X) (a b : List Bytes) → map f (a ++ b
 map-++ f [] b = refl
 map-++ f (x ∷ a) b = rw (map-++ f a b)
 
-put-is : (f : Bytes → Sent) (j : Bool) (q xs : List Bytes) → map f (putOn j q xs) ≡ onLine j (map f q) (map f xs)
+put-is : (f : Bytes → Sent) (j : Bool) (q xs : List Bytes) → map f (onLine j q xs) ≡ onLine j (map f q) (map f xs)
 put-is f true q xs = map-++ f q xs
 put-is f false q xs = refl
 
-put-fine : (P : Bytes → Type 0) (j : Bool) (q xs : List Bytes) → All P q → All P xs → All P (putOn j q xs)
+put-fine : (P : Bytes → Type 0) (j : Bool) (q xs : List Bytes) → All P q → All P xs → All P (onLine j q xs)
 put-fine P true q xs h k = all-append P q xs h k
 put-fine P false q xs h k = h
 
@@ -205,16 +206,16 @@ module _ (C : Code) (M : Meets C) where
         is = rw (e, M .gets-is room x (w .member) (k .0) (g .member), M .room-is room x (w .member) (k .0) (g .member));
       }
 
-  sim-off : (w : Now C) (s : C .State) (es : List Event) → M .Good s → GoodNow w → seen (noLine C s w) ≡ run es (seen w) → Sim w (noLine C s w)
+  sim-off : (w : Now C) (s : C .State) (es : List Event) → M .Good s → GoodNow w → seen (noLine (withMember s w)) ≡ run es (seen w) → Sim w (noLine (withMember s w))
   sim-off w s es h g q = record { good = record { member = h; venue = g .venue; queue = tt; asking = λ z. absurd (false≢true z) }; events = es; is = q }
 
-  broken-is : (w : Now C) (p : Phase) (room : ℕ) → C .phase (w .member) ≡ p → GoodNow w → seen (noLine C (C .ended room (w .member)) w) ≡ apply (breaks (M .cap room)) (seen w)
+  broken-is : (w : Now C) (p : Phase) (room : ℕ) → C .phase (w .member) ≡ p → GoodNow w → seen (noLine (withMember (C .ended room (w .member)) w)) ≡ apply (breaks (M .cap room)) (seen w)
   broken-is w closed room e g = rw (M .ended-is room (w .member) (g .member), M .phase-is (w .member), e)
   broken-is w asked room e g = rw (M .ended-is room (w .member) (g .member), M .phase-is (w .member), e)
   broken-is w replaying room e g = rw (M .ended-is room (w .member) (g .member), M .phase-is (w .member), e)
   broken-is w live room e g = rw (M .ended-is room (w .member) (g .member), M .phase-is (w .member), e)
 
-  sim-break : (w : Now C) (room : ℕ) → GoodNow w → Sim w (noLine C (C .ended room (w .member)) w)
+  sim-break : (w : Now C) (room : ℕ) → GoodNow w → Sim w (noLine (withMember (C .ended room (w .member)) w))
   sim-break w room g = sim-off w (C .ended room (w .member)) (breaks (M .cap room) ∷ []) (M .ended-good room (w .member) (g .member)) g (broken-is w (C .phase (w .member)) room refl g)
 
   sim-drop : (w : Now C) (r : Bool) → C .running (w .venue) ≡ r → GoodNow w → Sim w (nowDrop C r w)
@@ -319,7 +320,7 @@ module _ (C : Code) (M : Meets C) where
       let w = at es in
       let h = holds C M es in
       let s = seen-delivery w room (h .good) (w .queue) refl in
-      let k : Completes (seen C M w) (delivers (M .cap room)) = record { was = M .phase-is (w .member) ∙ c .was; is = ap (λ (v : World). v .member .phase) (sym s) ∙ M .phase-is (next C (aDelivery room) w .member) ∙ c .is } in
+      let k : TurnsLive (seen C M w) (delivers (M .cap room)) = record { was = M .phase-is (w .member) ∙ c .was; is = ap (λ (v : World). v .member .phase) (sym s) ∙ M .phase-is (next C (aDelivery room) w .member) ∙ c .is } in
       ap (λ (v : World). ofUnit u (messages (v .member .book))) s ∙ complete-whole (seen C M w) (delivers (M .cap room)) (h .inv) k r u
 
   pub replay-completes : (es : List (Happens (C .Fields))) (room : ℕ) (rest : List Bytes) (b : Bytes) → at es .left ≡ false → at es .queue ≡ b ∷ rest → M .says b ≡ complete

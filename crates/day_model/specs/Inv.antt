@@ -8,10 +8,11 @@ use lib.Dec.{ltb, eqb}
 use lib.ListN.{length, take, getD, drop, length-append}
 use lib.Seq.{take-append-le, take-suc, split-at, take-append-seam}
 use borrow.Author.Tests.{eqb-true, eqb-false, eq-eqb, ltb-true, ltb-false}
-use Rattle.day_model.specs.Model.{Msg, Item, mark, Table, bump, keep, ofUnit, count, pick, Phase, closed, asked, replaying, live, Sent, response, message, complete, heartbeat, logout, Member, ends, full, Restart, short, bad, good, restartOf, restarted, Venue, above, none-msg, Move, idle, tells, passes, moveOf, move, sends, moved, logged, nextInLog, World, Event, logs, logsIn, takesIt, steps, beats, logsOut, delivers, breaks, drops, strays, cuts, onLine, withVenue, leaving, alone, loggingIn, taking, stepping, saying, delivering, breaking, dropping, straying, cut, apply, run, start}
+use Rattle.day_model.specs.Moments.{withVenue, withQueue, onLine}
+use Rattle.day_model.specs.Model.{Msg, Item, mark, Table, bump, keep, ofUnit, count, pick, Phase, closed, asked, replaying, live, Sent, response, message, complete, heartbeat, logout, Member, ends, full, Restart, short, bad, good, restartOf, restarted, Venue, above, none-msg, Move, idle, tells, passes, moveOf, move, sends, moved, logged, nextInLog, World, Event, logs, logsIn, takesIt, steps, beats, logsOut, delivers, breaks, drops, strays, cuts, alone, loggingIn, taking, stepping, beating, loggingOut, delivering, breaking, dropping, straying, cut, apply, run, start}
 use Rattle.day_model.specs.Laws.{ofUnit-append, count-snoc, NumberedFrom, numbered-snoc, Prefix, prefix-refl, prefix-more, prefix-length}
 use Rattle.day_model.specs.Safe.{Numbered, Safe, counted, safe-ends, safe-got, safe-grows, safe-restarted, InLog}
-use Rattle.day_model.specs.Walk.{walk, walk-then, walk-map, after, phase-got, Orderly, Told, At, step, Next, Whole, Gapless, Passed, ReachedIn, Reached, table-got}
+use Rattle.day_model.specs.Walk.{walk, walk-then, walk-map, phaseAfter, phase-got, Orderly, Told, At, step, Next, Whole, Gapless, Passed, ReachedIn, Reached, table-got}
 
 abbrev pub AllIn : List Msg → List Sent → Type 0
 AllIn log [] = Unit {0}
@@ -44,7 +45,7 @@ pub record Inv (w : World) : Type 0 where
   pub heldIs : Prefix (w .held) (w .venue .log)
   pub session : w .joined ≡ true → Session (w .venue) (w .held)
   pub waits : w .asks ≡ true → Waits w
-  pub orderly : w .asks ≡ false → w .left ≡ false → walk after Orderly (OnLine (w .joined) (w .venue .told)) (w .member .phase) (w .queue)
+  pub orderly : w .asks ≡ false → w .left ≡ false → walk phaseAfter Orderly (OnLine (w .joined) (w .venue .told)) (w .member .phase) (w .queue)
   pub gapless : w .asks ≡ false → w .refused ≡ false → walk step (Gapless (w .held)) (Reached (w .joined) (w .venue)) (here (w .member)) (w .queue)
 
 -- ---- lists in flight
@@ -131,7 +132,7 @@ inv-drops w true h = record {
   heldIs = h .heldIs;
   session = λ j. absurd (false≢true j);
   waits = λ a. record { phase = h .waits a .phase; empty = h .waits a .empty; lists = h .waits a .lists; apart = refl };
-  orderly = λ a l. walk-map after Orderly _ _ (λ s k j. absurd (false≢true j)) (w .member .phase) (w .queue) (h .orderly a l);
+  orderly = λ a l. walk-map phaseAfter Orderly _ _ (λ s k j. absurd (false≢true j)) (w .member .phase) (w .queue) (h .orderly a l);
   gapless = λ a r. walk-map step (Gapless (w .held)) _ _ (λ s k j. absurd (false≢true j)) (here (w .member)) (w .queue) (h .gapless a r);
 }
 
@@ -144,7 +145,7 @@ inv-strays w false t h = record {
   heldIs = h .heldIs;
   session = λ j. absurd (false≢true j);
   waits = λ a. record { phase = h .waits a .phase; empty = h .waits a .empty; lists = h .waits a .lists; apart = refl };
-  orderly = λ a l. walk-map after Orderly _ _ (λ s k j. absurd (false≢true j)) (w .member .phase) (w .queue) (h .orderly a l);
+  orderly = λ a l. walk-map phaseAfter Orderly _ _ (λ s k j. absurd (false≢true j)) (w .member .phase) (w .queue) (h .orderly a l);
   gapless = λ a r. walk-map step (Gapless (w .held)) _ _ (λ s k j. absurd (false≢true j)) (here (w .member)) (w .queue) (h .gapless a r);
 }
 
@@ -267,7 +268,7 @@ module _ (v : Venue) (m : Msg) (n : Numbered (v .log)) (p : Passes v m) where
 
 -- the world after a move of the venue, on the member's line or not
 abbrev pub stepW : Move → Bool → World → World
-stepW mv j w = record { venue = moved mv (w .venue); member = w .member; joined = w .joined; asks = w .asks; asking = w .asking; queue = onLine j (w .queue) (sends (w .venue .listed) mv); refused = w .refused; held = w .held; left = w .left }
+stepW mv j w = withQueue (onLine j (w .queue) (sends (w .venue .listed) mv)) (withVenue (moved mv (w .venue)) w)
 
 pub moved-log : (mv : Move) (v : Venue) → moved mv v .log ≡ v .log
 moved-log idle v = refl
@@ -283,7 +284,7 @@ inv-apart w mv e h = record {
   heldIs = rw moved-log (h .heldIs);
   session = λ j. absurd (false≢true (sym e ∙ j));
   waits = λ a. record { phase = h .waits a .phase; empty = h .waits a .empty; lists = h .waits a .lists; apart = h .waits a .apart };
-  orderly = λ a l. walk-map after Orderly _ _ (λ s k j. absurd (false≢true (sym e ∙ j))) (w .member .phase) (w .queue) (h .orderly a l);
+  orderly = λ a l. walk-map phaseAfter Orderly _ _ (λ s k j. absurd (false≢true (sym e ∙ j))) (w .member .phase) (w .queue) (h .orderly a l);
   gapless = λ a r. walk-map step (Gapless (w .held)) _ _ (λ s k j. absurd (false≢true (sym e ∙ j))) (here (w .member)) (w .queue) (h .gapless a r);
 }
 
@@ -291,7 +292,7 @@ inv-apart w mv e h = record {
 inv-on : (w : World) (mv : Move) → w .joined ≡ true → Inv w
     → Session (moved mv (w .venue)) (w .held)
     → AllIn (w .venue .log) (sends (w .venue .listed) mv)
-    → ((p : Phase) → Told (w .venue .told) p → walk after Orderly (OnLine (w .joined) (moved mv (w .venue) .told)) p (sends (w .venue .listed) mv))
+    → ((p : Phase) → Told (w .venue .told) p → walk phaseAfter Orderly (OnLine (w .joined) (moved mv (w .venue) .told)) p (sends (w .venue .listed) mv))
     → ((s : At) → ReachedIn (w .venue) (s .phase) (s .counts) → walk step (Gapless (w .held)) (Reached (w .joined) (moved mv (w .venue))) s (sends (w .venue .listed) mv))
     → Inv (stepW mv true w)
 inv-on w mv e h s i o g = record {
@@ -301,7 +302,7 @@ inv-on w mv e h s i o g = record {
   heldIs = rw moved-log (h .heldIs);
   session = λ j. s;
   waits = λ a. absurd (true≢false (sym e ∙ h .waits a .apart));
-  orderly = λ a l. walk-then after Orderly (OnLine (w .joined) (w .venue .told)) (OnLine (w .joined) (moved mv (w .venue) .told)) (sends (w .venue .listed) mv) (λ p k. o p (k e)) (w .member .phase) (w .queue) (h .orderly a l);
+  orderly = λ a l. walk-then phaseAfter Orderly (OnLine (w .joined) (w .venue .told)) (OnLine (w .joined) (moved mv (w .venue) .told)) (sends (w .venue .listed) mv) (λ p k. o p (k e)) (w .member .phase) (w .queue) (h .orderly a l);
   gapless = λ a r. walk-then step (Gapless (w .held)) (Reached (w .joined) (w .venue)) (Reached (w .joined) (moved mv (w .venue))) (sends (w .venue .listed) mv) (λ t k. g t (k e)) (here (w .member)) (w .queue) (h .gapless a r);
 }
 
@@ -314,7 +315,7 @@ whole v held c s q e h u =
     let l = s .low u in
     omega arith
 
-orderly-tells : (j : Bool) (p : Phase) → Told false p → walk after Orderly (OnLine j true) p (complete ∷ [])
+orderly-tells : (j : Bool) (p : Phase) → Told false p → walk phaseAfter Orderly (OnLine j true) p (complete ∷ [])
 orderly-tells j closed h = absurd h
 orderly-tells j asked h = absurd h
 orderly-tells j replaying h = (tt, λ _. refl)
@@ -327,7 +328,7 @@ gapless-tells w asked c h j f e k = absurd k
 gapless-tells w replaying c h j f e k = (whole (w .venue) (w .held) c (h .session j) (h .heldIs) e (k .1), λ _. (refl, k .1))
 gapless-tells w live c h j f e k = absurd (true≢false (sym (k .0) ∙ f))
 
-orderly-sends : (j b : Bool) (p : Phase) (m : Msg) (t : Bool) → Told t p → walk after Orderly (OnLine j t) p (pick b (message m ∷ []) [])
+orderly-sends : (j b : Bool) (p : Phase) (m : Msg) (t : Bool) → Told t p → walk phaseAfter Orderly (OnLine j t) p (pick b (message m ∷ []) [])
 orderly-sends j false p m t h = λ _. h
 orderly-sends j true closed m t h = absurd h
 orderly-sends j true asked m t h = absurd h
@@ -382,7 +383,7 @@ both : (a b : Bool) → (a && b) ≡ true → b ≡ true
 both true b e = e
 both false b e = absurd (false≢true e)
 
-beat-orderly : (j t : Bool) (p : Phase) → Told t p → walk after Orderly (OnLine j t) p (heartbeat ∷ [])
+beat-orderly : (j t : Bool) (p : Phase) → Told t p → walk phaseAfter Orderly (OnLine j t) p (heartbeat ∷ [])
 beat-orderly j t closed h = absurd h
 beat-orderly j t asked h = absurd h
 beat-orderly j t replaying h = (tt, λ _. h)
@@ -400,7 +401,7 @@ leave-gapless held j v asked c = (tt, λ _. tt)
 leave-gapless held j v replaying c = (tt, λ _. tt)
 leave-gapless held j v live c = (tt, λ _. tt)
 
-inv-beats : (w : World) (b : Bool) → (w .venue .running && w .joined) ≡ b → Inv w → Inv (saying b heartbeat w)
+inv-beats : (w : World) (b : Bool) → (w .venue .running && w .joined) ≡ b → Inv w → Inv (beating b w)
 inv-beats w false e h = h
 inv-beats w true e h =
     let f = both (w .venue .running) (w .joined) e in
@@ -411,11 +412,11 @@ inv-beats w true e h =
       heldIs = h .heldIs;
       session = h .session;
       waits = λ a. absurd (true≢false (sym f ∙ h .waits a .apart));
-      orderly = λ a l. walk-then after Orderly (OnLine (w .joined) (w .venue .told)) (OnLine (w .joined) (w .venue .told)) (heartbeat ∷ []) (λ p k. beat-orderly (w .joined) (w .venue .told) p (k f)) (w .member .phase) (w .queue) (h .orderly a l);
+      orderly = λ a l. walk-then phaseAfter Orderly (OnLine (w .joined) (w .venue .told)) (OnLine (w .joined) (w .venue .told)) (heartbeat ∷ []) (λ p k. beat-orderly (w .joined) (w .venue .told) p (k f)) (w .member .phase) (w .queue) (h .orderly a l);
       gapless = λ a r. walk-then step (Gapless (w .held)) (Reached (w .joined) (w .venue)) (Reached (w .joined) (w .venue)) (heartbeat ∷ []) (λ t k. beat-gapless (w .held) (w .joined) (w .venue) (t .phase) (t .counts) (k f)) (here (w .member)) (w .queue) (h .gapless a r);
     }
 
-inv-leaves : (w : World) (b : Bool) → (w .venue .running && w .joined) ≡ b → Inv w → Inv (leaving b w)
+inv-leaves : (w : World) (b : Bool) → (w .venue .running && w .joined) ≡ b → Inv w → Inv (loggingOut b w)
 inv-leaves w false e h = h
 inv-leaves w true e h =
     let f = both (w .venue .running) (w .joined) e in
@@ -451,7 +452,7 @@ inv-delivers w (x ∷ q) cap e h =
       session = h .session;
       waits = λ a. absurd (nonempty x q (sym e ∙ h .waits a .empty));
       orderly = λ a l.
-          let o : walk after Orderly (OnLine (w .joined) (w .venue .told)) (w .member .phase) (x ∷ q) = rw e at (h .orderly a l) in
+          let o : walk phaseAfter Orderly (OnLine (w .joined) (w .venue .told)) (w .member .phase) (x ∷ q) = rw e at (h .orderly a l) in
           rw (phase-got (w .member .phase) cap x (w .member) refl) (o .1);
       gapless = λ a r.
           let n = neither (w .refused) (full cap x (w .member)) r in

@@ -1,3 +1,4 @@
+pub mod Moments
 pub mod Model
 pub mod Laws
 pub mod Safe

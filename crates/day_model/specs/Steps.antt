@@ -7,7 +7,8 @@ use Prim.Native.Nat.{ℕ, zero, suc, _+_, _≤_, _<_}
 use native.Mathlib.Omega.{arith}
 use lib.ListN.{length, getD}
 use borrow.Author.Tests.{eq-eqb, ne-eqb, lt-ltb}
-use Rattle.day_model.specs.Model.{above, none-msg, Table, Sent, message, complete, Venue, Move, idle, tells, passes, move, moved, sends, World, Event, steps, onLine, apply, run}
+use Rattle.day_model.specs.Moments.{withVenue, withQueue, onLine}
+use Rattle.day_model.specs.Model.{above, none-msg, Table, Sent, message, complete, Venue, Move, idle, tells, passes, move, moved, sends, World, Event, steps, apply, run}
 
 -- where so many moves of the model lead, and what they put on the line
 abbrev pub movesTo : ℕ → Venue → Venue
@@ -32,7 +33,7 @@ line-none true q = append-nil q
 line-none false q = refl
 
 abbrev pub stepped : Venue → List Sent → World → World
-stepped v xs w = record { venue = v; member = w .member; joined = w .joined; asks = w .asks; asking = w .asking; queue = onLine (w .joined) (w .queue) xs; refused = w .refused; held = w .held; left = w .left }
+stepped v xs w = withQueue (onLine (w .joined) (w .queue) xs) (withVenue v w)
 
 moved-running : (m : Move) (v : Venue) → moved m v .running ≡ v .running
 moved-running idle v = refl
@@ -45,7 +46,7 @@ run-many (suc n) w e =
     let v = stepped (moved (move (w .venue)) (w .venue)) (sends (w .venue .listed) (move (w .venue))) w in
     let f : apply steps w ≡ v = rw e in
     ap (run (many n)) f ∙ run-many n v (moved-running (move (w .venue)) (w .venue) ∙ e)
-    ∙ ap (λ (q : List Sent). record { venue = movesTo (suc n) (w .venue); member = w .member; joined = w .joined; asks = w .asks; asking = w .asking; queue = q; refused = w .refused; held = w .held; left = w .left })
+    ∙ ap (λ (q : List Sent). withQueue q (withVenue (movesTo (suc n) (w .venue)) w))
     (line-twice (w .joined) (w .queue) (sends (w .venue .listed) (move (w .venue))) (movesSend n (moved (move (w .venue)) (w .venue))))
 
 -- ---- document 01's step: pass over what is not above the listed number, send the first that is, or Replay Complete, or say idle

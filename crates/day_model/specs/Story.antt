@@ -1,8 +1,9 @@
 -- One trading day over the code's own functions: member and venue, the line between them with bytes on it, and what may happen. Definitions alone.
 -- Assumes nothing.
-use mathlib.Core.Bool.{Bool, true, false, _&&_, _||_}
-use mathlib.Core.List.{List, [], _∷_, _++_}
+use mathlib.Core.Bool.{Bool, true, false, _&&_}
+use mathlib.Core.List.{List, [], _∷_}
 use Prim.Native.Nat.{ℕ}
+use Rattle.day_model.specs.Moments.{MomentOf, withVenue, withMember, withQueue, sending, onLine, newLine, noLine, joining, apart, refusing, leaving}
 use Rattle.day_model.specs.Model.{Table, Phase, closed, asked, replaying, live}
 
 abbrev pub Bytes : Type 0
@@ -77,103 +78,71 @@ pub data Happens (F : Type 0) : Type 0 where
   aCut : ℕ → Happens F
 
 -- a moment of the day
-pub record Now (C : Code) : Type 0 where
-  pub venue : C .Ven
-  pub member : C .State
-  -- the venue's session is on the member's present line
-  pub joined : Bool
-  -- a login stands on the line and is not yet taken, and its bytes
-  pub asks : Bool
-  pub asking : Bytes
-  -- sent by the venue on this line and not yet delivered
-  pub queue : List Bytes
-  -- since the login a message was refused for room
-  pub refused : Bool
-  -- the log when the venue took the login of this line
-  pub held : List Bytes
-  -- the venue put a Logout on this line
-  pub left : Bool
-
--- is the venue's session on the member's line? what it sends on another is not seen
-abbrev pub putOn : Bool → List Bytes → List Bytes → List Bytes
-putOn true q xs = q ++ xs
-putOn false q xs = q
+abbrev pub Now : Code → Type 0
+Now C = MomentOf (C .Ven) (C .State) Bytes Bytes Bytes
 
 module _ (C : Code) where
-  -- the member without a line: nothing is under way to it
-  abbrev pub noLine : C .State → Now C → Now C
-  noLine s w = record { venue = w .venue; member = s; joined = false; asks = false; asking = w .asking; queue = []; refused = w .refused; held = w .held; left = w .left }
-
-  -- the venue after it sent something
-  abbrev pub ofVenue : C .Ven → List Bytes → Now C → Now C
-  ofVenue v xs w = record { venue = v; member = w .member; joined = w .joined; asks = w .asks; asking = w .asking; queue = putOn (w .joined) (w .queue) xs; refused = w .refused; held = w .held; left = w .left }
-
   -- closed? is it written? A login that is not written, like one that the venue does not take, is refused, and a refused call changes nothing
   abbrev pub nowLogin : Phase → Bool → C .Fields → Bytes → Now C → Now C
-  nowLogin closed true f out w = record { venue = w .venue; member = C .login f out (w .member); joined = false; asks = true; asking = C .loginBytes f out (w .member); queue = []; refused = false; held = w .held; left = false }
+  nowLogin closed true f out w = newLine (C .loginBytes f out (w .member)) (withMember (C .login f out (w .member)) w)
   nowLogin closed false f out w = w
   nowLogin asked r f out w = w
   nowLogin replaying r f out w = w
   nowLogin live r f out w = w
 
-  -- one side alone
-  abbrev pub nowMember : C .State → Now C → Now C
-  nowMember s w = record { venue = w .venue; member = s; joined = w .joined; asks = w .asks; asking = w .asking; queue = w .queue; refused = w .refused; held = w .held; left = w .left }
-
-  abbrev pub nowVenue : C .Ven → Now C → Now C
-  nowVenue v w = record { venue = v; member = w .member; joined = w .joined; asks = w .asks; asking = w .asking; queue = w .queue; refused = w .refused; held = w .held; left = w .left }
-
   -- a login on the line? does the venue take it?
   abbrev pub nowTaken : Bool → Bool → ℕ → Now C → Now C
-  nowTaken true true room w = record { venue = C .takesLogin room (w .asking) (w .venue); member = w .member; joined = true; asks = false; asking = w .asking; queue = w .queue ++ C .answers room (w .asking) (w .venue); refused = w .refused; held = C .logOf (w .venue); left = w .left }
+  nowTaken true true room w =
+      joining (C .logOf (w .venue)) (sending (C .answers room (w .asking) (w .venue)) (withVenue (C .takesLogin room (w .asking) (w .venue)) w))
   nowTaken true false room w = w
   nowTaken false r room w = w
 
-  -- does a session run?
+  -- does a session run? what it sends goes on the line if the session is on it
   abbrev pub nowStep : Bool → ℕ → Now C → Now C
-  nowStep true room w = ofVenue (C .stepTo room (w .venue)) (C .stepSends room (w .venue)) w
+  nowStep true room w = withQueue (onLine (w .joined) (w .queue) (C .stepSends room (w .venue))) (withVenue (C .stepTo room (w .venue)) w)
   nowStep false room w = w
 
+  -- a session on this line?
   abbrev pub nowBeat : Bool → Now C → Now C
-  nowBeat true w = record { venue = w .venue; member = w .member; joined = w .joined; asks = w .asks; asking = w .asking; queue = w .queue ++ C .beat ∷ []; refused = w .refused; held = w .held; left = w .left }
+  nowBeat true w = sending (C .beat ∷ []) w
   nowBeat false w = w
 
   -- a session on this line? a Logout?
   abbrev pub nowBye : Bool → Bool → Bytes → Now C → Now C
-  nowBye true true b w = record { venue = w .venue; member = w .member; joined = w .joined; asks = w .asks; asking = w .asking; queue = w .queue ++ C .bye b ∷ []; refused = w .refused; held = w .held; left = true }
+  nowBye true true b w = leaving (sending (C .bye b ∷ []) w)
   nowBye true false b w = w
   nowBye false r b w = w
 
   -- what the line delivers next, if anything stands on it
   abbrev pub nowGets : List Bytes → ℕ → Now C → Now C
   nowGets [] room w = w
-  nowGets (x ∷ q) room w = record { venue = w .venue; member = C .gets room x (w .member); joined = w .joined; asks = w .asks; asking = w .asking; queue = q; refused = w .refused || C .noRoom room x (w .member); held = w .held; left = w .left }
+  nowGets (x ∷ q) room w = refusing (C .noRoom room x (w .member)) (withQueue q (withMember (C .gets room x (w .member)) w))
 
   -- does a session run? what it sent stays on the line
   abbrev pub nowDrop : Bool → Now C → Now C
-  nowDrop true w = record { venue = C .stop (w .venue); member = w .member; joined = false; asks = w .asks; asking = w .asking; queue = w .queue; refused = w .refused; held = w .held; left = w .left }
+  nowDrop true w = apart (withVenue (C .stop (w .venue)) w)
   nowDrop false w = w
 
   -- does the venue take it? its session is on no line of the member's
   abbrev pub nowStray : Bool → ℕ → Bytes → Now C → Now C
   nowStray false room b w = w
-  nowStray true room b w = record { venue = C .takesLogin room b (w .venue); member = w .member; joined = false; asks = w .asks; asking = w .asking; queue = w .queue; refused = w .refused; held = w .held; left = w .left }
+  nowStray true room b w = apart (withVenue (C .takesLogin room b (w .venue)) w)
 
   -- what each of them does
   abbrev pub next : Happens (C .Fields) → Now C → Now C
-  next (theLog room b) w = nowVenue (C .adds room b (w .venue)) w
+  next (theLog room b) w = withVenue (C .adds room b (w .venue)) w
   next (aLogin f out) w = nowLogin (C .phase (w .member)) (C .writes f out (w .member)) f out w
-  next (aSending room b) w = nowMember (C .sends room b (w .member)) w
-  next (aHearing b) w = nowVenue (C .hears b (w .venue)) w
+  next (aSending room b) w = withMember (C .sends room b (w .member)) w
+  next (aHearing b) w = withVenue (C .hears b (w .venue)) w
   next (aTaking room) w = nowTaken (w .asks) (C .accepts room (w .asking) (w .venue)) room w
   next (aStep room) w = nowStep (C .running (w .venue)) room w
   next aBeat w = nowBeat (C .running (w .venue) && w .joined) w
   next (aBye b) w = nowBye (C .running (w .venue) && w .joined) (C .isBye b) b w
   next (aDelivery room) w = nowGets (w .queue) room w
-  next (aBreak room) w = noLine (C .ended room (w .member)) w
+  next (aBreak room) w = noLine (withMember (C .ended room (w .member)) w)
   next aDrop w = nowDrop (C .running (w .venue)) w
   next (aStray room b) w = nowStray (C .accepts room b (w .venue)) room b w
-  next (aCut k) w = noLine (C .restart k (w .member)) w
+  next (aCut k) w = noLine (withMember (C .restart k (w .member)) w)
 
   -- one after the other
   abbrev pub story : List (Happens (C .Fields)) → Now C → Now C

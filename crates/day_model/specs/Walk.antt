@@ -30,23 +30,23 @@ abbrev pub answer : Bool → Phase
 answer true = replaying
 answer false = closed
 
-abbrev pub after : Phase → Sent → Phase
-after closed x = closed
-after asked (response ok) = answer ok
-after asked (message m) = asked
-after asked complete = asked
-after asked heartbeat = asked
-after asked logout = closed
-after replaying (response ok) = replaying
-after replaying (message m) = replaying
-after replaying complete = live
-after replaying heartbeat = replaying
-after replaying logout = closed
-after live (response ok) = live
-after live (message m) = live
-after live complete = live
-after live heartbeat = live
-after live logout = closed
+abbrev pub phaseAfter : Phase → Sent → Phase
+phaseAfter closed x = closed
+phaseAfter asked (response ok) = answer ok
+phaseAfter asked (message m) = asked
+phaseAfter asked complete = asked
+phaseAfter asked heartbeat = asked
+phaseAfter asked logout = closed
+phaseAfter replaying (response ok) = replaying
+phaseAfter replaying (message m) = replaying
+phaseAfter replaying complete = live
+phaseAfter replaying heartbeat = replaying
+phaseAfter replaying logout = closed
+phaseAfter live (response ok) = live
+phaseAfter live (message m) = live
+phaseAfter live complete = live
+phaseAfter live heartbeat = live
+phaseAfter live logout = closed
 
 phase-takes : (b r : Bool) (m : Msg) (s : Member) → takes b r m s .phase ≡ s .phase
 phase-takes true true m s = refl
@@ -57,7 +57,7 @@ phase-answered : (cap : ℕ) (b : Bool) (s : Member) → answered cap b s .phase
 phase-answered cap true s = refl
 phase-answered cap false s = refl
 
-pub phase-got : (p : Phase) (cap : ℕ) (x : Sent) (s : Member) → s .phase ≡ p → gotIn p cap x s .phase ≡ after p x
+pub phase-got : (p : Phase) (cap : ℕ) (x : Sent) (s : Member) → s .phase ≡ p → gotIn p cap x s .phase ≡ phaseAfter p x
 phase-got closed cap x s e = e
 phase-got asked cap (response ok) s e = phase-answered cap ok s
 phase-got asked cap (message m) s e = e
@@ -126,7 +126,7 @@ countsAfter live heartbeat c = c
 countsAfter live logout c = c
 
 abbrev pub step : At → Sent → At
-step s x = record { phase = after (s .phase) x; counts = countsAfter (s .phase) x (s .counts) }
+step s x = record { phase = phaseAfter (s .phase) x; counts = countsAfter (s .phase) x (s .counts) }
 
 abbrev pub Next : Table → Msg → Type 0
 Next c m = m .num ≡ suc (c (m .unit))

@@ -77,10 +77,20 @@ AtEveryMoment = (date : ℕ) → isDay date ≡ true → (X : VenueCode) → Suc
 
 -- 'Each such restart is accepted, or answers 22, changes nothing and is followed by an opening for that day with room for its mark; either way no
 -- whole message that the cut kept is lost.' The restart has no buffer, so that there is nothing it could change.
-pub record Restarts (date : ℕ) (X : VenueCode) (w : Moment date X) (k : ℕ) : Type 0 where
-  pub answers : (restartOf date (take k (book date X w)) .refusal ≡ 0)
-      ⊎ ((restartOf date (take k (book date X w)) ≡ answer 22 blankBook) × (openOf date 16 .refusal ≡ 0) × (then date X w (aCut k) .member ≡ opened date))
-  pub kept : inBook (book date X (then date X w (aCut k))) ≡ wholeIn k (book date X w)
+module _ (date : ℕ) (X : VenueCode) (w : Moment date X) (k : ℕ) where
+  -- the restart on what the cut kept is accepted
+  pub record Accepted : Type 0 where
+    pub answers : restartOf date (take k (book date X w)) .refusal ≡ 0
+
+  -- or it answers 22, with no book; the opening has room for its mark, and the day goes on from what it leaves
+  pub record OpenedAfresh : Type 0 where
+    pub answers : restartOf date (take k (book date X w)) ≡ answer 22 blankBook
+    pub opens : openOf date 16 .refusal ≡ 0
+    pub goes-on : then date X w (aCut k) .member ≡ opened date
+
+  pub record Restarts : Type 0 where
+    pub restarted : Accepted ⊎ OpenedAfresh
+    pub kept : inBook (book date X (then date X w (aCut k))) ≡ wholeIn k (book date X w)
 
 abbrev pub EachRestart : Type 1
 EachRestart = (date : ℕ) → isDay date ≡ true → (X : VenueCode) → SuchAVenue X → (es : List Event) (k : ℕ) → Restarts date X (after date X es) k

@@ -124,7 +124,7 @@ module _ (date : ℕ) (d : isDay date ≡ true) (X : VenueCode) (such : SuchAVen
       let e = cut-22 date small d (g .made) k h in
       let q : then date X w (aCut k) .member ≡ opened date = ap (λ (a : bookAnswers.Answer). restartedBy date a (take k (w .member .bytes))) e in
       record {
-        answers = inr (e, opens-well date d small, q);
+        restarted = inr (record { answers = e; opens = opens-well date d small; goes-on = q });
         kept = ap (λ (x : Desk). inBook (x .bytes)) q ∙ ap (map (λ (m : Msg). m .body)) (opened-empty date d small ∙ sym (ap messages (within-short (g .made) k h)));
       }
 
@@ -136,7 +136,7 @@ module _ (date : ℕ) (d : isDay date ≡ true) (X : VenueCode) (such : SuchAVen
       let q : then date X w (aCut k) .member .bytes ≡ c .kept =
       ap (λ (a : bookAnswers.Answer). restartedBy date a (take k (w .member .bytes)) .bytes) e ∙ ap (take (c .book .length)) t ∙ cut-bytes c in
       record {
-        answers = inl (ap (λ (a : bookAnswers.Answer). a .refusal) e);
+        restarted = inl (record { answers = ap (λ (a : bookAnswers.Answer). a .refusal) e });
         kept = ap inBook q ∙ ap (λ (x : List Item). map (λ (m : Msg). m .body) (messages x)) (made-items (c .made) ∙ sym (i ∙ cut-keeps (g .made) c));
       }
 

@@ -13,12 +13,12 @@ use Rattle.wire.specs.Header.{unitOf}
 use Rattle.wire.specs.Frame.{framed}
 use Rattle.book.specs.declared.Book.{Book}
 use Rattle.book_restart.specs.Cut.{Made, opens, books, marks, sound, Cut}
-use Rattle.day_model.specs.Model.{Msg, Item, mark, entry, itemSize, size, onto, messages}
+use Rattle.day_model.specs.Model.{Msg, Item, mark, entry, itemSize, size, onto, messages, keep}
 use Rattle.day_model.specs.Model as day
 use Rattle.day_line.specs.Lines.{msgOf}
 use Rattle.session.specs.Booked.{itemOf, itemLength, isMark, itemsFrom, items, unless, first-items}
 use Rattle.session.specs.MadeItems.{itemsOf, coded, made-items, made-size}
-use Rattle.day_proved.specs.Words.{Bytes, inBook, keep, ofUnit, keepItem, within}
+use Rattle.day_proved.specs.Words.{Bytes, inBook, ofUnit, keepItem, within}
 
 -- ---- messages as bytes
 
@@ -30,7 +30,7 @@ pub bodies-back : (l : List Bytes) → bodies (map msgOf l) ≡ l
 bodies-back [] = refl
 bodies-back (b ∷ l) = ap (λ (r : List Bytes). b ∷ r) (bodies-back l)
 
-keep-bodies : (q : Bool) (b : Bytes) (r : List Msg) → bodies (day.keep q (msgOf b) r) ≡ keep q b (bodies r)
+keep-bodies : (q : Bool) (b : Bytes) (r : List Msg) → bodies (keep q (msgOf b) r) ≡ keep q b (bodies r)
 keep-bodies true b r = refl
 keep-bodies false b r = refl
 

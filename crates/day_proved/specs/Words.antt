@@ -2,9 +2,9 @@
 use Prim.Native.Nat.{ℕ, _-_}
 use mathlib.Core.Bool.{Bool, true, false}
 use mathlib.Core.List.{List, [], _∷_, map}
-use lib.Dec.{eqb, leb}
+use lib.Dec.{leb}
 use Rattle.wire.specs.Header.{unitOf}
-use Rattle.day_model.specs.Model.{Msg, Item, itemSize, messages}
+use Rattle.day_model.specs.Model.{Msg, Item, itemSize, messages, ofUnitBy}
 use Rattle.session.specs.Booked.{items}
 
 -- bytes, and messages as bytes
@@ -15,15 +15,9 @@ Bytes = List ℕ
 abbrev pub inBook : Bytes → List Bytes
 inBook bytes = map (λ (m : Msg). m .body) (messages (items bytes))
 
--- is it one of these?
-abbrev pub keep : Bool → Bytes → List Bytes → List Bytes
-keep true b r = b ∷ r
-keep false b r = r
-
--- those of a unit
+-- those of a unit, in their order
 abbrev pub ofUnit : ℕ → List Bytes → List Bytes
-ofUnit u [] = []
-ofUnit u (b ∷ bs) = keep (eqb u (unitOf b)) b (ofUnit u bs)
+ofUnit u bs = ofUnitBy unitOf u bs
 
 -- the items of a book, marks and messages, that end within its first k bytes
 abbrev pub keepItem : Bool → Item → List Item → List Item

@@ -28,8 +28,8 @@ pub record Desk : Type 0 where
   pub bytes : List ℕ
 
 -- the desk after a call that lent the book's buffer
-abbrev pub after : Session → ℕ → List ℕ → List ℕ → Desk
-after s room buffer bytes = record { session = s; bytes = kept (s .book .length) room buffer bytes }
+abbrev pub deskAfter : Session → ℕ → List ℕ → List ℕ → Desk
+deskAfter s room buffer bytes = record { session = s; bytes = kept (s .book .length) room buffer bytes }
 
 -- opening for the day, with room for the mark
 abbrev pub opened : ℕ → Desk
@@ -37,11 +37,11 @@ opened date = record { session = closedWith (openOf date 16 .book); bytes = take
 
 -- a message from the venue, with a buffer lent for the book
 abbrev pub gets : ℕ → List ℕ → Desk → Desk
-gets room b d = after (receiveOf (d .session) room b .session) room (receiveBuffer (d .session) (lent room (d .bytes)) b) (d .bytes)
+gets room b d = deskAfter (receiveOf (d .session) room b .session) room (receiveBuffer (d .session) (lent room (d .bytes)) b) (d .bytes)
 
 -- a break
 abbrev pub ended : ℕ → Desk → Desk
-ended room d = after (brokenBy (d .session) room) room (brokenBuffer (d .session) (lent room (d .bytes))) (d .bytes)
+ended room d = deskAfter (brokenBy (d .session) room) room (brokenBuffer (d .session) (lent room (d .bytes))) (d .bytes)
 
 -- a login with the whole table, into a buffer in which anything may stand: whether it is written, the state after it, and what goes onto the line, which
 -- is the message that the call leaves in the buffer's front

@@ -27,7 +27,7 @@ use Rattle.session.specs.declared.Phase.the-variants.{Closed, Asked, Rep
 use Rattle.session.specs.declared.Session.{Session}
 use Rattle.session.specs.Sessions.{isClosed, isOpen, passes, endedBy, receiveRefusal, receivedBy, receiveOf, receivedBuffer, receiveBuffer, respondedBy, respondedBuffer, receivedIn}
 use Rattle.session.specs.Booked.{items}
-use Rattle.session.specs.MemberDay.{after, gets, phaseOf, refusedForRoom}
+use Rattle.session.specs.MemberDay.{deskAfter, gets, phaseOf, refusedForRoom}
 use Rattle.session.specs.MemberKinds.{Kind, aResponse, aComplete, aLogout, aBeat, anAcknowledgment, anExecution, isNext, Application, acknowledgment, execution, not-next, append-is}
 use Rattle.session.specs.MadeItems.{made-items, raised-is}
 use Rattle.session.specs.MemberSteps.{capOf, seen, deskOf, Comes, comes-as, left-alone, as-it-was, at-end, size-is, room-as, ends-as, books-as}
@@ -77,7 +77,7 @@ module _ {date k : ℕ} (o : OutgoingNumber) {b : Book} {bytes : List ℕ} (made
     unfolding receiveOf receiveBuffer
     refused n = rw (lent-refusal, ne-eqb (receiveRefusal (stateIn p) room m) 0 n) (left-alone made p o room)
 
-    taken : receiveRefusal (stateIn p) room m ≡ 0 → gets room m (deskOf p o b bytes) ≡ after (receivedBy (stateIn p) room m) room (receivedBuffer (stateIn p) (lent room bytes) m) bytes
+    taken : receiveRefusal (stateIn p) room m ≡ 0 → gets room m (deskOf p o b bytes) ≡ deskAfter (receivedBy (stateIn p) room m) room (receivedBuffer (stateIn p) (lent room bytes) m) bytes
     unfolding receiveOf receiveBuffer
     taken z = rw (lent-refusal, eq-eqb (receiveRefusal (stateIn p) room m) 0 z, f .whole)
 
@@ -99,8 +99,8 @@ module _ {date k : ℕ} (o : OutgoingNumber) {b : Book} {bytes : List ℕ} (made
       → (x : Sent) → says m ≡ x → got (capOf room) x (seen (deskOf p o b bytes)) ≡ ends (capOf room) (seen (deskOf p o b bytes))
       → Comes date (gets room m (deskOf p o b bytes)) (got (capOf room) (says m) (seen (deskOf p o b bytes)))
   ending p v e z q r x y g =
-      comes-as (taken p z ∙ ap₂ (λ (s : Session) (l : List ℕ). after s room l bytes) q r)
-      (subst (λ (w : Member). Comes date (after (endedBy (stateIn p) room) room (closeBuffer b (lent room bytes)) bytes) w)
+      comes-as (taken p z ∙ ap₂ (λ (s : Session) (l : List ℕ). deskAfter s room l bytes) q r)
+      (subst (λ (w : Member). Comes date (deskAfter (endedBy (stateIn p) room) room (closeBuffer b (lent room bytes)) bytes) w)
       (sym (ap (λ (t : Sent). got (capOf room) t (seen (deskOf p o b bytes))) y ∙ g)) (ends-as made p o room))
 
   -- into another phase
@@ -109,7 +109,7 @@ module _ {date k : ℕ} (o : OutgoingNumber) {b : Book} {bytes : List ℕ} (made
       → (x : Sent) → says m ≡ x → got (capOf room) x (seen (deskOf p o b bytes)) ≡ seen (deskOf q n b bytes)
       → Comes date (gets room m (deskOf p o b bytes)) (got (capOf room) (says m) (seen (deskOf p o b bytes)))
   moving p q n z s l x y g =
-      comes-as (taken p z ∙ ap₂ (λ (t : Session) (u : List ℕ). after t room u bytes) s l ∙ left-alone made q n room)
+      comes-as (taken p z ∙ ap₂ (λ (t : Session) (u : List ℕ). deskAfter t room u bytes) s l ∙ left-alone made q n room)
       (subst (λ (w : Member). Comes date (deskOf q n b bytes) w) (sym (ap (λ (t : Sent). got (capOf room) t (seen (deskOf p o b bytes))) y ∙ g)) (as-it-was made q n))
 
   response-in-asked : typeOf m ≡ 0x24 → (q : Bool) → eqb (getD m 10 0) 65 ≡ q → Comes date (gets room m (deskOf Asked o b bytes)) (got (capOf room) (says m) (seen (deskOf Asked o b bytes)))
@@ -148,7 +148,7 @@ module _ {date k : ℕ} (o : OutgoingNumber) {b : Book} {bytes : List ℕ} (made
         let l : length bytes + length m ≤ room = omega (arith, h, size-is made, at-end made) in
         let made′ : Made date (suc k) (appendedBy b m) (bytes ++ m) = subst (λ (x : List ℕ). Made date (suc k) (appendedBy b x) (bytes ++ x)) (f .whole) (books room m made z) in
         let d : gets room m (deskOf p o b bytes) ≡ deskOf p o (appendedBy b m) (bytes ++ m) =
-        taken p (passed ∙ z) ∙ ap₂ (λ (s : Session) (y : List ℕ). after s room y bytes) book-after buffer-after ∙ books-as made p o room m (f .whole) z l in
+        taken p (passed ∙ z) ∙ ap₂ (λ (s : Session) (y : List ℕ). deskAfter s room y bytes) book-after buffer-after ∙ books-as made p o room m (f .whole) z l in
         let w : items (bytes ++ m) ≡ items bytes ++ entry (msgOf m) ∷ [] =
         ap (λ (x : List ℕ). items (bytes ++ x)) (sym (f .whole)) ∙ made-items (books room m made z) ∙ ap₂ (λ (x : List Item) (y : List ℕ). x ++ entry (msgOf y) ∷ []) (sym (made-items made)) (f .whole) in
         let st = next b m (appended-has b room m z .reads) .1 in

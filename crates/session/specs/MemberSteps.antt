@@ -21,7 +21,7 @@ use Rattle.session.specs.declared.Phase.{Phase}
 use Rattle.session.specs.declared.Phase.the-variants.{Closed}
 use Rattle.session.specs.Sessions.{endedBy}
 use Rattle.session.specs.Booked.{items}
-use Rattle.session.specs.MemberDay.{Desk, after, phaseOf}
+use Rattle.session.specs.MemberDay.{Desk, deskAfter, phaseOf}
 use Rattle.session.specs.MemberKinds.{room-is}
 use Rattle.session.specs.MadeItems.{below, made-items, made-counts, made-size}
 
@@ -54,7 +54,7 @@ module _ {date k : ℕ} {b : Book} {bytes : List ℕ} (made : Made date k b byte
   at-end = sound made .at-end
 
   -- the state of a desk whose buffer was left as it was
-  pub left-alone : (p : Phase) (o : OutgoingNumber) (room : ℕ) → after (record { phase = p; outgoing = o; book = b }) room (lent room bytes) bytes ≡ deskOf p o b bytes
+  pub left-alone : (p : Phase) (o : OutgoingNumber) (room : ℕ) → deskAfter (record { phase = p; outgoing = o; book = b }) room (lent room bytes) bytes ≡ deskOf p o b bytes
   left-alone p o room = ap (deskOf p o b) (ap (λ (n : ℕ). kept n room (lent room bytes) bytes) at-end ∙ kept-same room bytes)
 
   pub as-it-was : (p : Phase) (o : OutgoingNumber) → Comes date (deskOf p o b bytes) (record { phase = phaseOf p; table = lastOf (b .table); book = items bytes })
@@ -68,7 +68,7 @@ module _ {date k : ℕ} {b : Book} {bytes : List ℕ} (made : Made date k b byte
 
   -- ---- the session's end
 
-  unmarked : (p : Phase) (o : OutgoingNumber) (room : ℕ) → roomless b room 16 ≡ true → Comes date (after (endedBy (record { phase = p; outgoing = o; book = b }) room) room (closeBuffer b (lent room bytes)) bytes)
+  unmarked : (p : Phase) (o : OutgoingNumber) (room : ℕ) → roomless b room 16 ≡ true → Comes date (deskAfter (endedBy (record { phase = p; outgoing = o; book = b }) room) room (closeBuffer b (lent room bytes)) bytes)
       (ends (capOf room) (record { phase = phaseOf p; table = lastOf (b .table); book = items bytes }))
   unfolding endedBy closeOf closeBuffer
   unmarked p o room e =
@@ -81,7 +81,7 @@ module _ {date k : ℕ} {b : Book} {bytes : List ℕ} (made : Made date k b byte
       negated false h = refl
       negated true h = absurd (true≢false (sym h))
 
-  marked-too : (p : Phase) (o : OutgoingNumber) (room : ℕ) → roomless b room 16 ≡ false → Comes date (after (endedBy (record { phase = p; outgoing = o; book = b }) room) room (closeBuffer b (lent room bytes)) bytes)
+  marked-too : (p : Phase) (o : OutgoingNumber) (room : ℕ) → roomless b room 16 ≡ false → Comes date (deskAfter (endedBy (record { phase = p; outgoing = o; book = b }) room) room (closeBuffer b (lent room bytes)) bytes)
       (ends (capOf room) (record { phase = phaseOf p; table = lastOf (b .table); book = items bytes }))
   unfolding endedBy closeOf closeBuffer
   marked-too p o room e =
@@ -103,11 +103,11 @@ module _ {date k : ℕ} {b : Book} {bytes : List ℕ} (made : Made date k b byte
       negated true h = refl
       negated false h = absurd (true≢false h)
 
-  pub ends-as : (p : Phase) (o : OutgoingNumber) (room : ℕ) → Comes date (after (endedBy (record { phase = p; outgoing = o; book = b }) room) room (closeBuffer b (lent room bytes)) bytes)
+  pub ends-as : (p : Phase) (o : OutgoingNumber) (room : ℕ) → Comes date (deskAfter (endedBy (record { phase = p; outgoing = o; book = b }) room) room (closeBuffer b (lent room bytes)) bytes)
       (ends (capOf room) (record { phase = phaseOf p; table = lastOf (b .table); book = items bytes }))
   ends-as p o room = by (roomless b room 16) refl
     where
-      by : (q : Bool) → roomless b room 16 ≡ q → Comes date (after (endedBy (record { phase = p; outgoing = o; book = b }) room) room (closeBuffer b (lent room bytes)) bytes)
+      by : (q : Bool) → roomless b room 16 ≡ q → Comes date (deskAfter (endedBy (record { phase = p; outgoing = o; book = b }) room) room (closeBuffer b (lent room bytes)) bytes)
           (ends (capOf room) (record { phase = phaseOf p; table = lastOf (b .table); book = items bytes }))
       by true e = unmarked p o room e
       by false e = marked-too p o room e
@@ -115,7 +115,7 @@ module _ {date k : ℕ} {b : Book} {bytes : List ℕ} (made : Made date k b byte
   -- ---- a message of the line that is the next of its unit, with room
 
   pub books-as : (p : Phase) (o : OutgoingNumber) (room : ℕ) (s : List ℕ) → framed s ≡ s → appendRefusal b room s ≡ 0 → length bytes + length s ≤ room
-      → after (record { phase = p; outgoing = o; book = appendedBy b s }) room (patched (lent room bytes) (b .length) s) bytes ≡ deskOf p o (appendedBy b s) (bytes ++ s)
+      → deskAfter (record { phase = p; outgoing = o; book = appendedBy b s }) room (patched (lent room bytes) (b .length) s) bytes ≡ deskOf p o (appendedBy b s) (bytes ++ s)
   unfolding appendedBy
   books-as p o room s w z h =
       let n : b .length + length s ≡ length bytes + length s = omega (arith, at-end) in

@@ -1,5 +1,5 @@
--- A replay completes: any such venue whose steps are document 01's, stepped with room for the longest message, sends Replay Complete at the latest when it has made
--- as many steps as the log held messages at the login; and so does the bench after every login that it takes. Assumes nothing.
+-- A replay completes: any such venue whose steps are document 01's, stepped with room for the longest message, sends Replay Complete at the latest when
+-- it has made as many steps as the log held messages at the login; and so does the bench after every login that it takes. Assumes nothing.
 use Prim.Native.Nat.{ℕ, zero, suc, _+_, _≤_, _<_}
 use native.Mathlib.Omega.{arith}
 use mathlib.Core.Logic.{_⊎_, inl, inr}
@@ -78,7 +78,7 @@ module _ (L : Line) (B : VenueCode) (N : MeetsVenue L B) (room : ℕ) where
   stepsTo (suc n) v = stepsTo n (B .stepTo room v)
 
   -- after so many steps the next one sends Replay Complete, and nothing else
-  pub record Completes (v : B .Ven) (d : ℕ) : Type 0 where
+  pub record SendsComplete (v : B .Ven) (d : ℕ) : Type 0 where
     pub steps : ℕ
     pub few : steps ≤ d
     pub sends : map (L .says) (B .stepSends room (stepsTo steps v)) ≡ complete ∷ []
@@ -88,17 +88,17 @@ module _ (L : Line) (B : VenueCode) (N : MeetsVenue L B) (room : ℕ) where
   runs v d r = sym (N .running-is v) ∙ r .running
 
   module _ (T : StepsAsTold L B N) (roomy : T .stepRoom ≤ room) where
-    now : (v : B .Ven) (d : ℕ) → N .GoodV v → B .running v ≡ true → Tells (docStep (suc (length (N .viewV v .log))) (N .viewV v)) → Completes v d
+    now : (v : B .Ven) (d : ℕ) → N .GoodV v → B .running v ≡ true → Tells (docStep (suc (length (N .viewV v .log))) (N .viewV v)) → SendsComplete v d
     now v d g r t =
         let s = T .steps-as-told room v g r roomy in
         record { steps = 0; few = omega arith; sends = s .sent ∙ t .sent; told = ap (λ (x : Venue). x .told) (s .to) ∙ t .told }
 
     -- A REPLAY COMPLETES
-    pub completes : (d : ℕ) (v : B .Ven) → N .GoodV v → Replaying (N .viewV v) d → Completes v d
+    pub completes : (d : ℕ) (v : B .Ven) → N .GoodV v → Replaying (N .viewV v) d → SendsComplete v d
     completes zero v g r = now v 0 g (runs v 0 r) (tells-now (length (N .viewV v .log)) (N .viewV v) (r .untold) (omega (arith, r .inside, r .far)))
     completes (suc d) v g r = go (further (length (N .viewV v .log)) d (N .viewV v) r) (λ q. completes d (B .stepTo room v) (N .step-good room v g (runs v (suc d) r)) q)
       where
-        go : Goes d (docStep (suc (length (N .viewV v .log))) (N .viewV v)) → (Replaying (N .viewV (B .stepTo room v)) d → Completes (B .stepTo room v) d) → Completes v (suc d)
+        go : Goes d (docStep (suc (length (N .viewV v .log))) (N .viewV v)) → (Replaying (N .viewV (B .stepTo room v)) d → SendsComplete (B .stepTo room v) d) → SendsComplete v (suc d)
         go (inl t) ih = now v (suc d) g (runs v (suc d) r) t
         go (inr q) ih =
             let s = T .steps-as-told room v g (runs v (suc d) r) roomy in
@@ -106,7 +106,7 @@ module _ (L : Line) (B : VenueCode) (N : MeetsVenue L B) (room : ℕ) where
             record { steps = suc (c .steps); few = omega (arith, c .few); sends = c .sends; told = c .told }
 
     -- and so after every login that is taken
-    pub login-completes : (lent : ℕ) (b : Bytes) (v : B .Ven) → N .GoodV v → B .accepts lent b v ≡ true → Completes (B .takesLogin lent b v) (length (N .viewV v .log))
+    pub login-completes : (lent : ℕ) (b : Bytes) (v : B .Ven) → N .GoodV v → B .accepts lent b v ≡ true → SendsComplete (B .takesLogin lent b v) (length (N .viewV v .log))
     login-completes lent b v g ok =
         let t = N .strays-is lent b v ok g in
         let e = t .1 in
@@ -118,7 +118,7 @@ module _ (L : Line) (B : VenueCode) (N : MeetsVenue L B) (room : ℕ) where
 -- THE BENCH COMPLETES every replay: after a login that it takes, so many steps with 2,048 bytes of room are enough as its log holds messages, and one
 -- more sends Replay Complete
 pub bench-completes : (room lent : ℕ) (b : Bytes) (w : Bench) → 2048 ≤ room → GoodV w → accepts lent b w ≡ true
-    → Completes ourLine ourVenue meets room (takesLogin lent b w) (length (messagesIn (w .bytes)))
+    → SendsComplete ourLine ourVenue meets room (takesLogin lent b w) (length (messagesIn (w .bytes)))
 unfolding meets steps-told
 bench-completes room lent b w h g ok =
     rw (sym (map-long msgOf (messagesIn (w .bytes)))) (login-completes ourLine ourVenue meets room steps-told h lent b w g ok)

@@ -56,7 +56,7 @@ module _ (room : ℕ) (b : Bytes) (w : Bench) (g : GoodV w) (ok : accepts room b
           in-at = omega arith;
           in-upto = omega arith;
           before = λ _. omega arith;
-          after = λ z. absurd (false≢true z);
+          beyond = λ z. absurd (false≢true z);
           outside = λ z. absurd (true≢false z);
         };
       }

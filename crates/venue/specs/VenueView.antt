@@ -69,7 +69,7 @@ pub record At (v : state.Venue) (ms : List Bytes) (k j : ℕ) : Type 0 where
   pub in-at : k ≤ length ms
   pub in-upto : j ≤ length ms
   pub before : v .told ≡ false → k ≤ j
-  pub after : v .told ≡ true → j ≤ k
+  pub beyond : v .told ≡ true → j ≤ k
   pub outside : v .running ≡ false → (v .told ≡ false) × (k ≡ 0) × (j ≡ 0)
 
 pub record GoodV (w : Bench) : Type 0 where
