@@ -6,12 +6,11 @@ use mathlib.Core.List.{List, [], _∷_, _++_, map}
 use Prim.Native.Nat.{ℕ, _≤_}
 use lib.ListN.{length, take}
 use Rattle.day_model.specs.Moments.{withMember, noLine, onLine}
-use Rattle.day_model.specs.Model.{Msg, Table, ofUnit, count, messages, Phase, closed, asked, replaying, live, Sent, response, complete, heartbeat, logout, Member, broken, inPhase, got, full, restartOf, restarted, Venue, took, stopped, logged, nextInLog, World, Event, logs, logsIn, takesIt, beats, logsOut, delivers, breaks, drops, strays, cuts, apply, run, start}
+use Rattle.day_model.specs.Model.{Msg, Table, ofUnit, count, messages, Phase, closed, asked, replaying, live, Sent, response, complete, heartbeat, logout, Member, broken, inPhase, got, full, restartOf, restarted, Venue, took, stopped, logged, nextInLog, World, Event, logs, logsIn, takesIt, rejects, beats, logsOut, delivers, breaks, drops, strays, cuts, apply, run, start}
 use Rattle.day_model.specs.Inv.{Inv, inv-run, inv-asking}
-use Rattle.day_model.specs.Safe.{Readable, counted}
-use Rattle.day_model.specs.Laws.{prefix-length}
+use Rattle.day_model.specs.Safe.{Readable}
 use Rattle.day_model.specs.Steps.{movesTo, movesSend, many, run-many}
-use Rattle.day_model.specs.Story.{Bytes, Code, Happens, theLog, aLogin, aSending, aHearing, aBeat, aBye, aTaking, aStep, aStray, aDelivery, aBreak, aDrop, aCut, Now, nowLogin, nowTaken, nowStep, nowBeat, nowBye, nowGets, nowDrop, nowStray, next, story, dawn, All}
+use Rattle.day_model.specs.Story.{Bytes, Code, Happens, theLog, aLogin, aSending, aHearing, aBeat, aBye, aNo, aTaking, aStep, aStray, aDelivery, aBreak, aDrop, aCut, Now, nowLogin, nowTaken, nowStep, nowBye, nowNo, nowGets, nowDrop, nowStray, next, story, dawn, All}
 use Rattle.day_model.specs.Demand.{exact, restarts, TurnsLive, complete-whole, must-complete}
 
 -- ---- what the code's functions must be proved to do: an equation a function
@@ -84,6 +83,8 @@ pub record Meets (C : Code) : Type 1 where
   pub beat-is : says (C .beat) ≡ heartbeat
   pub bye-fine : (b : Bytes) → C .isBye b ≡ true → Fine (C .bye b)
   pub bye-is : (b : Bytes) → C .isBye b ≡ true → says (C .bye b) ≡ logout
+  pub no-fine : (b : Bytes) → C .isNo b ≡ true → Fine (C .no b)
+  pub no-is : (b : Bytes) → C .isNo b ≡ true → says (C .no b) ≡ response false
 
 pub all-append : (P : Bytes → Type 0) (a b : List Bytes) → All P a → All P b → All P (a ++ b)
 all-append P [] b h k = k
@@ -160,9 +161,7 @@ module _ (C : Code) (M : Meets C) where
   sim-taken w true true room h e f g =
       let o = g .asking e in
       let i = M .accepts-idle room (w .asking) (w .venue) f in
-      let k = h .waits e in
-      let low : (u : ℕ) → M .lists (w .asking) u ≤ count u (M .viewV (w .venue) .log) =
-      λ u. rw (k .lists, counted (M .viewV (w .venue) .log) (M .view (w .member)) (h .safe) u) (prefix-length (h .safe .firsts u)) in
+      let low : (u : ℕ) → M .lists (w .asking) u ≤ count u (M .viewV (w .venue) .log) = h .waits e .low in
       record {
         good = record { member = g .member; venue = M .takes-good room (w .asking) (w .venue) f (g .venue); queue = all-append (M .Fine) (w .queue) (C .answers room (w .asking) (w .venue)) (g .queue) (M .answers-fine room (w .asking) (w .venue) f (g .venue)); asking = λ z. absurd (false≢true z) };
         events = takesIt ∷ [];
@@ -179,21 +178,28 @@ module _ (C : Code) (M : Meets C) where
         is = rw (run-many (s .times) (seen w) (M .running-is (w .venue) ∙ e)) (rw (put-is (M .says) (w .joined) (w .queue) (C .stepSends room (w .venue)), s .to, s .sent));
       }
 
-  sim-beat : (w : Now C) (r : Bool) → (C .running (w .venue) && w .joined) ≡ r → GoodNow w → Sim w (nowBeat C r w)
-  sim-beat w false e g = record { good = g; events = []; is = refl }
-  sim-beat w true e g = record {
+  sim-beat : (w : Now C) → GoodNow w → Sim w (next C aBeat w)
+  sim-beat w g = record {
     good = record { member = g .member; venue = g .venue; queue = all-append (M .Fine) (w .queue) (C .beat ∷ []) (g .queue) (M .beat-fine, tt); asking = g .asking };
     events = beats ∷ [];
-    is = rw (M .running-is (w .venue), e, map-++ (M .says) (w .queue) (C .beat ∷ []), M .beat-is);
+    is = rw (map-++ (M .says) (w .queue) (C .beat ∷ []), M .beat-is);
   }
 
-  sim-bye : (w : Now C) (r k : Bool) (b : Bytes) → (C .running (w .venue) && w .joined) ≡ r → C .isBye b ≡ k → GoodNow w → Sim w (nowBye C r k b w)
-  sim-bye w false k b e f g = record { good = g; events = []; is = refl }
-  sim-bye w true false b e f g = record { good = g; events = []; is = refl }
-  sim-bye w true true b e f g = record {
+  sim-bye : (w : Now C) (k : Bool) (b : Bytes) → C .isBye b ≡ k → GoodNow w → Sim w (nowBye C k b w)
+  sim-bye w false b f g = record { good = g; events = []; is = refl }
+  sim-bye w true b f g = record {
     good = record { member = g .member; venue = g .venue; queue = all-append (M .Fine) (w .queue) (C .bye b ∷ []) (g .queue) (M .bye-fine b f, tt); asking = g .asking };
     events = logsOut ∷ [];
-    is = rw (M .running-is (w .venue), e, map-++ (M .says) (w .queue) (C .bye b ∷ []), M .bye-is b f);
+    is = rw (map-++ (M .says) (w .queue) (C .bye b ∷ []), M .bye-is b f);
+  }
+
+  sim-no : (w : Now C) (a k : Bool) (b : Bytes) → w .asks ≡ a → C .isNo b ≡ k → GoodNow w → Sim w (nowNo C a k b w)
+  sim-no w false k b e f g = record { good = g; events = []; is = refl }
+  sim-no w true false b e f g = record { good = g; events = []; is = refl }
+  sim-no w true true b e f g = record {
+    good = record { member = g .member; venue = g .venue; queue = all-append (M .Fine) (w .queue) (C .no b ∷ []) (g .queue) (M .no-fine b f, tt); asking = λ z. absurd (false≢true z) };
+    events = rejects ∷ [];
+    is = rw (e, map-++ (M .says) (w .queue) (C .no b ∷ []), M .no-is b f);
   }
 
   sim-gets : (w : Now C) (q : List Bytes) (room : ℕ) → w .queue ≡ q → GoodNow w → Sim w (nowGets C q room w)
@@ -244,8 +250,9 @@ module _ (C : Code) (M : Meets C) where
   sim (aHearing b) w h g = sim-hears w b g
   sim (aTaking room) w h g = sim-taken w (w .asks) (C .accepts room (w .asking) (w .venue)) room h refl refl g
   sim (aStep room) w h g = sim-step w (C .running (w .venue)) room refl g
-  sim aBeat w h g = sim-beat w (C .running (w .venue) && w .joined) refl g
-  sim (aBye b) w h g = sim-bye w (C .running (w .venue) && w .joined) (C .isBye b) b refl refl g
+  sim aBeat w h g = sim-beat w g
+  sim (aBye b) w h g = sim-bye w (C .isBye b) b refl g
+  sim (aNo b) w h g = sim-no w (w .asks) (C .isNo b) b refl refl g
   sim aDrop w h g = sim-drop w (C .running (w .venue)) refl g
   sim (aStray room b) w h g = sim-stray w (C .accepts room b (w .venue)) room b refl g
   sim (aDelivery room) w h g = sim-gets w (w .queue) room refl g

@@ -52,6 +52,8 @@ pub record VenueCode : Type 1 where
   pub beat : Bytes
   pub isBye : Bytes → Bool
   pub bye : Bytes → Bytes
+  pub isNo : Bytes → Bool
+  pub no : Bytes → Bytes
 
 -- both together
 abbrev pub code : MemberCode → VenueCode → Code
@@ -84,6 +86,8 @@ code A B = record {
   beat = B .beat;
   isBye = B .isBye;
   bye = B .bye;
+  isNo = B .isNo;
+  no = B .no;
 }
 
 -- such a member: an equation a function, on states that it can come to
@@ -139,7 +143,7 @@ pub record MeetsVenue (L : Line) (B : VenueCode) : Type 1 where
   pub strays-is : (room : ℕ) (b : Bytes) (v : B .Ven) → B .accepts room b v ≡ true → GoodV v → (t : Table) × (viewV (B .takesLogin room b v) ≡ took t (viewV v))
   -- ours is sent what is above the numbers that it lists; it lists no more than the log holds
   pub takes-is : (room : ℕ) (b : Bytes) (v : B .Ven) → L .OurLogin b → B .accepts room b v ≡ true → GoodV v → ((u : ℕ) → L .lists b u ≤ count u (viewV v .log)) → viewV (B .takesLogin room b v) ≡ took (L .lists b) (viewV v)
-  -- it is answered with status A
+  -- what is taken is answered with status A
   pub answers-fine : (room : ℕ) (b : Bytes) (v : B .Ven) → B .accepts room b v ≡ true → GoodV v → All (L .Fine) (B .answers room b v)
   pub answers-is : (room : ℕ) (b : Bytes) (v : B .Ven) → B .accepts room b v ≡ true → GoodV v → map (L .says) (B .answers room b v) ≡ response true ∷ []
   -- a step goes some way in the log's order, sends of it what is above, and Replay Complete at the place where the log stood at login; it may send
@@ -150,11 +154,13 @@ pub record MeetsVenue (L : Line) (B : VenueCode) : Type 1 where
   -- a break ends the session
   pub stop-good : (v : B .Ven) → GoodV v → GoodV (B .stop v)
   pub stop-is : (v : B .Ven) → GoodV v → viewV (B .stop v) ≡ stopped (viewV v)
-  -- heartbeats and Logouts that it may send at any time of a session
+  -- heartbeats and Logouts, which it may send at any time, and answers of another status, with which it may turn a login down, can be read as such
   pub beat-fine : L .Fine (B .beat)
   pub beat-is : L .says (B .beat) ≡ heartbeat
   pub bye-fine : (b : Bytes) → B .isBye b ≡ true → L .Fine (B .bye b)
   pub bye-is : (b : Bytes) → B .isBye b ≡ true → L .says (B .bye b) ≡ logout
+  pub no-fine : (b : Bytes) → B .isNo b ≡ true → L .Fine (B .no b)
+  pub no-is : (b : Bytes) → B .isNo b ≡ true → L .says (B .no b) ≡ response false
 
 -- one step of document 01's, of a venue v: to v′, with xs sent
 pub record StepsAs (v v′ : Venue) (xs : List Sent) : Type 0 where
@@ -226,4 +232,6 @@ both L A B M N = record {
   beat-is = N .beat-is;
   bye-fine = N .bye-fine;
   bye-is = N .bye-is;
+  no-fine = N .no-fine;
+  no-is = N .no-is;
 }

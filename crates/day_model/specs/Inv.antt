@@ -1,6 +1,6 @@
 -- What holds at every moment, and that each event keeps it. Assumes nothing.
 use mathlib.Core.Path.{_≡_, refl, sym, ap, subst, _∙_}
-use mathlib.Core.Bool.{Bool, true, false, _&&_, _||_, true≢false, false≢true}
+use mathlib.Core.Bool.{Bool, true, false, _||_, true≢false, false≢true}
 use mathlib.Core.List.{List, [], _∷_, _++_, append-nil, List·Memᴰ, Memᴰ·append-left, List·Memᴰ·head, List·Memᴰ·tail, Memᴰ·cast}
 use Prim.Native.Nat.{ℕ, zero, suc, _+_, _≤_, _<_, max}
 use native.Mathlib.Omega.{arith}
@@ -8,11 +8,11 @@ use lib.Dec.{ltb, eqb}
 use lib.ListN.{length, take, getD, drop, length-append}
 use lib.Seq.{take-append-le, take-suc, split-at, take-append-seam}
 use borrow.Author.Tests.{eqb-true, eqb-false, eq-eqb, ltb-true, ltb-false}
-use Rattle.day_model.specs.Moments.{withVenue, withQueue, onLine}
-use Rattle.day_model.specs.Model.{Msg, Item, mark, Table, bump, keep, ofUnit, count, pick, Phase, closed, asked, replaying, live, Sent, response, message, complete, heartbeat, logout, Member, ends, full, Restart, short, bad, good, restartOf, restarted, Venue, above, none-msg, Move, idle, tells, passes, moveOf, move, sends, moved, logged, nextInLog, World, Event, logs, logsIn, takesIt, steps, beats, logsOut, delivers, breaks, drops, strays, cuts, alone, loggingIn, taking, stepping, beating, loggingOut, delivering, breaking, dropping, straying, cut, apply, run, start}
+use Rattle.day_model.specs.Moments.{withVenue, withQueue, sending, onLine, leaving}
+use Rattle.day_model.specs.Model.{Msg, Item, mark, Table, bump, keep, ofUnit, count, pick, Phase, closed, asked, replaying, live, Sent, response, message, complete, heartbeat, logout, Member, ends, full, Restart, short, bad, good, restartOf, restarted, Venue, took, above, none-msg, Move, idle, tells, passes, moveOf, move, sends, moved, logged, nextInLog, World, Event, logs, logsIn, takesIt, rejects, steps, beats, logsOut, delivers, breaks, drops, strays, cuts, alone, loggingIn, taking, rejecting, stepping, delivering, breaking, dropping, straying, cut, apply, run, start}
 use Rattle.day_model.specs.Laws.{ofUnit-append, count-snoc, NumberedFrom, numbered-snoc, Prefix, prefix-refl, prefix-more, prefix-length}
 use Rattle.day_model.specs.Safe.{Numbered, Safe, counted, safe-ends, safe-got, safe-grows, safe-restarted, InLog}
-use Rattle.day_model.specs.Walk.{walk, walk-then, walk-map, phaseAfter, phase-got, Orderly, Told, At, step, Next, Whole, Gapless, Passed, ReachedIn, Reached, table-got}
+use Rattle.day_model.specs.Walk.{walk, walk-then, walk-map, phaseAfter, phase-got, Orderly, Told, At, step, Next, Whole, Gapless, Passed, ReachedIn, Reached, Awaits, table-got}
 
 abbrev pub AllIn : List Msg → List Sent → Type 0
 AllIn log [] = Unit {0}
@@ -28,12 +28,17 @@ pub record Session (v : Venue) (held : List Msg) : Type 0 where
   pub before : v .told ≡ false → v .at ≤ v .upTo
   pub within : v .at ≤ length (v .log)
 
--- a login that the venue has not taken
+-- a login that the venue has not answered: no session is on the line, and it lists no more than the log holds
 pub record Waits (w : World) : Type 0 where
-  pub phase : w .member .phase ≡ asked
-  pub empty : w .queue ≡ []
-  pub lists : w .asking ≡ w .member .table
   pub apart : w .joined ≡ false
+  pub low : (u : ℕ) → w .asking u ≤ count u (w .venue .log)
+
+-- what the member will have come to when the line is empty: the phase alone, and with the counts
+abbrev pub Expects : Bool → Bool → Bool → Phase → Type 0
+Expects a j told p = (a ≡ true → p ≡ asked) × OnLine j told p
+
+abbrev pub Stands : Bool → Table → Bool → Venue → At → Type 0
+Stands a t j v s = (a ≡ true → Awaits t (s .phase) (s .counts)) × Reached j v s
 
 abbrev pub here : Member → At
 here s = record { phase = s .phase; counts = s .table }
@@ -45,8 +50,10 @@ pub record Inv (w : World) : Type 0 where
   pub heldIs : Prefix (w .held) (w .venue .log)
   pub session : w .joined ≡ true → Session (w .venue) (w .held)
   pub waits : w .asks ≡ true → Waits w
-  pub orderly : w .asks ≡ false → w .left ≡ false → walk phaseAfter Orderly (OnLine (w .joined) (w .venue .told)) (w .member .phase) (w .queue)
-  pub gapless : w .asks ≡ false → w .refused ≡ false → walk step (Gapless (w .held)) (Reached (w .joined) (w .venue)) (here (w .member)) (w .queue)
+  pub orderly : w .left ≡ false → walk phaseAfter Orderly (Expects (w .asks) (w .joined) (w .venue .told)) (w .member .phase) (w .queue)
+  -- while a login waits there is no log of its own yet, and what stands on the line goes with any
+  pub gapless : w .refused ≡ false → (held : List Msg) → (w .asks ≡ false → held ≡ w .held)
+      → walk step (Gapless held) (Stands (w .asks) (w .asking) (w .joined) (w .venue)) (here (w .member)) (w .queue)
 
 -- ---- lists in flight
 
@@ -89,10 +96,10 @@ inv-logs w m true e h = record {
   inLog = all-grows (w .venue .log) (m ∷ []) (w .queue) (h .inLog);
   heldIs = prefix-more (m ∷ []) (h .heldIs);
   session = λ j. record { mark = h .session j .mark; low = h .session j .low; before = h .session j .before; within = rw length-append (omega (arith, h .session j .within)) };
-  waits = λ a. record { phase = h .waits a .phase; empty = h .waits a .empty; lists = h .waits a .lists; apart = h .waits a .apart };
+  waits = λ a. record { apart = h .waits a .apart; low = λ u. rw (ofUnit-append, length-append) (omega (arith, h .waits a .low u)) };
   orderly = h .orderly;
-  gapless = λ a r. walk-map step (Gapless (w .held)) (Reached (w .joined) (w .venue)) (Reached (w .joined) (logged true m (w .venue)))
-      (λ s k j. reached-grows (w .venue) m (s .phase) (s .counts) (h .session j .within) (k j)) (here (w .member)) (w .queue) (h .gapless a r);
+  gapless = λ r l q. walk-map step (Gapless l) (Stands (w .asks) (w .asking) (w .joined) (w .venue)) (Stands (w .asks) (w .asking) (w .joined) (logged true m (w .venue)))
+      (λ s k. (k .0, λ j. reached-grows (w .venue) m (s .phase) (s .counts) (h .session j .within) (k .1 j))) (here (w .member)) (w .queue) (h .gapless r l q);
 }
 
 -- ---- no line
@@ -105,8 +112,8 @@ inv-alone w s e k h = record {
   heldIs = h .heldIs;
   session = λ j. absurd (false≢true j);
   waits = λ a. absurd (false≢true a);
-  orderly = λ a l j. absurd (false≢true j);
-  gapless = λ a r j. absurd (false≢true j);
+  orderly = λ l. (λ a. absurd (false≢true a), λ j. absurd (false≢true j));
+  gapless = λ r l q. (λ a. absurd (false≢true a), λ j. absurd (false≢true j));
 }
 
 inv-breaks : (w : World) (p : Phase) (cap : ℕ) → w .member .phase ≡ p → Inv w → Inv (breaking p cap w)
@@ -131,9 +138,9 @@ inv-drops w true h = record {
   inLog = h .inLog;
   heldIs = h .heldIs;
   session = λ j. absurd (false≢true j);
-  waits = λ a. record { phase = h .waits a .phase; empty = h .waits a .empty; lists = h .waits a .lists; apart = refl };
-  orderly = λ a l. walk-map phaseAfter Orderly _ _ (λ s k j. absurd (false≢true j)) (w .member .phase) (w .queue) (h .orderly a l);
-  gapless = λ a r. walk-map step (Gapless (w .held)) _ _ (λ s k j. absurd (false≢true j)) (here (w .member)) (w .queue) (h .gapless a r);
+  waits = λ a. record { apart = refl; low = h .waits a .low };
+  orderly = λ l. walk-map phaseAfter Orderly _ _ (λ s k. (k .0, λ j. absurd (false≢true j))) (w .member .phase) (w .queue) (h .orderly l);
+  gapless = λ r l q. walk-map step (Gapless l) _ _ (λ s k. (k .0, λ j. absurd (false≢true j))) (here (w .member)) (w .queue) (h .gapless r l q);
 }
 
 inv-strays : (w : World) (b : Bool) (t : Table) → Inv w → Inv (straying b t w)
@@ -144,9 +151,9 @@ inv-strays w false t h = record {
   inLog = h .inLog;
   heldIs = h .heldIs;
   session = λ j. absurd (false≢true j);
-  waits = λ a. record { phase = h .waits a .phase; empty = h .waits a .empty; lists = h .waits a .lists; apart = refl };
-  orderly = λ a l. walk-map phaseAfter Orderly _ _ (λ s k j. absurd (false≢true j)) (w .member .phase) (w .queue) (h .orderly a l);
-  gapless = λ a r. walk-map step (Gapless (w .held)) _ _ (λ s k j. absurd (false≢true j)) (here (w .member)) (w .queue) (h .gapless a r);
+  waits = λ a. record { apart = refl; low = h .waits a .low };
+  orderly = λ l. walk-map phaseAfter Orderly _ _ (λ s k. (k .0, λ j. absurd (false≢true j))) (w .member .phase) (w .queue) (h .orderly l);
+  gapless = λ r l q. walk-map step (Gapless l) _ _ (λ s k. (k .0, λ j. absurd (false≢true j))) (here (w .member)) (w .queue) (h .gapless r l q);
 }
 
 -- ---- login
@@ -161,25 +168,62 @@ inv-logsIn w closed e h = record {
   inLog = tt;
   heldIs = h .heldIs;
   session = λ j. absurd (false≢true j);
-  waits = λ a. record { phase = refl; empty = refl; lists = refl; apart = refl };
-  orderly = λ a. absurd (true≢false a);
-  gapless = λ a. absurd (true≢false a);
+  waits = λ a. record { apart = refl; low = λ u. rw (counted (w .venue .log) (w .member) (h .safe) u) (prefix-length (h .safe .firsts u)) };
+  orderly = λ l. (λ a. refl, λ j. absurd (false≢true j));
+  gapless = λ r l q. (λ a u. refl, λ j. absurd (false≢true j));
 }
+
+-- from what a login under way expects, its answer goes on
+taken-orderly : (j : Bool) (p : Phase) → p ≡ asked → walk phaseAfter Orderly (Expects false j false) p (response true ∷ [])
+taken-orderly j p e = rw e (tt, (λ a. absurd (false≢true a), λ k. refl))
+
+taken-gapless : (l : List Msg) (t : Table) (j : Bool) (v : Venue) (p : Phase) (c : Table) → Awaits t p c
+    → walk step (Gapless l) (Stands false t j (took t v)) (record { phase = p; counts = c }) (response true ∷ [])
+taken-gapless l t j v closed c h = (tt, (λ a. absurd (false≢true a), λ k. tt))
+taken-gapless l t j v asked c h = (tt, (λ a. absurd (false≢true a), λ k. (refl, λ u. omega (arith, h u))))
+taken-gapless l t j v replaying c h = absurd h
+taken-gapless l t j v live c h = absurd h
 
 inv-takes : (w : World) (a r : Bool) → w .asks ≡ a → Inv w → Inv (taking a r w)
 inv-takes w false r e h = h
 inv-takes w true true e h = h
 inv-takes w true false e h =
-    let k = h .waits e in
     record {
       numbered = h .numbered;
       safe = h .safe;
       inLog = all-append (w .venue .log) (w .queue) (response true ∷ []) (h .inLog) (tt, tt);
       heldIs = prefix-refl (w .venue .log);
-      session = λ j. record { mark = refl; low = λ u. rw (k .lists, counted (w .venue .log) (w .member) (h .safe) u) (prefix-length (h .safe .firsts u)); before = λ _. omega arith; within = omega arith };
+      session = λ j. record { mark = refl; low = h .waits e .low; before = λ _. omega arith; within = omega arith };
       waits = λ a. absurd (false≢true a);
-      orderly = λ a l. rw (k .empty, k .phase) (tt, λ j. refl);
-      gapless = λ a x. rw (k .empty, k .phase) (tt, λ j. (refl, λ u. rw (k .lists) (omega arith)));
+      orderly = λ l. walk-then phaseAfter Orderly (Expects (w .asks) (w .joined) (w .venue .told)) (Expects false true false) (response true ∷ []) (λ p k. taken-orderly true p (k .0 e)) (w .member .phase) (w .queue) (h .orderly l);
+      gapless = λ r l q. walk-then step (Gapless l) (Stands (w .asks) (w .asking) (w .joined) (w .venue)) (Stands false (w .asking) true (took (w .asking) (w .venue))) (response true ∷ []) (λ s k. taken-gapless l (w .asking) true (w .venue) (s .phase) (s .counts) (k .0 e)) (here (w .member)) (w .queue) (h .gapless r l (λ f. absurd (true≢false (sym e ∙ f))));
+    }
+
+-- ---- a login that is answered with another status
+
+no-orderly : (j t : Bool) (p : Phase) → (j ≡ true → ⊥) → p ≡ asked → walk phaseAfter Orderly (Expects false j t) p (response false ∷ [])
+no-orderly j t p n e = rw e (tt, (λ a. absurd (false≢true a), λ k. absurd (n k)))
+
+no-gapless : (l : List Msg) (t : Table) (j : Bool) (v : Venue) (p : Phase) (c : Table) → (j ≡ true → ⊥)
+    → walk step (Gapless l) (Stands false t j v) (record { phase = p; counts = c }) (response false ∷ [])
+no-gapless l t j v closed c n = (tt, (λ a. absurd (false≢true a), λ k. absurd (n k)))
+no-gapless l t j v asked c n = (tt, (λ a. absurd (false≢true a), λ k. absurd (n k)))
+no-gapless l t j v replaying c n = (tt, (λ a. absurd (false≢true a), λ k. absurd (n k)))
+no-gapless l t j v live c n = (tt, (λ a. absurd (false≢true a), λ k. absurd (n k)))
+
+inv-rejects : (w : World) (a : Bool) → w .asks ≡ a → Inv w → Inv (rejecting a w)
+inv-rejects w false e h = h
+inv-rejects w true e h =
+    let n : w .joined ≡ true → ⊥ = λ j. false≢true (sym (h .waits e .apart) ∙ j) in
+    record {
+      numbered = h .numbered;
+      safe = h .safe;
+      inLog = all-append (w .venue .log) (w .queue) (response false ∷ []) (h .inLog) (tt, tt);
+      heldIs = h .heldIs;
+      session = h .session;
+      waits = λ a. absurd (false≢true a);
+      orderly = λ l. walk-then phaseAfter Orderly (Expects (w .asks) (w .joined) (w .venue .told)) (Expects false (w .joined) (w .venue .told)) (response false ∷ []) (λ p k. no-orderly (w .joined) (w .venue .told) p n (k .0 e)) (w .member .phase) (w .queue) (h .orderly l);
+      gapless = λ r l q. walk-then step (Gapless l) (Stands (w .asks) (w .asking) (w .joined) (w .venue)) (Stands false (w .asking) (w .joined) (w .venue)) (response false ∷ []) (λ s k. no-gapless l (w .asking) (w .joined) (w .venue) (s .phase) (s .counts) n) (here (w .member)) (w .queue) (h .gapless r l (λ _. q refl));
     }
 
 -- ---- a step of the venue
@@ -283,10 +327,14 @@ inv-apart w mv e h = record {
   inLog = rw moved-log (h .inLog);
   heldIs = rw moved-log (h .heldIs);
   session = λ j. absurd (false≢true (sym e ∙ j));
-  waits = λ a. record { phase = h .waits a .phase; empty = h .waits a .empty; lists = h .waits a .lists; apart = h .waits a .apart };
-  orderly = λ a l. walk-map phaseAfter Orderly _ _ (λ s k j. absurd (false≢true (sym e ∙ j))) (w .member .phase) (w .queue) (h .orderly a l);
-  gapless = λ a r. walk-map step (Gapless (w .held)) _ _ (λ s k j. absurd (false≢true (sym e ∙ j))) (here (w .member)) (w .queue) (h .gapless a r);
+  waits = λ a. record { apart = h .waits a .apart; low = rw moved-log (h .waits a .low) };
+  orderly = λ l. walk-map phaseAfter Orderly _ _ (λ s k. (k .0, λ j. absurd (false≢true (sym e ∙ j)))) (w .member .phase) (w .queue) (h .orderly l);
+  gapless = λ r l q. walk-map step (Gapless l) _ _ (λ s k. (k .0, λ j. absurd (false≢true (sym e ∙ j)))) (here (w .member)) (w .queue) (h .gapless r l q);
 }
+
+not-true : (b : Bool) → (b ≡ true → ⊥) → b ≡ false
+not-true true f = absurd (f refl)
+not-true false f = refl
 
 -- on the line: what the session is after the move, what is sent, and that it goes on from where the line ends
 inv-on : (w : World) (mv : Move) → w .joined ≡ true → Inv w
@@ -295,16 +343,23 @@ inv-on : (w : World) (mv : Move) → w .joined ≡ true → Inv w
     → ((p : Phase) → Told (w .venue .told) p → walk phaseAfter Orderly (OnLine (w .joined) (moved mv (w .venue) .told)) p (sends (w .venue .listed) mv))
     → ((s : At) → ReachedIn (w .venue) (s .phase) (s .counts) → walk step (Gapless (w .held)) (Reached (w .joined) (moved mv (w .venue))) s (sends (w .venue .listed) mv))
     → Inv (stepW mv true w)
-inv-on w mv e h s i o g = record {
-  numbered = rw moved-log (h .numbered);
-  safe = rw moved-log (h .safe);
-  inLog = rw moved-log (all-append (w .venue .log) (w .queue) (sends (w .venue .listed) mv) (h .inLog) i);
-  heldIs = rw moved-log (h .heldIs);
-  session = λ j. s;
-  waits = λ a. absurd (true≢false (sym e ∙ h .waits a .apart));
-  orderly = λ a l. walk-then phaseAfter Orderly (OnLine (w .joined) (w .venue .told)) (OnLine (w .joined) (moved mv (w .venue) .told)) (sends (w .venue .listed) mv) (λ p k. o p (k e)) (w .member .phase) (w .queue) (h .orderly a l);
-  gapless = λ a r. walk-then step (Gapless (w .held)) (Reached (w .joined) (w .venue)) (Reached (w .joined) (moved mv (w .venue))) (sends (w .venue .listed) mv) (λ t k. g t (k e)) (here (w .member)) (w .queue) (h .gapless a r);
-}
+inv-on w mv e h s i o g =
+    let f : w .asks ≡ true → ⊥ = λ a. true≢false (sym e ∙ h .waits a .apart) in
+    record {
+      numbered = rw moved-log (h .numbered);
+      safe = rw moved-log (h .safe);
+      inLog = rw moved-log (all-append (w .venue .log) (w .queue) (sends (w .venue .listed) mv) (h .inLog) i);
+      heldIs = rw moved-log (h .heldIs);
+      session = λ j. s;
+      waits = λ a. absurd (f a);
+      orderly = λ l. walk-then phaseAfter Orderly (Expects (w .asks) (w .joined) (w .venue .told)) (Expects (w .asks) (w .joined) (moved mv (w .venue) .told)) (sends (w .venue .listed) mv)
+          (λ p k. walk-map phaseAfter Orderly (OnLine (w .joined) (moved mv (w .venue) .told)) (Expects (w .asks) (w .joined) (moved mv (w .venue) .told)) (λ x y. (λ a. absurd (f a), y)) p (sends (w .venue .listed) mv) (o p (k .1 e)))
+          (w .member .phase) (w .queue) (h .orderly l);
+      gapless = λ r l q. walk-then step (Gapless l) (Stands (w .asks) (w .asking) (w .joined) (w .venue)) (Stands (w .asks) (w .asking) (w .joined) (moved mv (w .venue))) (sends (w .venue .listed) mv)
+          (λ t k. walk-map step (Gapless l) (Reached (w .joined) (moved mv (w .venue))) (Stands (w .asks) (w .asking) (w .joined) (moved mv (w .venue))) (λ x y. (λ a. absurd (f a), y)) t (sends (w .venue .listed) mv)
+          (subst (λ (y : List Msg). walk step (Gapless y) (Reached (w .joined) (moved mv (w .venue))) t (sends (w .venue .listed) mv)) (sym (q (not-true (w .asks) f))) (g t (k .1 e))))
+          (here (w .member)) (w .queue) (h .gapless r l q);
+    }
 
 -- at Replay Complete the counts are those of what the log held
 whole : (v : Venue) (held : List Msg) (c : Table) → Session v held → Prefix held (v .log) → v .at ≡ v .upTo → Passed v c → Whole held c
@@ -379,66 +434,55 @@ inv-stepping w true h = inv-steps w (move (w .venue)) (w .joined) refl refl h
 
 -- ---- heartbeats and a Logout
 
-both : (a b : Bool) → (a && b) ≡ true → b ≡ true
-both true b e = e
-both false b e = absurd (false≢true e)
+-- a heartbeat changes nothing of what is expected
+beat-orderly : (E : Phase → Type 0) (p : Phase) → E p → walk phaseAfter Orderly E p (heartbeat ∷ [])
+beat-orderly E closed h = (tt, h)
+beat-orderly E asked h = (tt, h)
+beat-orderly E replaying h = (tt, h)
+beat-orderly E live h = (tt, h)
 
-beat-orderly : (j t : Bool) (p : Phase) → Told t p → walk phaseAfter Orderly (OnLine j t) p (heartbeat ∷ [])
-beat-orderly j t closed h = absurd h
-beat-orderly j t asked h = absurd h
-beat-orderly j t replaying h = (tt, λ _. h)
-beat-orderly j t live h = (tt, λ _. h)
+beat-gapless : (l : List Msg) (E : At → Type 0) (p : Phase) (c : Table) → E (record { phase = p; counts = c }) → walk step (Gapless l) E (record { phase = p; counts = c }) (heartbeat ∷ [])
+beat-gapless l E closed c h = (tt, h)
+beat-gapless l E asked c h = (tt, h)
+beat-gapless l E replaying c h = (tt, h)
+beat-gapless l E live c h = (tt, h)
 
-beat-gapless : (held : List Msg) (j : Bool) (v : Venue) (p : Phase) (c : Table) → ReachedIn v p c → walk step (Gapless held) (Reached j v) (record { phase = p; counts = c }) (heartbeat ∷ [])
-beat-gapless held j v closed c h = (tt, λ _. tt)
-beat-gapless held j v asked c h = absurd h
-beat-gapless held j v replaying c h = (tt, λ _. h)
-beat-gapless held j v live c h = (tt, λ _. h)
+-- a Logout ends the session, whatever the venue goes on to send
+leave-gapless : (l : List Msg) (a : Bool) (t : Table) (j : Bool) (v : Venue) (p : Phase) (c : Table) → walk step (Gapless l) (Stands a t j v) (record { phase = p; counts = c }) (logout ∷ [])
+leave-gapless l a t j v closed c = (tt, (λ _. tt, λ _. tt))
+leave-gapless l a t j v asked c = (tt, (λ _. tt, λ _. tt))
+leave-gapless l a t j v replaying c = (tt, (λ _. tt, λ _. tt))
+leave-gapless l a t j v live c = (tt, (λ _. tt, λ _. tt))
 
-leave-gapless : (held : List Msg) (j : Bool) (v : Venue) (p : Phase) (c : Table) → walk step (Gapless held) (Reached j v) (record { phase = p; counts = c }) (logout ∷ [])
-leave-gapless held j v closed c = (tt, λ _. tt)
-leave-gapless held j v asked c = (tt, λ _. tt)
-leave-gapless held j v replaying c = (tt, λ _. tt)
-leave-gapless held j v live c = (tt, λ _. tt)
+inv-beats : (w : World) → Inv w → Inv (sending (heartbeat ∷ []) w)
+inv-beats w h = record {
+  numbered = h .numbered;
+  safe = h .safe;
+  inLog = all-append (w .venue .log) (w .queue) (heartbeat ∷ []) (h .inLog) (tt, tt);
+  heldIs = h .heldIs;
+  session = h .session;
+  waits = λ a. record { apart = h .waits a .apart; low = h .waits a .low };
+  orderly = λ l. walk-then phaseAfter Orderly (Expects (w .asks) (w .joined) (w .venue .told)) (Expects (w .asks) (w .joined) (w .venue .told)) (heartbeat ∷ []) (λ p k. beat-orderly (Expects (w .asks) (w .joined) (w .venue .told)) p k) (w .member .phase) (w .queue) (h .orderly l);
+  gapless = λ r l q. walk-then step (Gapless l) (Stands (w .asks) (w .asking) (w .joined) (w .venue)) (Stands (w .asks) (w .asking) (w .joined) (w .venue)) (heartbeat ∷ []) (λ t k. beat-gapless l (Stands (w .asks) (w .asking) (w .joined) (w .venue)) (t .phase) (t .counts) k) (here (w .member)) (w .queue) (h .gapless r l q);
+}
 
-inv-beats : (w : World) (b : Bool) → (w .venue .running && w .joined) ≡ b → Inv w → Inv (beating b w)
-inv-beats w false e h = h
-inv-beats w true e h =
-    let f = both (w .venue .running) (w .joined) e in
-    record {
-      numbered = h .numbered;
-      safe = h .safe;
-      inLog = all-append (w .venue .log) (w .queue) (heartbeat ∷ []) (h .inLog) (tt, tt);
-      heldIs = h .heldIs;
-      session = h .session;
-      waits = λ a. absurd (true≢false (sym f ∙ h .waits a .apart));
-      orderly = λ a l. walk-then phaseAfter Orderly (OnLine (w .joined) (w .venue .told)) (OnLine (w .joined) (w .venue .told)) (heartbeat ∷ []) (λ p k. beat-orderly (w .joined) (w .venue .told) p (k f)) (w .member .phase) (w .queue) (h .orderly a l);
-      gapless = λ a r. walk-then step (Gapless (w .held)) (Reached (w .joined) (w .venue)) (Reached (w .joined) (w .venue)) (heartbeat ∷ []) (λ t k. beat-gapless (w .held) (w .joined) (w .venue) (t .phase) (t .counts) (k f)) (here (w .member)) (w .queue) (h .gapless a r);
-    }
-
-inv-leaves : (w : World) (b : Bool) → (w .venue .running && w .joined) ≡ b → Inv w → Inv (loggingOut b w)
-inv-leaves w false e h = h
-inv-leaves w true e h =
-    let f = both (w .venue .running) (w .joined) e in
-    record {
-      numbered = h .numbered;
-      safe = h .safe;
-      inLog = all-append (w .venue .log) (w .queue) (logout ∷ []) (h .inLog) (tt, tt);
-      heldIs = h .heldIs;
-      session = h .session;
-      waits = λ a. absurd (true≢false (sym f ∙ h .waits a .apart));
-      orderly = λ a l. absurd (true≢false l);
-      gapless = λ a r. walk-then step (Gapless (w .held)) (Reached (w .joined) (w .venue)) (Reached (w .joined) (w .venue)) (logout ∷ []) (λ t k. leave-gapless (w .held) (w .joined) (w .venue) (t .phase) (t .counts)) (here (w .member)) (w .queue) (h .gapless a r);
-    }
+inv-leaves : (w : World) → Inv w → Inv (leaving (sending (logout ∷ []) w))
+inv-leaves w h = record {
+  numbered = h .numbered;
+  safe = h .safe;
+  inLog = all-append (w .venue .log) (w .queue) (logout ∷ []) (h .inLog) (tt, tt);
+  heldIs = h .heldIs;
+  session = h .session;
+  waits = λ a. record { apart = h .waits a .apart; low = h .waits a .low };
+  orderly = λ l. absurd (true≢false l);
+  gapless = λ r l q. walk-then step (Gapless l) (Stands (w .asks) (w .asking) (w .joined) (w .venue)) (Stands (w .asks) (w .asking) (w .joined) (w .venue)) (logout ∷ []) (λ t k. leave-gapless l (w .asks) (w .asking) (w .joined) (w .venue) (t .phase) (t .counts)) (here (w .member)) (w .queue) (h .gapless r l q);
+}
 
 -- ---- a delivery
 
 neither : (a b : Bool) → (a || b) ≡ false → (a ≡ false) × (b ≡ false)
 neither true b e = absurd (true≢false e)
 neither false b e = (refl, e)
-
-nonempty : (x : Sent) (q : List Sent) → x ∷ q ≡ [] → ⊥
-nonempty x q e = let z : _≡_ {A = ℕ} 0 1 = cc in omega arith
 
 inv-delivers : (w : World) (q : List Sent) (cap : ℕ) → w .queue ≡ q → Inv w → Inv (delivering q cap w)
 inv-delivers w [] cap e h = h
@@ -450,15 +494,15 @@ inv-delivers w (x ∷ q) cap e h =
       inLog = i .1;
       heldIs = h .heldIs;
       session = h .session;
-      waits = λ a. absurd (nonempty x q (sym e ∙ h .waits a .empty));
-      orderly = λ a l.
-          let o : walk phaseAfter Orderly (OnLine (w .joined) (w .venue .told)) (w .member .phase) (x ∷ q) = rw e at (h .orderly a l) in
+      waits = λ a. record { apart = h .waits a .apart; low = h .waits a .low };
+      orderly = λ l.
+          let o : walk phaseAfter Orderly (Expects (w .asks) (w .joined) (w .venue .told)) (w .member .phase) (x ∷ q) = rw e at (h .orderly l) in
           rw (phase-got (w .member .phase) cap x (w .member) refl) (o .1);
-      gapless = λ a r.
+      gapless = λ r l z.
           let n = neither (w .refused) (full cap x (w .member)) r in
-          let g : walk step (Gapless (w .held)) (Reached (w .joined) (w .venue)) (here (w .member)) (x ∷ q) = rw e at (h .gapless a (n .0)) in
+          let g : walk step (Gapless l) (Stands (w .asks) (w .asking) (w .joined) (w .venue)) (here (w .member)) (x ∷ q) = rw e at (h .gapless (n .0) l z) in
           let pe = phase-got (w .member .phase) cap x (w .member) refl in
-          let te = table-got (w .held) (w .member .phase) cap x (w .member) (n .1) (g .0) in
+          let te = table-got l (w .member .phase) cap x (w .member) (n .1) (g .0) in
           rw (pe, te) (g .1);
     }
 
@@ -469,8 +513,9 @@ inv-apply (logs m) w h = inv-logs w m (nextInLog m (w .venue)) refl h
 inv-apply logsIn w h = inv-logsIn w (w .member .phase) refl h
 inv-apply takesIt w h = inv-takes w (w .asks) (w .venue .running) refl h
 inv-apply steps w h = inv-stepping w (w .venue .running) h
-inv-apply beats w h = inv-beats w (w .venue .running && w .joined) refl h
-inv-apply logsOut w h = inv-leaves w (w .venue .running && w .joined) refl h
+inv-apply rejects w h = inv-rejects w (w .asks) refl h
+inv-apply beats w h = inv-beats w h
+inv-apply logsOut w h = inv-leaves w h
 inv-apply (delivers cap) w h = inv-delivers w (w .queue) cap refl h
 inv-apply (breaks cap) w h = inv-breaks w (w .member .phase) cap refl h
 inv-apply drops w h = inv-drops w (w .venue .running) h
@@ -489,8 +534,8 @@ inv-start = record {
   heldIs = prefix-refl [];
   session = λ j. absurd (false≢true j);
   waits = λ a. absurd (false≢true a);
-  orderly = λ a l j. absurd (false≢true j);
-  gapless = λ a r j. absurd (false≢true j);
+  orderly = λ l. (λ a. absurd (false≢true a), λ j. absurd (false≢true j));
+  gapless = λ r l q. (λ a. absurd (false≢true a), λ j. absurd (false≢true j));
 }
 
 -- what a login under way would list says nothing where there is none
@@ -502,6 +547,6 @@ inv-asking t = record {
   heldIs = inv-start .heldIs;
   session = λ j. absurd (false≢true j);
   waits = λ a. absurd (false≢true a);
-  orderly = λ a l j. absurd (false≢true j);
-  gapless = λ a r j. absurd (false≢true j);
+  orderly = λ l. (λ a. absurd (false≢true a), λ j. absurd (false≢true j));
+  gapless = λ r l q. (λ a. absurd (false≢true a), λ j. absurd (false≢true j));
 }

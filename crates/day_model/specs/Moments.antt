@@ -8,7 +8,7 @@ pub record MomentOf (Ven Mem Asked Said Kept : Type 0) : Type 0 where
   pub member : Mem
   -- the venue's session is on the member's present line
   pub joined : Bool
-  -- a login stands on the line and is not yet taken, and which
+  -- a login stands on the line and is not yet answered, and which
   pub asks : Bool
   pub asking : Asked
   -- sent by the venue on this line and not yet delivered
@@ -51,6 +51,10 @@ module _ {Ven Mem Asked Said Kept : Type 0} where
   -- the login on the line is taken: the session is on it, and that is what the log held
   abbrev pub joining : List Kept → MomentOf Ven Mem Asked Said Kept → MomentOf Ven Mem Asked Said Kept
   joining l w = record { venue = w .venue; member = w .member; joined = true; asks = false; asking = w .asking; queue = w .queue; refused = w .refused; held = l; left = w .left }
+
+  -- the login on the line is answered, and no session begins
+  abbrev pub turnedDown : MomentOf Ven Mem Asked Said Kept → MomentOf Ven Mem Asked Said Kept
+  turnedDown w = record { venue = w .venue; member = w .member; joined = w .joined; asks = false; asking = w .asking; queue = w .queue; refused = w .refused; held = w .held; left = w .left }
 
   -- the venue's session, if any, is on no line of the member's
   abbrev pub apart : MomentOf Ven Mem Asked Said Kept → MomentOf Ven Mem Asked Said Kept

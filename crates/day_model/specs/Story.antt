@@ -1,9 +1,9 @@
 -- One trading day over the code's own functions: member and venue, the line between them with bytes on it, and what may happen. Definitions alone.
 -- Assumes nothing.
-use mathlib.Core.Bool.{Bool, true, false, _&&_}
+use mathlib.Core.Bool.{Bool, true, false}
 use mathlib.Core.List.{List, [], _∷_}
 use Prim.Native.Nat.{ℕ}
-use Rattle.day_model.specs.Moments.{MomentOf, withVenue, withMember, withQueue, sending, onLine, newLine, noLine, joining, apart, refusing, leaving}
+use Rattle.day_model.specs.Moments.{MomentOf, withVenue, withMember, withQueue, sending, onLine, newLine, noLine, joining, turnedDown, apart, refusing, leaving}
 use Rattle.day_model.specs.Model.{Table, Phase, closed, asked, replaying, live}
 
 abbrev pub Bytes : Type 0
@@ -47,10 +47,12 @@ pub record Code : Type 1 where
   pub stepTo : ℕ → Ven → Ven
   pub stepSends : ℕ → Ven → List Bytes
   pub stop : Ven → Ven
-  -- a heartbeat; which bytes are a Logout, and what of them goes on the line
+  -- a heartbeat; which bytes are a Logout, and what of them goes on the line; which are a Login Response of another status than A, and what of them does
   pub beat : Bytes
   pub isBye : Bytes → Bool
   pub bye : Bytes → Bytes
+  pub isNo : Bytes → Bool
+  pub no : Bytes → Bytes
 
 -- what may happen. A number is the length of the buffer that is lent, and of a cut the bytes that are kept
 pub data Happens (F : Type 0) : Type 0 where
@@ -62,9 +64,12 @@ pub data Happens (F : Type 0) : Type 0 where
   -- are among them
   aSending : ℕ → Bytes → Happens F
   aHearing : Bytes → Happens F
-  -- the venue sends a heartbeat, or a Logout
+  -- the venue sends a heartbeat, or a Logout: at any time, so before its answer to a login too. Where the member has no line, its session is closed and
+  -- takes nothing
   aBeat : Happens F
   aBye : Bytes → Happens F
+  -- the venue answers the login on the line with another status than A: no session begins
+  aNo : Bytes → Happens F
   -- the venue is given the login on the line; it makes a step
   aTaking aStep : ℕ → Happens F
   -- the venue is given a login that is not on the member's line: late, from a line that is gone
@@ -102,16 +107,16 @@ module _ (C : Code) where
   nowStep true room w = withQueue (onLine (w .joined) (w .queue) (C .stepSends room (w .venue))) (withVenue (C .stepTo room (w .venue)) w)
   nowStep false room w = w
 
-  -- a session on this line?
-  abbrev pub nowBeat : Bool → Now C → Now C
-  nowBeat true w = sending (C .beat ∷ []) w
-  nowBeat false w = w
+  -- a Logout?
+  abbrev pub nowBye : Bool → Bytes → Now C → Now C
+  nowBye true b w = leaving (sending (C .bye b ∷ []) w)
+  nowBye false b w = w
 
-  -- a session on this line? a Logout?
-  abbrev pub nowBye : Bool → Bool → Bytes → Now C → Now C
-  nowBye true true b w = leaving (sending (C .bye b ∷ []) w)
-  nowBye true false b w = w
-  nowBye false r b w = w
+  -- a login on the line? an answer of another status than A?
+  abbrev pub nowNo : Bool → Bool → Bytes → Now C → Now C
+  nowNo true true b w = turnedDown (sending (C .no b ∷ []) w)
+  nowNo true false b w = w
+  nowNo false r b w = w
 
   -- what the line delivers next, if anything stands on it
   abbrev pub nowGets : List Bytes → ℕ → Now C → Now C
@@ -136,8 +141,9 @@ module _ (C : Code) where
   next (aHearing b) w = withVenue (C .hears b (w .venue)) w
   next (aTaking room) w = nowTaken (w .asks) (C .accepts room (w .asking) (w .venue)) room w
   next (aStep room) w = nowStep (C .running (w .venue)) room w
-  next aBeat w = nowBeat (C .running (w .venue) && w .joined) w
-  next (aBye b) w = nowBye (C .running (w .venue) && w .joined) (C .isBye b) b w
+  next aBeat w = sending (C .beat ∷ []) w
+  next (aBye b) w = nowBye (C .isBye b) b w
+  next (aNo b) w = nowNo (w .asks) (C .isNo b) b w
   next (aDelivery room) w = nowGets (w .queue) room w
   next (aBreak room) w = noLine (withMember (C .ended room (w .member)) w)
   next aDrop w = nowDrop (C .running (w .venue)) w

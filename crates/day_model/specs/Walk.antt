@@ -75,17 +75,17 @@ phase-got live cap complete s e = e
 phase-got live cap heartbeat s e = e
 phase-got live cap logout s e = refl
 
--- on a line with no Logout: the answer first, Replay Complete once, nothing after the end
-abbrev pub IsAnswer : Bool → Type 0
-IsAnswer true = Unit {0}
-IsAnswer false = ⊥
-
+-- on a line with no Logout: the answer before any message, Replay Complete once; after the end, and before the answer, heartbeats alone
 abbrev pub Orderly : Phase → Sent → Type 0
-Orderly closed x = ⊥
-Orderly asked (response ok) = IsAnswer ok
+Orderly closed (response ok) = ⊥
+Orderly closed (message m) = ⊥
+Orderly closed complete = ⊥
+Orderly closed heartbeat = Unit {0}
+Orderly closed logout = ⊥
+Orderly asked (response ok) = Unit {0}
 Orderly asked (message m) = ⊥
 Orderly asked complete = ⊥
-Orderly asked heartbeat = ⊥
+Orderly asked heartbeat = Unit {0}
 Orderly asked logout = ⊥
 Orderly replaying (response ok) = ⊥
 Orderly replaying (message m) = Unit {0}
@@ -164,6 +164,13 @@ ReachedIn v closed c = Unit {0}
 ReachedIn v asked c = ⊥
 ReachedIn v replaying c = (v .told ≡ false) × Passed v c
 ReachedIn v live c = (v .told ≡ true) × Passed v c
+
+-- a member that waits for the answer to a login: with the numbers that the login lists; or a Logout has ended its session
+abbrev pub Awaits : Table → Phase → Table → Type 0
+Awaits t closed c = Unit {0}
+Awaits t asked c = (u : ℕ) → c u ≡ t u
+Awaits t replaying c = ⊥
+Awaits t live c = ⊥
 
 -- where j says that the venue's session is on this line
 abbrev pub Reached : Bool → Venue → At → Type 0

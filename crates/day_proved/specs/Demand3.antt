@@ -137,7 +137,8 @@ pub record Taken (date : ℕ) (X : VenueCode) (w v : Moment date X) : Type 0 whe
   pub joined : v .joined ≡ true
   pub held : v .held ≡ log date X w
 
--- 'a venue without a session takes it,' with room for its answer
+-- 'a venue without a session takes it,' with room for its answer. That a venue turns a login down instead is an event of its own (`aNo`): no session
+-- begins, and the member's ends with the answer
 abbrev pub AVenueTakesIt : Type 1
 AVenueTakesIt =
     (date : ℕ) → isDay date ≡ true → (X : VenueCode) (such : SuchAVenue X) (es : List Event) (room : ℕ)

@@ -7,7 +7,7 @@ use Rattle.venue.specs.VenueDay.{ourVenue}
 use Rattle.venue.specs.VenueView.{viewV, GoodV}
 use Rattle.venue.specs.VenueCalls.{empty-good, empty-is, hears-good, hears-is, stop-good, stop-is}
 use Rattle.venue.specs.VenueAdds.{readable, adds-good, adds-is}
-use Rattle.venue.specs.VenueLine.{beat-fine, beat-says, bye-fine, bye-says}
+use Rattle.venue.specs.VenueLine.{beat-fine, beat-says, bye-fine, bye-says, no-fine, no-says}
 use Rattle.venue.specs.VenueSent.{steps, steps-as-told}
 use Rattle.venue.specs.VenueTaken.{taken, answer-fine, answer-says, answer-sent}
 use Rattle.venue.specs.VenueLogin.{takes-good, lowest, strays-is, takes-is, accepts-ours}
@@ -44,6 +44,8 @@ meets = record {
   beat-is = beat-says;
   bye-fine = bye-fine;
   bye-is = bye-says;
+  no-fine = no-fine;
+  no-is = no-says;
 }
 
 -- AND ITS STEPS ARE DOCUMENT 01'S, with room for the longest message

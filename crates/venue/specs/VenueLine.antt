@@ -4,8 +4,9 @@ use native.Mathlib.Omega.{arith}
 use mathlib.Core.Logic.{_⊎_, inl, inr, ⊎-elim}
 use mathlib.Core.Path.{_≡_, refl, sym, ap, _∙_}
 use mathlib.Core.List.{[], append-nil}
-use mathlib.Core.Bool.{Bool, true, false, cond, _||_, false≢true}
+use mathlib.Core.Bool.{Bool, true, false, cond, _&&_, _||_, not, false≢true}
 use lib.Dec.{eqb}
+use lib.ListN.{getD}
 use borrow.Author.Tests.{eqb-true, eqb-false}
 use Rattle.wire.specs.Header.{typeOf, lengthOf, numberOf, totalOf}
 use Rattle.wire.specs.Frame.{notBA, startsBad, lengthBad, cutShort, frameRefusal, framed}
@@ -22,7 +23,7 @@ use Rattle.day_model.specs.Model.{Sent, response, message, complete, heartbeat,
 use Rattle.day_model.specs.Story.{Bytes}
 use Rattle.day_line.specs.Lines.{msgOf, says, Fine}
 use Rattle.venue.specs.Venues.{completeBytes}
-use Rattle.venue.specs.VenueDay.{beat, isBye}
+use Rattle.venue.specs.VenueDay.{beat, isBye, isNo}
 use Rattle.venue.specs.VenueView.{Wholly}
 
 -- ---- a message of the log
@@ -142,3 +143,20 @@ unfolding says
 bye-says b h =
     let t : typeOf (framed b) ≡ 0x08 = eqb-true _ _ (both-true (eqb (readRefusal 1 b) 0) (eqb (typeOf (framed b)) 0x08) h .1) in
     rw t
+
+-- ---- a Login Response of another status than A
+
+is-false : (b : Bool) → not b ≡ true → b ≡ false
+is-false true e = sym e
+is-false false e = refl
+
+pub no-fine : (b : Bytes) → isNo b ≡ true → Fine (framed b)
+no-fine b h = framed-fine b (eqb-true _ _ (both-true (eqb (readRefusal 1 b) 0) (eqb (typeOf (framed b)) 0x24 && not (eqb (getD (framed b) 10 0) 65)) h .0))
+
+pub no-says : (b : Bytes) → isNo b ≡ true → says (framed b) ≡ response false
+unfolding says
+no-says b h =
+    let k = both-true (eqb (typeOf (framed b)) 0x24) (not (eqb (getD (framed b) 10 0) 65)) (both-true (eqb (readRefusal 1 b) 0) (eqb (typeOf (framed b)) 0x24 && not (eqb (getD (framed b) 10 0) 65)) h .1) in
+    let t : typeOf (framed b) ≡ 0x24 = eqb-true _ _ (k .0) in
+    let n : eqb (getD (framed b) 10 0) 65 ≡ false = is-false _ (k .1) in
+    rw (t, n)
