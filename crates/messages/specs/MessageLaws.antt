@@ -17,7 +17,7 @@ use Rattle.session_messages.specs.Sessions as sessions
 use Rattle.session_messages.specs.Sizes.{sessionRecordSize}
 use Rattle.block.specs.Sizes.{recordSize}
 use Rattle.messages.specs.Messages.{isSession, carries, recordSizeOf, sessionRecordBytes, sessionAt, ownRefusal, recordOf, readRefusal, readCall, readRecord, ownWrite, messageOf, writeCall, writeOut}
-use Rattle.messages.specs.Stages.{roomRefusal, roomRecord, sizeRefusal, sizeOut}
+use Rattle.messages.specs.Stages.{placedRefusal, placedRecord, sizeRefusal, sizeOut}
 
 pub or-yes : (a b : Bool) → a ≡ true → (a || b) ≡ true
 or-yes a b e = rw e
@@ -101,23 +101,23 @@ module _ (direction : ℕ) (s buffer : List ℕ) where
 
       -- what the reading of a message answers, by its own refusal and record
       own-reads : (size refusal : ℕ) (bytes : List ℕ) → recordSizeOf (typeOf (framed s)) ≡ size → ownRefusal (framed s) ≡ refusal → recordOf (framed s) ≡ bytes → {n : ℕ} {out : List ℕ}
-          → (n ≡ roomRefusal refusal size (length buffer)) × (out ≡ roomRecord refusal size bytes buffer) → Answers direction s buffer n out
-      unfolding readCall readRecord roomRefusal roomRecord
+          → (n ≡ placedRefusal refusal size (length buffer)) × (out ≡ placedRecord refusal size bytes buffer) → Answers direction s buffer n out
+      unfolding readCall readRecord placedRefusal placedRecord
       own-reads size refusal bytes k r m h =
           let q : readRefusal direction s ≡ refusal = own-refusal ∙ r in
           (h .0 ∙ rw (q, k), h .1 ∙ rw (q, k, m))
 
       pub session-reads : isSession (typeOf (framed s)) ≡ true → {n : ℕ} {out : List ℕ}
-          → (n ≡ roomRefusal (sessions.readRefusal (framed s)) sessionRecordSize (length buffer))
-          × (out ≡ roomRecord (sessions.readRefusal (framed s)) sessionRecordSize (sessionRecordBytes (sessions.recordOf (framed s))) buffer)
+          → (n ≡ placedRefusal (sessions.readRefusal (framed s)) sessionRecordSize (length buffer))
+          × (out ≡ placedRecord (sessions.readRefusal (framed s)) sessionRecordSize (sessionRecordBytes (sessions.recordOf (framed s))) buffer)
           → Answers direction s buffer n out
       unfolding ownRefusal recordOf
       session-reads b h =
           own-reads sessionRecordSize (sessions.readRefusal (framed s)) (sessionRecordBytes (sessions.recordOf (framed s))) (session-size (typeOf (framed s)) b) (rw b) (rw b) h
 
       pub order-reads : isSession (typeOf (framed s)) ≡ false → {n : ℕ} {out : List ℕ}
-          → (n ≡ roomRefusal (orders.readRefusal (framed s)) recordSize (length buffer))
-          × (out ≡ roomRecord (orders.readRefusal (framed s)) recordSize (recordBytes (orders.recordOf (framed s))) buffer)
+          → (n ≡ placedRefusal (orders.readRefusal (framed s)) recordSize (length buffer))
+          × (out ≡ placedRecord (orders.readRefusal (framed s)) recordSize (recordBytes (orders.recordOf (framed s))) buffer)
           → Answers direction s buffer n out
       unfolding ownRefusal recordOf
       order-reads b h =

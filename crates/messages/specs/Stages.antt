@@ -8,12 +8,12 @@ use Rattle.refusals.specs.Names.{noRoom}
 use Rattle.numbers.specs.Numbers.{patched}
 
 -- a message's refusal, and after it 13 for a buffer under its record's size
-unfoldable pub roomRefusal : ℕ → ℕ → ℕ → ℕ
-roomRefusal refusal size room = cond (eqb refusal 0) (cond (ltb room size) noRoom 0) refusal
+unfoldable pub placedRefusal : ℕ → ℕ → ℕ → ℕ
+placedRefusal refusal size room = cond (eqb refusal 0) (cond (ltb room size) noRoom 0) refusal
 
 -- the buffer after that: as it was, or with the record's bytes in its front
-unfoldable pub roomRecord : ℕ → ℕ → List ℕ → List ℕ → List ℕ
-roomRecord refusal size bytes buffer = cond (eqb (roomRefusal refusal size (length buffer)) 0) (patched buffer 0 bytes) buffer
+unfoldable pub placedRecord : ℕ → ℕ → List ℕ → List ℕ → List ℕ
+placedRecord refusal size bytes buffer = cond (eqb (placedRefusal refusal size (length buffer)) 0) (patched buffer 0 bytes) buffer
 
 -- 13 for a record under its type's size, and after it its own refusal
 unfoldable pub sizeRefusal : ℕ → ℕ → ℕ → ℕ

@@ -12,7 +12,7 @@ ghost use Rattle.order_records.specs.Records.{recordBytes, recordAt};
 ghost use Rattle.session_messages.specs.Sessions as sessions;
 ghost use Rattle.session_messages.specs.Sizes.{sessionRecordSize};
 ghost use Rattle.messages.specs.Messages.{isSession, carries, sessionRecordBytes, sessionAt, readRefusal, readCall, readRecord, writeCall, writeOut};
-ghost use Rattle.messages.specs.Stages.{roomRefusal, roomRecord, sizeRefusal, sizeOut};
+ghost use Rattle.messages.specs.Stages.{placedRefusal, placedRecord, sizeRefusal, sizeOut};
 
 // Whether a type is a session message's.
 fn is_session(message: u8) -> bool
@@ -67,7 +67,7 @@ fn put_session(m: &[u8], buffer: &mut [u8])
 
 // Reads a session message, as framing answers it, into a buffer: its refusal, then 13 for a buffer under its record's size.
 fn read_session(m: &[u8], buffer: &mut [u8]) -> u8
-    ensures { λ r. ⌜ (r ≡ roomRefusal (sessions.readRefusal (now (m .entry))) sessionRecordSize (length (now (buffer .entry)))) × (now (buffer .exit) ≡ roomRecord (sessions.readRefusal (now (m .entry))) sessionRecordSize (sessionRecordBytes (sessions.recordOf (now (m .entry)))) (now (buffer .entry))) ⌝ }
+    ensures { λ r. ⌜ (r ≡ placedRefusal (sessions.readRefusal (now (m .entry))) sessionRecordSize (length (now (buffer .entry)))) × (now (buffer .exit) ≡ placedRecord (sessions.readRefusal (now (m .entry))) sessionRecordSize (sessionRecordBytes (sessions.recordOf (now (m .entry)))) (now (buffer .entry))) ⌝ }
 {
     let refusal = session_messages::read_refusal(m);
     if refusal != 0 {
@@ -82,7 +82,7 @@ fn read_session(m: &[u8], buffer: &mut [u8]) -> u8
 
 // The same of an order message.
 fn read_order(m: &[u8], buffer: &mut [u8]) -> u8
-    ensures { λ r. ⌜ (r ≡ roomRefusal (orders.readRefusal (now (m .entry))) recordSize (length (now (buffer .entry)))) × (now (buffer .exit) ≡ roomRecord (orders.readRefusal (now (m .entry))) recordSize (recordBytes (orders.recordOf (now (m .entry)))) (now (buffer .entry))) ⌝ }
+    ensures { λ r. ⌜ (r ≡ placedRefusal (orders.readRefusal (now (m .entry))) recordSize (length (now (buffer .entry)))) × (now (buffer .exit) ≡ placedRecord (orders.readRefusal (now (m .entry))) recordSize (recordBytes (orders.recordOf (now (m .entry)))) (now (buffer .entry))) ⌝ }
 {
     if block::RECORD <= buffer.len() {
         return order_reader::read_order(m, buffer);

@@ -6,7 +6,7 @@ use Rattle.session_messages.specs.Sessions as sessions
 use Rattle.session_messages.specs.Sizes.{sessionRecordSize}
 use Rattle.block.specs.Sizes.{recordSize}
 use Rattle.messages.specs.Messages.{isSession, carries, sessionRecordBytes}
-use Rattle.messages.specs.Stages.{roomRefusal, roomRecord}
+use Rattle.messages.specs.Stages.{placedRefusal, placedRecord}
 use Rattle.messages.specs.MessageLaws.{frame-stops, type-stops, session-reads, order-reads}
 use borrow.Author.Tests.{not-true, not-false}
 use denote.Ref.{now}
@@ -69,8 +69,8 @@ returns-3 c =
     session-reads (a .direction) (now (a .bytes)) (now (a .buffer)) (sym (told .frame-refusal .ensures) ∙ frame .before .if1 .left)
     (ap (carries (a .direction)) (sym t) ∙ sym (carried .carries .ensures) ∙ not-false _ (kind .before .if2 .left))
     (ap isSession (sym t) ∙ sym (kind .is-session .ensures) ∙ then .if3 .taken) (
-      read .read-session .ensures .0 ∙ ap (λ (m : List ℕ). roomRefusal (sessions.readRefusal m) sessionRecordSize (length (now (a .buffer)))) (frame .frame .ensures),
-      read .read-session .ensures .1 ∙ ap (λ (m : List ℕ). roomRecord (sessions.readRefusal m) sessionRecordSize (sessionRecordBytes (sessions.recordOf m)) (now (a .buffer))) (frame .frame .ensures),
+      read .read-session .ensures .0 ∙ ap (λ (m : List ℕ). placedRefusal (sessions.readRefusal m) sessionRecordSize (length (now (a .buffer)))) (frame .frame .ensures),
+      read .read-session .ensures .1 ∙ ap (λ (m : List ℕ). placedRecord (sessions.readRefusal m) sessionRecordSize (sessionRecordBytes (sessions.recordOf m)) (now (a .buffer))) (frame .frame .ensures),
     )
 
 read-order-requires : tie.Need-read-order-requires
@@ -93,8 +93,8 @@ returns-4 c =
     order-reads (a .direction) (now (a .bytes)) (now (a .buffer)) (sym (told .frame-refusal .ensures) ∙ frame .before .if1 .left)
     (ap (carries (a .direction)) (sym t) ∙ sym (carried .carries .ensures) ∙ not-false _ (kind .before .if2 .left))
     (ap isSession (sym t) ∙ sym (kind .is-session .ensures) ∙ else .if3 .left) (
-      read .read-order .ensures .0 ∙ ap (λ (m : List ℕ). roomRefusal (orders.readRefusal m) recordSize (length (now (a .buffer)))) (frame .frame .ensures),
-      read .read-order .ensures .1 ∙ ap (λ (m : List ℕ). roomRecord (orders.readRefusal m) recordSize (recordBytes (orders.recordOf m)) (now (a .buffer))) (frame .frame .ensures),
+      read .read-order .ensures .0 ∙ ap (λ (m : List ℕ). placedRefusal (orders.readRefusal m) recordSize (length (now (a .buffer)))) (frame .frame .ensures),
+      read .read-order .ensures .1 ∙ ap (λ (m : List ℕ). placedRecord (orders.readRefusal m) recordSize (recordBytes (orders.recordOf m)) (now (a .buffer))) (frame .frame .ensures),
     )
 
 pub read-spec : {M : Type 1} → statement M
