@@ -3,7 +3,7 @@
 --                                and its message is taken by the reader, as the same record
 --     every-choice-is-taken      so for every type, every count of bitfields, every choice of listed bits with the required ones among them, and every
 --                                good fixed part: the record with these bits and blank or zero fields
---     a-fixed-part-is-good       and there is a good fixed part of each type
+-- That there are such choices of each type: SomeChoice.antt.
 -- Assumes nothing.
 use mathlib.Core.Path.{_≡_, refl, sym, ap, ap₂, _∙_, subst}
 use mathlib.Core.Bool.{Bool, true, false, not, _&&_, _||_, false≢true}
@@ -37,13 +37,14 @@ use Rattle.messages.specs.MessageLaws.{order-size, own-write}
 use Rattle.messages.specs.RoundTrip.{read-again}
 use Rattle.messages.specs.OrderPlaces.{isOrder, countIn, layoutIn, setInRecord}
 use Rattle.messages.specs.FieldPlace.{set-same, selected-small, not-session}
+use Rattle.messages.specs.ByteLaws.{bytes-front, bytes-append, zero-byte, bytes-zeros, number-bytes}
 use Rattle.messages.specs.Taken.{TakenBothWays}
-use Rattle.messages.specs.ValidOrders.{orderOf, UnitFits, Required, Valid, messageSize, GoodFixed, GoodBits, chosenRecord, sampleFixed}
+use Rattle.messages.specs.ValidOrders.{orderOf, UnitFits, Required, Valid, messageSize, GoodFixed, GoodBits, chosenRecord}
 
 -- ---- the four types
 
 -- what holds of the four types holds of every order of a direction
-by-direction : (direction message : ℕ) → orderOf direction message ≡ true → (P : ℕ → ℕ → Type 0) → P 0 0x38 → P 0 0x39 → P 1 0x25 → P 1 0x2C → P direction message
+pub by-direction : (direction message : ℕ) → orderOf direction message ≡ true → (P : ℕ → ℕ → Type 0) → P 0 0x38 → P 0 0x39 → P 1 0x25 → P 1 0x2C → P direction message
 by-direction direction message o P a b c d = by (eqb direction 0) refl (eqb direction 1) refl (eqb message 0x38) refl (eqb message 0x39) refl (eqb message 0x25) refl (eqb message 0x2C) refl o
   where
     at : (n x : ℕ) → P n x → eqb direction n ≡ true → eqb message x ≡ true → P direction message
@@ -195,29 +196,6 @@ a-valid-record-is-taken direction r out bytes long v room =
 
 -- ---- EVERY CHOICE
 
--- a byte in front
-pub bytes-front : (x : ℕ) (xs : List ℕ) → x < 256 → Bytes xs → Bytes (x ∷ xs)
-bytes-front x xs h k zero = h
-bytes-front x xs h k (suc i) = k i
-
-pub bytes-append : (xs ys : List ℕ) → Bytes xs → Bytes ys → (i : ℕ) → getD (xs ++ ys) i 0 < 256
-bytes-append [] ys h k i = k i
-bytes-append (x ∷ xs) ys h k zero = h 0
-bytes-append (x ∷ xs) ys h k (suc i) = bytes-append xs ys (λ j. h (suc j)) k i
-
-zero-byte : (n i : ℕ) → getD (zeros n) i 0 ≡ 0
-zero-byte zero i = refl
-zero-byte (suc n) zero = refl
-zero-byte (suc n) (suc i) = zero-byte n i
-
-pub bytes-zeros : (n i : ℕ) → getD (zeros n) i 0 < 256
-bytes-zeros n i = rw (zero-byte n i) (omega arith)
-
-pub number-bytes : (n v i : ℕ) → getD (bytesOf n v) i 0 < 256
-number-bytes zero v i = omega arith
-number-bytes (suc n) v zero = omega arith
-number-bytes (suc n) v (suc i) = number-bytes n (v / 256) i
-
 -- types and units are bytes
 type-byte : (direction message : ℕ) → orderOf direction message ≡ true → message < 256
 type-byte direction message o = by-direction direction message o (λ (d x : ℕ). x < 256) (omega arith) (omega arith) (omega arith) (omega arith)
@@ -334,44 +312,3 @@ module _ (direction message unit number : ℕ) (fixed : List ℕ) (count : ℕ) 
   unfolding stored
   every-choice-is-taken out room =
       a-valid-record-is-taken direction stored out stored-bytes (omega (arith, long)) valid (omega (arith, at-most-239 direction stored (omega (arith, long)) valid))
-
--- ---- not empty
-
--- a list that is zero from place a on
-ends-at : (a n : ℕ) (l : List ℕ) → drop a l ≡ zeros n → (i : ℕ) → a ≤ i → getD l i 0 ≡ 0
-ends-at a n l e i h =
-    let q : a + (i - a) ≡ i = omega arith in
-    ap (λ (j : ℕ). getD l j 0) (sym q) ∙ sym (getD-drop a l (i - a) 0) ∙ ap (λ (x : List ℕ). getD x (i - a) 0) e ∙ zero-byte n (i - a)
-
-venue-bytes : Bytes (zeros 8 ++ (65 ∷ zeros 50))
-venue-bytes = bytes-append (zeros 8) (65 ∷ zeros 50) (bytes-zeros 8) (bytes-front 65 (zeros 50) (omega arith) (bytes-zeros 50))
-
--- A FIXED PART IS GOOD: there is one of each type
-pub a-fixed-part-is-good : (direction message : ℕ) → orderOf direction message ≡ true → GoodFixed message (sampleFixed message)
-unfolding fixedGood countAt
-a-fixed-part-is-good direction message o =
-    by-direction direction message o (λ (d x : ℕ). GoodFixed x (sampleFixed x))
-    (record {
-      whole = refl;
-      bytes = bytes-append (65 ∷ zeros 19) (49 ∷ 1 ∷ zeros 37) (bytes-front 65 (zeros 19) (omega arith) (bytes-zeros 19)) (bytes-front 49 (1 ∷ zeros 37) (omega arith) (bytes-front 1 (zeros 37) (omega arith) (bytes-zeros 37)));
-      good = refl;
-      ends = λ i h. ends-at 25 34 (65 ∷ zeros 19 ++ (49 ∷ 1 ∷ zeros 37)) refl i (omega arith);
-    })
-    (record {
-      whole = refl;
-      bytes = bytes-front 65 (zeros 58) (omega arith) (bytes-zeros 58);
-      good = refl;
-      ends = λ i h. ends-at 20 39 (65 ∷ zeros 58) refl i (omega arith);
-    })
-    (record {
-      whole = refl;
-      bytes = venue-bytes;
-      good = refl;
-      ends = λ i h. ends-at 37 22 (zeros 8 ++ (65 ∷ zeros 50)) refl i (omega arith);
-    })
-    (record {
-      whole = refl;
-      bytes = venue-bytes;
-      good = refl;
-      ends = λ i h. ends-at 59 0 (zeros 8 ++ (65 ∷ zeros 50)) refl i (omega arith);
-    })

@@ -3,13 +3,15 @@
 --     a-header-is-taken                                             both heartbeats and Replay Complete
 --     blank-values-are-good                                         and there are good fixed parts: blank ones
 -- Assumes nothing.
-use mathlib.Core.Path.{_≡_, refl, ap, _∙_}
-use mathlib.Core.Bool.{true}
+use mathlib.Core.Path.{_≡_, refl, sym, ap, _∙_, subst}
+use mathlib.Core.Bool.{Bool, true, false, _&&_, _||_, false≢true}
 use mathlib.Core.List.{List, [], _∷_, _++_}
 use Prim.Native.Nat.{ℕ, _+_, _≤_, _<_}
 use native.Mathlib.Omega.{arith}
+use lib.Dec.{eqb}
 use lib.ListN.{length, getD, length-append}
 use lib.Seq.{take-at}
+use borrow.Author.Tests.{eqb-true}
 use Rattle.numbers.specs.Numbers.{bytesOf, patched}
 use Rattle.wire.specs.Header.{headerBytes, lengthOf, typeOf, totalOf}
 use Rattle.wire.specs.HeaderLaws.{Bytes, header-length, header-number, header-total}
@@ -25,12 +27,8 @@ use Rattle.session_messages.specs.Sizes.{sessionRecordSize}
 use Rattle.messages.specs.Messages.{isSession, carries, ownRefusal, readRefusal, readCall}
 use Rattle.messages.specs.MessageLaws.{size-at-most, own-refusal, own-size-suffices}
 use Rattle.messages.specs.RoundTrip.{taken-again, written-again}
-use Rattle.messages.specs.Taken.{TakenAsSaid}
-use Rattle.messages.specs.EveryChoice.{bytes-front, bytes-append, number-bytes}
-
--- a session message of a type and a body b
-abbrev pub said : ℕ → List ℕ → List ℕ
-said message b = headerBytes (8 + length b) message 0 0 ++ b
+use Rattle.messages.specs.ByteLaws.{bytes-front, bytes-append, number-bytes}
+use Rattle.messages.specs.Taken.{TakenAsSaid, said, headerOf}
 
 module _ (direction message : ℕ) (b : List ℕ) (carried : carries direction message ≡ true) (session : isSession message ≡ true) (small : message < 256) (bytes : Bytes b)
     (z : sessions.readRefusal (said message b) ≡ 0) where
@@ -105,22 +103,31 @@ unfolding carries
 a-logout-is-taken p ps bytes n v c o =
     is-taken-as-said 1 0x08 (p ++ pairsBytes ps) refl refl (omega arith) bytes (a-value-is-a-logout (8 + length (p ++ pairsBytes ps)) p ps n v c o)
 
--- A HEADER IS TAKEN: Client Heartbeat, Server Heartbeat, Replay Complete
-pub record HeadersTaken : Type 0 where
-  pub client-heartbeat : TakenAsSaid 0 (said 0x03 [])
-  pub server-heartbeat : TakenAsSaid 1 (said 0x09 [])
-  pub replay-complete : TakenAsSaid 1 (said 0x13 [])
-
 no-bytes : Bytes []
 no-bytes i = omega arith
 
-pub a-header-is-taken : HeadersTaken
+-- A HEADER IS TAKEN: Client Heartbeat, Server Heartbeat, Replay Complete
+pub a-header-is-taken : (direction message : ℕ) → headerOf direction message ≡ true → TakenAsSaid direction (said message [])
 unfolding carries sessions.fixedSize
-a-header-is-taken = record {
-  client-heartbeat = is-taken-as-said 0 0x03 [] refl refl (omega arith) no-bytes (header-alone (said 0x03 []) refl refl (header-number 8 0x03 0 0 [] (omega arith)) refl);
-  server-heartbeat = is-taken-as-said 1 0x09 [] refl refl (omega arith) no-bytes (header-alone (said 0x09 []) refl refl (header-number 8 0x09 0 0 [] (omega arith)) refl);
-  replay-complete = is-taken-as-said 1 0x13 [] refl refl (omega arith) no-bytes (header-alone (said 0x13 []) refl refl (header-number 8 0x13 0 0 [] (omega arith)) refl);
-}
+a-header-is-taken direction message o = by (eqb direction 0) refl (eqb direction 1) refl (eqb message 0x03) refl (eqb message 0x09) refl (eqb message 0x13) refl o
+  where
+    alone : (d x : ℕ) → carries d x ≡ true → isSession x ≡ true → x < 256 → sessions.fixedSize x ≡ 0 → TakenAsSaid d (said x [])
+    alone d x c s h f = is-taken-as-said d x [] c s h no-bytes (header-alone (said x []) s refl (header-number 8 x 0 0 [] (omega arith)) f)
+
+    at : (d x : ℕ) → TakenAsSaid d (said x []) → eqb direction d ≡ true → eqb message x ≡ true → TakenAsSaid direction (said message [])
+    at d x h e f = subst (λ (i : ℕ). TakenAsSaid i (said message [])) (sym (eqb-true direction d e)) (subst (λ (i : ℕ). TakenAsSaid d (said i [])) (sym (eqb-true message x f)) h)
+
+    by : (g : Bool) → eqb direction 0 ≡ g → (h : Bool) → eqb direction 1 ≡ h → (x : Bool) → eqb message 0x03 ≡ x → (y : Bool) → eqb message 0x09 ≡ y → (v : Bool) → eqb message 0x13 ≡ v
+        → ((g && x) || (h && (y || v))) ≡ true → TakenAsSaid direction (said message [])
+    by true eg h eh true ex y ey v ev q = at 0 0x03 (alone 0 0x03 refl refl (omega arith) refl) eg ex
+    by true eg true eh false ex true ey v ev q = at 1 0x09 (alone 1 0x09 refl refl (omega arith) refl) eh ey
+    by true eg true eh false ex false ey true ev q = at 1 0x13 (alone 1 0x13 refl refl (omega arith) refl) eh ev
+    by true eg true eh false ex false ey false ev q = absurd (false≢true q)
+    by true eg false eh false ex y ey v ev q = absurd (false≢true q)
+    by false eg true eh x ex true ey v ev q = at 1 0x09 (alone 1 0x09 refl refl (omega arith) refl) eh ey
+    by false eg true eh x ex false ey true ev q = at 1 0x13 (alone 1 0x13 refl refl (omega arith) refl) eh ev
+    by false eg true eh x ex false ey false ev q = absurd (false≢true q)
+    by false eg false eh x ex y ey v ev q = absurd (false≢true q)
 
 -- not empty: blank values are good, and blank fixed parts count no pairs and no groups
 pub blank-values-are-good : (sessions.valuesGood 0x37 (zeros 19) ≡ true) × ((sessions.valuesGood 0x24 (zeros 67) ≡ true) × (sessions.valuesGood 0x08 (zeros 66) ≡ true))

@@ -2,9 +2,11 @@ pub mod Messages
 pub mod Stages
 pub mod MessageLaws
 pub mod RoundTrip
+pub mod ByteLaws
 pub mod OrderPlaces
 pub mod FieldPlace
 pub mod Taken
 pub mod ValidOrders
 pub mod EveryChoice
+pub mod SomeChoice
 pub mod EverySession

@@ -78,3 +78,11 @@ sampleFixed message =
     cond (eqb message 0x38) (65 ∷ zeros 19 ++ (49 ∷ 1 ∷ zeros 37))
     (cond (eqb message 0x39) (65 ∷ zeros 58)
     (zeros 8 ++ (65 ∷ zeros 50)))
+
+-- all listed bits of each type at once
+abbrev pub allBits : ℕ → List ℕ
+allBits message =
+    cond (eqb message 0x38) (255 ∷ 195 ∷ 193 ∷ 0 ∷ 0 ∷ 51 ∷ 0 ∷ 0 ∷ 0 ∷ 2 ∷ zeros 5)
+    (cond (eqb message 0x39) (1 ∷ zeros 14)
+    (cond (eqb message 0x25) (125 ∷ 67 ∷ 87 ∷ 0 ∷ 142 ∷ zeros 10)
+    (125 ∷ 67 ∷ 87 ∷ zeros 12)))
