@@ -1,17 +1,19 @@
 -- What a login of ours brings on the line of any such venue as demand 3 speaks of.
 --     such-a-venue-brings    whatever its log takes, whatever it hears and however many steps it makes, with whatever room, what it sent so far says a
 --                            front of the list `brings`, and what it has come to sends the rest
+--     each-login-brings      so in the day, whatever happened before, of every login of the member's that such a venue takes
 -- Assumes nothing.
-use mathlib.Core.Path.{_≡_, refl, sym, ap, ap₂, _∙_}
+use mathlib.Core.Path.{_≡_, sym, _∙_}
 use mathlib.Core.Bool.{Bool, true, false, _&&_, false≢true}
-use mathlib.Core.List.{List, [], _∷_, _++_, map}
+use mathlib.Core.List.{List, [], _∷_, map}
 use Prim.Native.Nat.{ℕ, _≤_}
-use Rattle.day_model.specs.Model.{Msg, Table, count, Sent, Venue, took, nextInLog}
-use Rattle.day_model.specs.Story.{Bytes, All}
-use Rattle.day_model.specs.Generic.{all-append, map-++}
-use Rattle.day_model.specs.Halves.{Line, VenueCode, MeetsVenue}
+use Rattle.day_model.specs.Model.{Table, count, Sent, Venue, took, nextInLog}
+use Rattle.day_model.specs.Story.{Bytes, All, Happens, Now, story, dawn}
+use Rattle.day_model.specs.Generic.{all-append, map-++, Holds, holds}
+use Rattle.day_model.specs.Generic as generic
+use Rattle.day_model.specs.Halves.{Line, MemberCode, VenueCode, code, MeetsMember, MeetsVenue, both}
 use Rattle.day_model.specs.Brings.{brings, Brought, Call, offers, hears, steps, called, bytesOut, calls, sentBy}
-use Rattle.day_model.specs.BringsLaws.{Owes, Went, went-nowhere, went-by-moves, went-by-a-message, went-on, a-login-owes, went-brought}
+use Rattle.day_model.specs.BringsLaws.{Owes, Went, went-nowhere, went-by-moves, went-by-a-message, went-on, a-login-owes, went-brought, lists-no-more}
 
 -- P holds of whatever a step sends
 module _ (L : Line) (B : VenueCode) (N : MeetsVenue L B) (P : Bytes → Type 0)
@@ -70,3 +72,11 @@ such-a-venue-brings L B N room b v g o ok h cs =
     let e = N .takes-is room b v o ok g h in
     let f = login-followed L B N (L .Fine) (N .step-fine) (L .lists b) v now (N .takes-good room b v ok g) e h cs in
     rw (N .log-is v) at (went-brought (L .lists b) (N .viewV v) (N .viewV (calls B cs now)) (map (L .says) (sentBy B cs now)) (rw e at (f .went)))
+
+-- IN THE DAY of such a member and such a venue: every login on the line that the venue takes, whatever happened before
+pub each-login-brings : (L : Line) (A : MemberCode) (B : VenueCode) (M : MeetsMember L A) (N : MeetsVenue L B) (es : List (Happens (A .Fields))) (room : ℕ) (w : Now (code A B))
+    → w ≡ story (code A B) es (dawn (code A B)) → w .asks ≡ true → B .accepts room (w .asking) (w .venue) ≡ true → (cs : List Call)
+    → Brought (L .lists (w .asking)) (map (L .msgOf) (B .logOf (w .venue))) (map (L .says) (sentBy B cs (B .takesLogin room (w .asking) (w .venue)))) (N .viewV (calls B cs (B .takesLogin room (w .asking) (w .venue))))
+each-login-brings L A B M N es room w e a ok cs =
+    let h : Holds (code A B) (both L A B M N) w = rw e (holds (code A B) (both L A B M N) es) in
+    such-a-venue-brings L B N room (w .asking) (w .venue) (h .good .venue) (h .good .asking a) ok (lists-no-more (generic.seen (code A B) (both L A B M N) w) (h .inv) a) cs

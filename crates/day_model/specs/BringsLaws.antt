@@ -381,18 +381,16 @@ some-turns t (x ∷ ts) v xs o =
 pub login-brings : (t : Table) (v : Venue) → ((u : ℕ) → t u ≤ count u (v .log)) → (ts : List Turn) → Brought t (v .log) (sentIn ts (took t v)) (turns ts (took t v))
 login-brings t v h ts = went-brought t v (turns ts (took t v)) (sentIn ts (took t v)) (some-turns t ts (took t v) (brings t (v .log) []) (a-login-owes t v h))
 
--- IN THE DAY a login of the member's lists no more than the log holds, whatever happened before: the law has no premise there
+-- in the day a login of the member's that is under way lists no more than the log holds
+pub lists-no-more : (w : World) → Inv w → w .asks ≡ true → (u : ℕ) → w .asking u ≤ count u (w .venue .log)
+lists-no-more w h a u =
+    let k : w .asking u ≡ count u (messages (w .member .book)) = ap (λ (t : Table). t u) (h .waits a .lists) ∙ counted (w .venue .log) (w .member) (h .safe) u in
+    omega (arith, k, prefix-length (h .safe .firsts u))
+
+-- IN THE DAY the law has no premise, whatever happened before the login
 pub days-login-brings : (es : List Event) → run es start .asks ≡ true → (ts : List Turn)
     → Brought (run es start .asking) (run es start .venue .log) (sentIn ts (took (run es start .asking) (run es start .venue))) (turns ts (took (run es start .asking) (run es start .venue)))
-days-login-brings es e ts = go (run es start) (inv-run es start inv-start) e
-  where
-    go : (w : World) → Inv w → w .asks ≡ true → Brought (w .asking) (w .venue .log) (sentIn ts (took (w .asking) (w .venue))) (turns ts (took (w .asking) (w .venue)))
-    go w h a =
-        login-brings (w .asking) (w .venue)
-        (λ u.
-        let k : w .asking u ≡ count u (messages (w .member .book)) = ap (λ (t : Table). t u) (h .waits a .lists) ∙ counted (w .venue .log) (w .member) (h .safe) u in
-        omega (arith, k, prefix-length (h .safe .firsts u)))
-        ts
+days-login-brings es e ts = login-brings (run es start .asking) (run es start .venue) (lists-no-more (run es start) (inv-run es start inv-start) e) ts
 
 -- IDLE IS WHOLE: where a step is idle, all of the list was sent
 pub idle-is-whole : (t : Table) (log : List Msg) (sent : List Sent) (now : Venue) (b : Brought t log sent now) → docStep (suc (length (now .log))) now .sent ≡ []
