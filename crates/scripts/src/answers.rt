@@ -46,22 +46,33 @@ fn member_call_of(word: &[u8]) -> u8 {
     if check::same(word, b"m-beat") {
         return 6;
     }
+    own_call_of(word)
+}
+
+// The same for the calls that take one kind of message.
+fn own_call_of(word: &[u8]) -> u8 {
+    if check::same(word, b"m-message") {
+        return 7;
+    }
+    if check::same(word, b"m-response") {
+        return 8;
+    }
     rare_call_of(word)
 }
 
 // The same for the calls between the sessions.
 fn rare_call_of(word: &[u8]) -> u8 {
     if check::same(word, b"m-open") {
-        return 7;
-    }
-    if check::same(word, b"m-restart") {
-        return 8;
-    }
-    if check::same(word, b"m-state") {
         return 9;
     }
-    if check::same(word, b"m-book") {
+    if check::same(word, b"m-restart") {
         return 10;
+    }
+    if check::same(word, b"m-state") {
+        return 11;
+    }
+    if check::same(word, b"m-book") {
+        return 12;
     }
     0
 }
@@ -69,25 +80,25 @@ fn rare_call_of(word: &[u8]) -> u8 {
 // Which call of the venue a word names, or that of the member, or 0.
 fn venue_call_of(word: &[u8]) -> u8 {
     if check::same(word, b"v-step") {
-        return 11;
-    }
-    if check::same(word, b"v-log") {
-        return 12;
-    }
-    if check::same(word, b"v-login") {
         return 13;
     }
-    if check::same(word, b"v-order") {
+    if check::same(word, b"v-log") {
         return 14;
     }
-    if check::same(word, b"v-break") {
+    if check::same(word, b"v-login") {
         return 15;
     }
-    if check::same(word, b"v-state") {
+    if check::same(word, b"v-order") {
         return 16;
     }
-    if check::same(word, b"v-book") {
+    if check::same(word, b"v-break") {
         return 17;
+    }
+    if check::same(word, b"v-state") {
+        return 18;
+    }
+    if check::same(word, b"v-book") {
+        return 19;
     }
     member_call_of(word)
 }
@@ -103,12 +114,12 @@ fn call_of(word: &[u8]) -> u8 {
 // How many words a question of a call has; no line has 0.
 fn words_of(call: u8) -> usize {
     match call {
-        1 | 10 | 15 | 17 => 1,
-        5 | 6 | 14 => 2,
-        2 | 3 | 7 | 8 | 11 | 12 | 13 => 3,
+        1 | 12 | 17 | 19 => 1,
+        5 | 6 | 16 => 2,
+        2 | 3 | 7 | 8 | 9 | 10 | 13 | 14 | 15 => 3,
         4 => 13,
-        9 => 8,
-        16 => 9,
+        11 => 8,
+        18 => 9,
         _ => 0,
     }
 }
@@ -131,7 +142,7 @@ pub fn answered(
     if call == 1 {
         return begin(book, log);
     }
-    if call < 11 {
+    if call < 13 {
         return of_member(call, line, bench, bytes, book);
     }
     of_venue(call, line, bench, bytes, log)

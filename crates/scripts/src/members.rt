@@ -19,14 +19,14 @@ pub struct Told {
 // Answers a line by its call.
 pub fn answered(call: u8, line: &[u8], s: Session, bytes: &mut [u8], book: &mut [u8]) -> Told {
     match call {
-        2 => get(line, s, bytes, book),
+        2 | 7 | 8 => get(call, line, s, bytes, book),
         3 => order(line, s, bytes),
         4 => login(line, s),
         5 => broken(line, s, book),
         6 => beat(line, s),
-        7 => open(line, s, book),
-        8 => restart(line, s, book),
-        9 => state(line, s),
+        9 => open(line, s, book),
+        10 => restart(line, s, book),
+        11 => state(line, s),
         _ => stored(s, book),
     }
 }
@@ -180,18 +180,27 @@ fn logged_in(
     sent(a, out)
 }
 
-// `m-get BYTES ROOM`: the refusal and the member.
-fn get(line: &[u8], s: Session, bytes: &mut [u8], book: &mut [u8]) -> Told {
+// `m-get BYTES ROOM`, `m-message BYTES ROOM`, `m-response BYTES ROOM`: the refusal and the member.
+fn get(call: u8, line: &[u8], s: Session, bytes: &mut [u8], book: &mut [u8]) -> Told {
     let run = words::read_bytes(words::word(line, 1), bytes);
     let room = words::read_number(words::word(line, 2), book.len() as u64);
     if run.ok && room.ok {
         let k = run.count;
         let n = room.value as usize;
-        let a = s.receive(&bytes[0..k], &mut book[0..n]);
+        let a = got(call, s, &bytes[0..k], &mut book[0..n]);
         let after = a.session;
         return refused(a.refusal, after);
     }
     unknown(s)
+}
+
+// What the session answers to bytes from the venue: by the call for application messages, by that for a Login Response, by that for any.
+fn got(call: u8, s: Session, bytes: &[u8], book: &mut [u8]) -> session::Answer {
+    match call {
+        7 => s.message(bytes, book),
+        8 => s.response(bytes, book),
+        _ => s.receive(bytes, book),
+    }
 }
 
 // `m-order RECORD ROOM`: the refusal, the member and the output.

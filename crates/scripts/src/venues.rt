@@ -14,12 +14,12 @@ pub struct Told {
 // Answers a line by its call.
 pub fn answered(call: u8, line: &[u8], v: Venue, bytes: &mut [u8], log: &mut [u8]) -> Told {
     match call {
-        11 => step(line, v, log),
-        12 => logged(line, v, bytes, log),
-        13 => login(line, v, bytes),
-        14 => order(line, v, bytes),
-        15 => say(v.broken()),
-        16 => state(line, v),
+        13 => step(line, v, log),
+        14 => logged(line, v, bytes, log),
+        15 => login(line, v, bytes),
+        16 => order(line, v, bytes),
+        17 => say(v.broken()),
+        18 => state(line, v),
         _ => stored(v, log),
     }
 }

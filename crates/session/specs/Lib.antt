@@ -2,6 +2,8 @@ pub mod Sessions
 pub mod Stages
 pub mod SessionLaws
 pub mod OrderLaws
+pub mod ReadingLaws
+pub mod OwnCalls
 pub mod SessionSteps
 pub mod Unchanged
 pub mod AnyRest

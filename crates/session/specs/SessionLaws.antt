@@ -16,14 +16,13 @@ use Rattle.session_messages.specs.declared.Record as sessionRecords
 use Rattle.session_messages.specs.Sessions as logins
 use Rattle.messages.specs.Messages.{carries, isSession, ownRefusal, readRefusal}
 use Rattle.book.specs.declared.Book.{Book}
-use Rattle.book.specs.declared.Answer.{Answer as BookAnswer}
 use Rattle.book.specs.Books as books
 use Rattle.book.specs.Books.{pickAnswer, appendRefusal, appendedBy, appendOf, appendBuffer, closeBuffer}
 use Rattle.session.specs.declared.Phase.{Phase}
 use Rattle.session.specs.declared.Phase.the-variants.{Closed, Asked, Replaying, Live}
 use Rattle.session.specs.declared.Session.{Session}
 use Rattle.session.specs.declared.Answer.{Answer}
-use Rattle.session.specs.Sessions.{pickSession, answer, answered, inPhase, withBook, isClosed, isAsked, isOpen, passes, endedBy, brokenBy, brokenBuffer, respondedBy, respondedBuffer, responseRefusal, responseOf, responseBuffer, statusIn, receivedIn, messageRefusal, messageOf, messageBuffer, receiveRefusal, receivedBy, receiveOf, receivedBuffer, receiveBuffer, loginRefusal, loginOf, loginOut, heartbeatRecord, heartbeatRefusal, heartbeatOf, heartbeatOut}
+use Rattle.session.specs.Sessions.{pickSession, answer, answered, inPhase, withBook, isClosed, isOpen, passes, endedBy, brokenBy, brokenBuffer, respondedBy, respondedBuffer, statusIn, receivedIn, receiveRefusal, receivedBy, receiveOf, receivedBuffer, receiveBuffer, loginRefusal, loginOf, loginOut, heartbeatRecord, heartbeatRefusal, heartbeatOf, heartbeatOut}
 use Rattle.session.specs.Stages.{bookedAs, heardBy, heardBuffer}
 
 -- ---- answers
@@ -65,35 +64,12 @@ module _ (s : Session) (status received : ℕ) (xs : List ℕ) where
   unfolding respondedBy respondedBuffer replays
   denied n p q = (p ∙ sym (ap (λ (b : Bool). pickSession b replays (endedBy s (length xs))) (ne-eqb status 65 n)), q ∙ rw (ne-eqb status 65 n))
 
-  pub responds : isAsked (s .phase) ≡ true → {a : Session} {out : List ℕ} → a ≡ respondedBy s status received (length xs) → out ≡ respondedBuffer s status xs
-      → (answer 0 a ≡ responseOf s status received (length xs)) × (out ≡ responseBuffer s status xs)
-  unfolding responseOf responseBuffer
-  responds e p q = (accepts (responseRefusal s) (respondedBy s status received (length xs)) s (rw e) p, q ∙ rw e)
-
-  pub unasked : isAsked (s .phase) ≡ false → (answer 16 s ≡ responseOf s status received (length xs)) × (xs ≡ responseBuffer s status xs)
-  unfolding responseOf responseBuffer
-  unasked e = (refuses (responseRefusal s) (respondedBy s status received (length xs)) s (rw e) (λ z. omega (arith, z)), rw e)
-
 -- ---- an application message
 
-module _ (s : Session) (xs bytes : List ℕ) where
-  booked : (k : ℕ) (b : Book) (t : Bool) → eqb k 0 ≡ t
-      → answer (pickAnswer t (books.answer 0 b) (books.answer k (s .book)) .refusal) (withBook s (pickAnswer t (books.answer 0 b) (books.answer k (s .book)) .book))
-      ≡ answer k (pickSession t (withBook s b) s)
-  booked k b true z = ap (λ (x : ℕ). answer x (withBook s b)) (sym (eqb-true k 0 z))
-  booked k b false z = refl
-
-  pub books-it : isOpen (s .phase) ≡ true → {a : BookAnswer} {out : List ℕ} → a ≡ appendOf (s .book) (length xs) bytes → out ≡ appendBuffer (s .book) xs bytes
-      → {r : Answer} → r ≡ bookedAs s a → (r ≡ messageOf s (length xs) bytes) × (out ≡ messageBuffer s xs bytes)
-  unfolding messageOf messageRefusal messageBuffer appendOf
-  books-it e p q w =
-      let k = appendRefusal (s .book) (length xs) bytes in
-      let b = appendedBy (s .book) (framed bytes) in
-      (w ∙ ap (bookedAs s) p ∙ booked k b (eqb k 0) refl ∙ sym (ap (λ (t : Bool). answered (cond t k 16) (withBook s b) s) e), q ∙ rw e)
-
-  pub unopened : isOpen (s .phase) ≡ false → (answer 16 s ≡ messageOf s (length xs) bytes) × (xs ≡ messageBuffer s xs bytes)
-  unfolding messageOf messageRefusal messageBuffer
-  unopened e = (refuses (messageRefusal s (length xs) bytes) (withBook s (appendedBy (s .book) (framed bytes))) s (rw e) (λ z. omega (arith, z)), rw e)
+-- what appending answers, told of the session, as the answer of a call
+booked : (s : Session) (k : ℕ) (b : Book) (t : Bool) → eqb k 0 ≡ t → bookedAs s (pickAnswer t (books.answer 0 b) (books.answer k (s .book))) ≡ answer k (pickSession t (withBook s b) s)
+booked s k b true z = ap (λ (x : ℕ). answer x (withBook s b)) (sym (eqb-true k 0 z))
+booked s k b false z = refl
 
 -- ---- a session message
 
@@ -122,19 +98,6 @@ module _ (s : Session) (xs m : List ℕ) where
 
 -- ---- any bytes from the venue
 
--- an application message passes while replaying or live
-pub open-passes : (p : Phase) (t : ℕ) → passes p t ≡ true → orderTypes.ofVenue t ≡ true → isOpen p ≡ true
-unfolding passes
-open-passes Closed t e v = absurd (true≢false (sym e))
-open-passes Asked t e v = by (eqb t 0x24) refl (eqb t 0x08) refl e
-  where
-    by : (a : Bool) → eqb t 0x24 ≡ a → (b : Bool) → eqb t 0x08 ≡ b → (a || b) ≡ true → false ≡ true
-    by true x b y e = let q : t ≡ 0x24 = eqb-true t 0x24 x in rw q at v
-    by false x true y e = let q : t ≡ 0x08 = eqb-true t 0x08 y in rw q at v
-    by false x false y e = e
-open-passes Replaying t e v = refl
-open-passes Live t e v = refl
-
 only : (b : Bool) → (b || false) ≡ true → b ≡ true
 only true h = refl
 only false h = h
@@ -148,7 +111,7 @@ heartbeat-passes Replaying t e v a b d = only (eqb t 0x09) (rw (v, b, d) at e)
 heartbeat-passes Live t e v a b d = only (eqb t 0x09) (rw (v, d) at e)
 
 -- an application message's type is one of two
-venue-types : (P : ℕ → Type 0) → P 0x25 → P 0x2C → (t : ℕ) → orderTypes.ofVenue t ≡ true → P t
+pub venue-types : (P : ℕ → Type 0) → P 0x25 → P 0x2C → (t : ℕ) → orderTypes.ofVenue t ≡ true → P t
 venue-types P p q t v = by (eqb t 0x25) refl (eqb t 0x2C) refl v
   where
     by : (a : Bool) → eqb t 0x25 ≡ a → (b : Bool) → eqb t 0x2C ≡ b → (a || b) ≡ true → P t
@@ -160,7 +123,7 @@ venue-types P p q t v = by (eqb t 0x25) refl (eqb t 0x2C) refl v
 pub venue-else : (t : ℕ) → orderTypes.ofVenue t ≡ true → (eqb t 0x24 ≡ false) × (eqb t 0x13 ≡ false) × (eqb t 0x08 ≡ false) × (eqb t 0x09 ≡ false)
 venue-else = venue-types (λ (t : ℕ). (eqb t 0x24 ≡ false) × (eqb t 0x13 ≡ false) × (eqb t 0x08 ≡ false) × (eqb t 0x09 ≡ false)) (refl, refl, refl, refl) (refl, refl, refl, refl)
 
-no-session : (t : ℕ) → orderTypes.ofVenue t ≡ true → isSession t ≡ false
+pub no-session : (t : ℕ) → orderTypes.ofVenue t ≡ true → isSession t ≡ false
 no-session = venue-types (λ (t : ℕ). isSession t ≡ false) refl refl
 
 -- what the venue's reader takes is framed, of a type of the venue's, and good by itself
@@ -258,17 +221,17 @@ module _ (s : Session) (xs bytes : List ℕ) where
         unfolding receiveRefusal
         session-refusal v = rw (c, eq-eqb (readRefusal 1 bytes) 0 z, e, v)
 
-        pub by-message : orderTypes.ofVenue (typeOf (framed bytes)) ≡ true → {a : Answer} {out : List ℕ} → (a ≡ messageOf s (length xs) bytes) × (out ≡ messageBuffer s xs bytes)
+        pub by-message : orderTypes.ofVenue (typeOf (framed bytes)) ≡ true → {a : Answer} {out : List ℕ} → (a ≡ bookedAs s (appendOf (s .book) (length xs) bytes)) × (out ≡ appendBuffer (s .book) xs bytes)
             → Receives s xs bytes a out
-        unfolding messageOf messageRefusal messageBuffer receiveOf receiveBuffer appendBuffer
+        unfolding receiveOf receiveBuffer appendOf appendBuffer
         by-message v p =
             let k = application-refusal v in
-            let o = open-passes (s .phase) (typeOf (framed bytes)) e v in (
+            let n = appendRefusal (s .book) (length xs) bytes in (
               p .0
-                  ∙ ap (λ (t : Bool). answered (cond t (appendRefusal (s .book) (length xs) bytes) 16) (withBook s (appendedBy (s .book) (framed bytes))) s) o
-                  ∙ ap₂ (λ (n : ℕ) (w : Session). answered n w s) (sym k) (sym (received-books s (framed bytes) v (length xs))),
+                  ∙ booked s n (appendedBy (s .book) (framed bytes)) (eqb n 0) refl
+                  ∙ ap₂ (λ (x : ℕ) (w : Session). answered x w s) (sym k) (sym (received-books s (framed bytes) v (length xs))),
               p .1
-                  ∙ rw o (rw (k, received-appends s (framed bytes) v xs)),
+                  ∙ rw (k, received-appends s (framed bytes) v xs),
             )
 
         pub by-session : orderTypes.ofVenue (typeOf (framed bytes)) ≡ false → {a : Session} {out : List ℕ} → (a ≡ heardBy s (length xs) (framed bytes)) × (out ≡ heardBuffer s xs (framed bytes))

@@ -32,7 +32,7 @@ use Rattle.session.specs.declared.Session.{Session}
 use Rattle.session.specs.declared.Answer.{Answer}
 use Rattle.session.specs.Sessions.{answer, inPhase, withBook, isClosed, isOpen, passes, endedBy, brokenBy, brokenBuffer, respondedBy, respondedBuffer, statusIn, receivedIn, receiveOf, receiveBuffer, loginOf, loginOut}
 use Rattle.session.specs.Stages.{heardBy, heardBuffer}
-use Rattle.session.specs.SessionLaws.{breaks, allowed, denied, books-it, hears-response, hears-complete, hears-logout, hears-else, Receives, deaf, untimely, by-message, by-session, logs-in}
+use Rattle.session.specs.SessionLaws.{breaks, allowed, denied, hears-response, hears-complete, hears-logout, hears-else, Receives, deaf, untimely, by-message, by-session, logs-in}
 
 -- receiving m answers a and leaves `out` of the book's buffer
 abbrev pub Step : Session → List ℕ → List ℕ → Answer → List ℕ → Type 0
@@ -115,7 +115,7 @@ module _ (s : Session) (xs m : List ℕ) (z : readRefusal 1 m ≡ 0) (f : framed
         → Step s xs m (answer (appendOf (s .book) (length xs) m .refusal) (withBook s (appendOf (s .book) (length xs) m .book))) (appendBuffer (s .book) xs m)
     open-application v =
         told s xs m (by-message s xs m (ap isClosed h ∙ not-closed p o) z (passing p h true (venue-passes p o v)) (ap (λ (x : List ℕ). ofVenue (typeOf x)) f ∙ v)
-        (books-it s xs m (ap isOpen h ∙ o) refl refl refl))
+        (refl, refl))
 
     pub open-heartbeat : typeOf m ≡ 0x09 → Step s xs m (answer 0 s) xs
     open-heartbeat t =

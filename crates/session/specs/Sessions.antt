@@ -7,7 +7,7 @@ use lib.ListN.{length, getD}
 use Rattle.refusals.specs.Names.{unknownType, noRoom, outOfPhase, numbersUsedUp}
 use Rattle.numbers.specs.Numbers.{numberAt, patched}
 use Rattle.wire.specs.Header.{typeOf}
-use Rattle.wire.specs.Frame.{framed}
+use Rattle.wire.specs.Frame.{frameRefusal, framed}
 use Rattle.block.specs.Slots.{zeros}
 use Rattle.orders.specs.Shapes as orderTypes
 use Rattle.orders.specs.declared.Record as orderRecords
@@ -17,7 +17,8 @@ use Rattle.session_messages.specs.declared.Record as sessionRecords
 use Rattle.session_messages.specs.Sessions as logins
 use Rattle.messages.specs.Messages.{readRefusal}
 use Rattle.book.specs.declared.Book.{Book}
-use Rattle.book.specs.Books.{appendRefusal, appendedBy, appendBuffer, closeOf, closeBuffer}
+use Rattle.book.specs.Books as books
+use Rattle.book.specs.Books.{appendRefusal, appendedBy, closeOf, closeBuffer}
 use Rattle.session.specs.declared.Phase.{Phase}
 use Rattle.session.specs.declared.Phase.the-variants.{Closed, Asked, Replaying, Live}
 use Rattle.session.specs.declared.Session.{Session}
@@ -108,16 +109,6 @@ respondedBy s status received room =
 unfoldable pub respondedBuffer : Session → ℕ → List ℕ → List ℕ
 respondedBuffer s status xs = cond (eqb status 65) xs (closeBuffer (s .book) xs)
 
--- 01, Session and replay: 16 unless asked
-abbrev pub responseRefusal : Session → ℕ
-responseRefusal s = cond (isAsked (s .phase)) 0 outOfPhase
-
-unfoldable pub responseOf : Session → ℕ → ℕ → ℕ → Answer
-responseOf s status received room = answered (responseRefusal s) (respondedBy s status received room) s
-
-unfoldable pub responseBuffer : Session → ℕ → List ℕ → List ℕ
-responseBuffer s status xs = cond (isAsked (s .phase)) (respondedBuffer s status xs) xs
-
 -- 000, Login Response: where status and last received number stand
 abbrev pub statusIn : List ℕ → ℕ
 statusIn m = getD m 10 0
@@ -125,17 +116,45 @@ statusIn m = getD m 10 0
 abbrev pub receivedIn : List ℕ → ℕ
 receivedIn m = numberAt 4 72 m
 
--- ---- an application message: 16 unless replaying or live, then the book's
+-- reading: 1, 2, 3; 4 for a type other than the Login Response's; then the message's own
+unfoldable pub responseReading : List ℕ → ℕ
+responseReading bytes =
+    cond (eqb (frameRefusal bytes) 0)
+    (cond (eqb (typeOf (framed bytes)) 0x24) (logins.readRefusal (framed bytes)) unknownType)
+    (frameRefusal bytes)
 
+-- 01, Session and replay: 16 if closed; the reading refusals; 16 for a type out of phase, which a Login Response is unless asked
+unfoldable pub responseRefusal : Session → List ℕ → ℕ
+responseRefusal s bytes =
+    cond (isClosed (s .phase)) outOfPhase
+    (cond (eqb (responseReading bytes) 0)
+    (cond (isAsked (s .phase)) 0 outOfPhase)
+    (responseReading bytes))
+
+-- the state after it, and the book's buffer
+unfoldable pub responseOf : Session → ℕ → List ℕ → Answer
+responseOf s room bytes = answered (responseRefusal s bytes) (respondedBy s (statusIn (framed bytes)) (receivedIn (framed bytes)) room) s
+
+unfoldable pub responseBuffer : Session → List ℕ → List ℕ → List ℕ
+responseBuffer s xs bytes = cond (eqb (responseRefusal s bytes) 0) (respondedBuffer s (statusIn (framed bytes)) xs) xs
+
+-- ---- an application message
+
+-- 01, Session and replay: 16 if closed; the reading refusals, which are the book's: 4 for a type other than an application message's; 16 for a type
+-- out of phase, which an application message is unless replaying or live; then 14, 15, 13
 unfoldable pub messageRefusal : Session → ℕ → List ℕ → ℕ
-messageRefusal s room bytes = cond (isOpen (s .phase)) (appendRefusal (s .book) room bytes) outOfPhase
+messageRefusal s room bytes =
+    cond (isClosed (s .phase)) outOfPhase
+    (cond (eqb (books.messageRefusal bytes) 0)
+    (cond (isOpen (s .phase)) (appendRefusal (s .book) room bytes) outOfPhase)
+    (books.messageRefusal bytes))
 
 -- the state after it, and the book's buffer
 unfoldable pub messageOf : Session → ℕ → List ℕ → Answer
 messageOf s room bytes = answered (messageRefusal s room bytes) (withBook s (appendedBy (s .book) (framed bytes))) s
 
 unfoldable pub messageBuffer : Session → List ℕ → List ℕ → List ℕ
-messageBuffer s xs bytes = cond (isOpen (s .phase)) (appendBuffer (s .book) xs bytes) xs
+messageBuffer s xs bytes = cond (eqb (messageRefusal s (length xs) bytes) 0) (patched xs (s .book .length) (framed bytes)) xs
 
 -- ---- any bytes from the venue
 

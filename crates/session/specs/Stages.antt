@@ -6,13 +6,14 @@ use lib.Dec.{eqb, ltb}
 use lib.ListN.{length, getD}
 use Rattle.refusals.specs.Names.{unknownType, noRoom, outOfPhase, numbersUsedUp}
 use Rattle.wire.specs.Header.{typeOf}
+use Rattle.wire.specs.Frame.{framed}
 use Rattle.orders.specs.Shapes as orderTypes
 use Rattle.book.specs.declared.Answer.{Answer as BookAnswer}
 use Rattle.book.specs.Books.{closeBuffer}
 use Rattle.session.specs.declared.Phase.the-variants.{Live}
 use Rattle.session.specs.declared.Session.{Session}
 use Rattle.session.specs.declared.Answer.{Answer}
-use Rattle.session.specs.Sessions.{pickSession, answer, inPhase, withBook, isLive, endedBy, respondedBy, respondedBuffer, statusIn, receivedIn}
+use Rattle.session.specs.Sessions.{pickSession, answer, answered, inPhase, withBook, isClosed, isLive, endedBy, respondedBy, respondedBuffer, statusIn, receivedIn, receiveRefusal, receivedBy, receivedBuffer}
 use Rattle.block.specs.Sizes.{recordSize}
 
 -- what appending answered, told of the session
@@ -33,6 +34,17 @@ heardBuffer s xs m =
     (cond (eqb (typeOf m) 0x13) xs
     (cond (eqb (typeOf m) 0x08) (closeBuffer (s .book) xs)
     xs))
+
+-- of bytes from the venue whose reading refusal is n: 16 if closed; that refusal; then as any message from the venue
+unfoldable pub afterRefusal : Session → ℕ → ℕ → List ℕ → ℕ
+afterRefusal s n room bytes = cond (isClosed (s .phase)) outOfPhase (cond (eqb n 0) (receiveRefusal s room bytes) n)
+
+-- what is answered, and the book's buffer
+unfoldable pub afterReading : Session → ℕ → ℕ → List ℕ → Answer
+afterReading s n room bytes = answered (afterRefusal s n room bytes) (receivedBy s room (framed bytes)) s
+
+unfoldable pub afterBuffer : Session → ℕ → List ℕ → List ℕ → List ℕ
+afterBuffer s n xs bytes = cond (eqb (afterRefusal s n (length xs) bytes) 0) (receivedBuffer s xs (framed bytes)) xs
 
 -- an order's refusals before the writer's: 16, 20, 13 for the record, 4
 unfoldable pub gateRefusal : Session → List ℕ → ℕ

@@ -18,11 +18,11 @@ use lib.ListN.{length}
 use borrow.Author.Tests.{ne-eqb, eq-eqb}
 use Rattle.session_messages.specs.declared.Record.{Record}
 use Rattle.session_messages.specs.Sessions as logins
-use Rattle.book.specs.Books.{pickBook, roomless, marked, appendRefusal, appendBuffer, closeOf}
+use Rattle.book.specs.Books.{pickBook, roomless, marked, closeOf}
 use Rattle.session.specs.declared.Phase.the-variants.{Closed, Asked}
 use Rattle.session.specs.declared.Session.{Session}
 use Rattle.session.specs.declared.Answer.{Answer}
-use Rattle.session.specs.Sessions.{pickSession, answered, inPhase, isClosed, isAsked, isOpen, endedBy, brokenBy, brokenBuffer, respondedBuffer, responseRefusal, responseOf, responseBuffer, messageRefusal, messageOf, messageBuffer, receiveRefusal, receiveOf, receiveBuffer, loginRefusal, loginOf, loginOut, heartbeatRecord, heartbeatRefusal, heartbeatOf, heartbeatOut, nextOutgoing, orderRefusal, orderOf, orderOut}
+use Rattle.session.specs.Sessions.{pickSession, answered, inPhase, isClosed, isOpen, endedBy, brokenBy, brokenBuffer, responseRefusal, responseOf, responseBuffer, messageRefusal, messageOf, messageBuffer, receiveRefusal, receiveOf, receiveBuffer, loginRefusal, loginOf, loginOut, heartbeatRecord, heartbeatRefusal, heartbeatOf, heartbeatOut, nextOutgoing, orderRefusal, orderOf, orderOut}
 use Rattle.session.specs.SessionLaws.{stays-closed}
 
 -- of a call that answers a and leaves `after` of a buffer: where it is refused, the state and the buffer are as they were
@@ -40,17 +40,13 @@ kept-behind false k new old n = refl
 
 -- ---- the calls
 
-pub refused-response : (s : Session) (status received : ℕ) (xs : List ℕ) → ChangesNothing (responseOf s status received (length xs)) s (responseBuffer s status xs) xs
+pub refused-response : (s : Session) (xs bytes : List ℕ) → ChangesNothing (responseOf s (length xs) bytes) s (responseBuffer s xs bytes) xs
 unfolding responseOf responseBuffer
-refused-response s status received xs n = (kept (responseRefusal s) _ s n, by (isAsked (s .phase)) (respondedBuffer s status xs) n)
-  where
-    by : (b : Bool) (new : List ℕ) → (_≡_ {A = ℕ} (cond b 0 16) 0 → ⊥) → cond b new xs ≡ xs
-    by true new k = absurd (k refl)
-    by false new k = refl
+refused-response s xs bytes n = (kept (responseRefusal s bytes) _ s n, rw (ne-eqb (responseRefusal s bytes) 0 n))
 
 pub refused-message : (s : Session) (xs bytes : List ℕ) → ChangesNothing (messageOf s (length xs) bytes) s (messageBuffer s xs bytes) xs
-unfolding messageOf messageRefusal messageBuffer appendBuffer
-refused-message s xs bytes n = (kept (messageRefusal s (length xs) bytes) _ s n, kept-behind (isOpen (s .phase)) (appendRefusal (s .book) (length xs) bytes) _ xs n)
+unfolding messageOf messageBuffer
+refused-message s xs bytes n = (kept (messageRefusal s (length xs) bytes) _ s n, rw (ne-eqb (messageRefusal s (length xs) bytes) 0 n))
 
 pub refused-receive : (s : Session) (xs bytes : List ℕ) → ChangesNothing (receiveOf s (length xs) bytes) s (receiveBuffer s xs bytes) xs
 unfolding receiveOf receiveBuffer

@@ -11,9 +11,9 @@ ghost use Rattle.orders.specs.Shapes.{ofVenue};
 ghost use Rattle.orders.specs.Orders.{writeRefusal, writeBuffer};
 ghost use Rattle.session_logins.specs.LoginRequests.{loginRecord};
 ghost use Rattle.messages.specs.Messages.{readRefusal};
-ghost use Rattle.book.specs.Books.{closeBuffer};
-ghost use Rattle.session.specs.Sessions.{closedWith, inPhase, isClosed, isOpen, endedBy, brokenBy, brokenBuffer, respondedBy, respondedBuffer, responseOf, responseBuffer, messageOf, messageBuffer, receiveOf, receiveBuffer, loginOf, loginOut, heartbeatOf, heartbeatOut, numbered, orderOf, orderOut};
-ghost use Rattle.session.specs.Stages.{bookedAs, gateRefusal, heardBy, heardBuffer};
+ghost use Rattle.book.specs.Books.{appendOf, appendBuffer, closeBuffer};
+ghost use Rattle.session.specs.Sessions.{closedWith, inPhase, isClosed, endedBy, brokenBy, brokenBuffer, respondedBy, respondedBuffer, receivedIn, responseReading, responseOf, responseBuffer, messageOf, messageBuffer, receiveOf, receiveBuffer, loginOf, loginOut, heartbeatOf, heartbeatOut, numbered, orderOf, orderOut};
+ghost use Rattle.session.specs.Stages.{bookedAs, heardBy, heardBuffer, afterReading, afterBuffer, gateRefusal};
 ghost use Rattle.block.specs.Sizes.{recordSize};
 use book::Book;
 use session_logins::Bitfields;
@@ -61,6 +61,28 @@ fn write_numbered(given: &[u8], number: u32, out: &mut [u8]) -> u8
     block::copy(&given[0..block::RECORD], &mut scratch);
     numbers::write_u32(&mut scratch, 2, number);
     order_writer::write_order(&scratch, out)
+}
+
+// The last received number of a Login Response.
+fn received_in(m: &[u8]) -> OutgoingNumber
+    ensures { λ r. ⌜ r .0 ≡ receivedIn (now (m .entry)) ⌝ }
+{
+    OutgoingNumber(numbers::read_u32(m, 72))
+}
+
+// The refusal of the first whole message of any bytes as a Login Response: 1 to 11, 4 for any other type; or 0.
+fn response_refusal(bytes: &[u8]) -> u8
+    ensures { λ r. ⌜ r ≡ responseReading (now (bytes .entry)) ⌝ }
+{
+    let refusal = wire::frame_refusal(bytes);
+    if refusal != 0 {
+        return refusal;
+    }
+    let m = wire::frame(bytes);
+    if wire::header::type_of(m) != 0x24 {
+        return refusals::UNKNOWN_TYPE;
+    }
+    session_messages::read_refusal(m)
 }
 
 impl Session {
@@ -117,24 +139,6 @@ impl Session {
         self.ended(buffer)
     }
 
-    // A Login Response: 16 unless asked.
-    pub fn response(self, status: u8, received: OutgoingNumber, buffer: &mut [u8]) -> Answer
-        ensures { λ r. ⌜ (r ≡ responseOf self status (received .0) (length (now (buffer .entry)))) × (now (buffer .exit) ≡ responseBuffer self status (now (buffer .entry))) ⌝ }
-    {
-        let phase = self.phase;
-        if phases::is_asked(phase) {
-            let s = self.responded(status, received, buffer);
-            return Answer {
-                refusal: 0,
-                session: s,
-            };
-        }
-        Answer {
-            refusal: refusals::OUT_OF_PHASE,
-            session: self,
-        }
-    }
-
     // What appending answered, told of the session: its refusal, and the same session with the book after it.
     fn booked(self, appended: book::Answer) -> Answer
         ensures { λ r. ⌜ r ≡ bookedAs self appended ⌝ }
@@ -152,26 +156,10 @@ impl Session {
         }
     }
 
-    // An application message: 16 unless replaying or live, then the book's refusals; or it is in the book and its unit's entry has risen.
-    pub fn message(self, bytes: &[u8], buffer: &mut [u8]) -> Answer
-        ensures { λ r. ⌜ (r ≡ messageOf self (length (now (buffer .entry))) (now (bytes .entry))) × (now (buffer .exit) ≡ messageBuffer self (now (buffer .entry)) (now (bytes .entry))) ⌝ }
-    {
-        let phase = self.phase;
-        if phases::is_open(phase) {
-            let book = self.book;
-            let appended = book.append(bytes, buffer);
-            return self.booked(appended);
-        }
-        Answer {
-            refusal: refusals::OUT_OF_PHASE,
-            session: self,
-        }
-    }
-
-    // An application message that was read, while replaying or live: 14, 15 or 13; or it is in the book and its unit's entry has risen.
-    fn message_read(self, bytes: &[u8], buffer: &mut [u8]) -> Answer
-        requires { ⌜ (isOpen (self .phase) ≡ true) × (readRefusal 1 (now bytes) ≡ 0) × (ofVenue (typeOf (framed (now bytes))) ≡ true) ⌝ }
-        ensures { λ r. ⌜ (r ≡ messageOf self (length (now (buffer .entry))) (now (bytes .entry))) × (now (buffer .exit) ≡ messageBuffer self (now (buffer .entry)) (now (bytes .entry))) ⌝ }
+    // An application message that was read: 14, 15 or 13; or it is in the book and its unit's entry has risen.
+    fn append_read(self, bytes: &[u8], buffer: &mut [u8]) -> Answer
+        requires { ⌜ (readRefusal 1 (now bytes) ≡ 0) × (ofVenue (typeOf (framed (now bytes))) ≡ true) ⌝ }
+        ensures { λ r. ⌜ (r ≡ bookedAs self (appendOf (self .book) (length (now (buffer .entry))) (now (bytes .entry)))) × (now (buffer .exit) ≡ appendBuffer (self .book) (now (buffer .entry)) (now (bytes .entry))) ⌝ }
     {
         let book = self.book;
         let appended = book.append_good(bytes, buffer);
@@ -185,8 +173,8 @@ impl Session {
         let message = wire::header::type_of(m);
         if message == 0x24 {
             let status = numbers::byte_at(m, 10);
-            let received = numbers::read_u32(m, 72);
-            return self.responded(status, OutgoingNumber(received), buffer);
+            let received = received_in(m);
+            return self.responded(status, received, buffer);
         }
         if message == 0x13 {
             return self.in_phase(Phase::Live);
@@ -212,7 +200,7 @@ impl Session {
             };
         }
         if orders::of_venue(message) {
-            return self.message_read(bytes, buffer);
+            return self.append_read(bytes, buffer);
         }
         let s = self.heard(m, buffer);
         Answer {
@@ -221,10 +209,10 @@ impl Session {
         }
     }
 
-    // Any bytes from the venue, of which the first whole message counts: 16 if closed, the reading refusals, 16 for a type out of phase, and 14,
-    // 15 or 13 for an application message; or 0 and the state after the message.
-    pub fn receive(self, bytes: &[u8], buffer: &mut [u8]) -> Answer
-        ensures { λ r. ⌜ (r ≡ receiveOf self (length (now (buffer .entry))) (now (bytes .entry))) × (now (buffer .exit) ≡ receiveBuffer self (now (buffer .entry)) (now (bytes .entry))) ⌝ }
+    // Bytes from the venue whose reading refusal is given: 16 if closed; that refusal; then what the first whole message of them says.
+    fn after_reading(self, refusal: u8, bytes: &[u8], buffer: &mut [u8]) -> Answer
+        requires { ⌜ (refusal ≡ 0 → readRefusal 1 (now bytes) ≡ 0) ⌝ }
+        ensures { λ r. ⌜ (r ≡ afterReading self refusal (length (now (buffer .entry))) (now (bytes .entry))) × (now (buffer .exit) ≡ afterBuffer self refusal (now (buffer .entry)) (now (bytes .entry))) ⌝ }
     {
         let phase = self.phase;
         if phases::is_closed(phase) {
@@ -233,7 +221,6 @@ impl Session {
                 session: self,
             };
         }
-        let refusal = messages::read_refusal(1, bytes);
         if refusal != 0 {
             return Answer {
                 refusal: refusal,
@@ -241,6 +228,33 @@ impl Session {
             };
         }
         self.taken(bytes, buffer)
+    }
+
+    // A Login Response, the first whole message of any bytes: 16 if closed, the reading refusals, 4 for another type among them, 16 unless asked; or 0
+    // and the state after it.
+    pub fn response(self, bytes: &[u8], buffer: &mut [u8]) -> Answer
+        ensures { λ r. ⌜ (r ≡ responseOf self (length (now (buffer .entry))) (now (bytes .entry))) × (now (buffer .exit) ≡ responseBuffer self (now (buffer .entry)) (now (bytes .entry))) ⌝ }
+    {
+        let refusal = response_refusal(bytes);
+        self.after_reading(refusal, bytes, buffer)
+    }
+
+    // An application message, the first whole message of any bytes: 16 if closed, the reading refusals, 4 for another type among them, 16 unless
+    // replaying or live, 14, 15 or 13; or it is in the book and its unit's entry has risen.
+    pub fn message(self, bytes: &[u8], buffer: &mut [u8]) -> Answer
+        ensures { λ r. ⌜ (r ≡ messageOf self (length (now (buffer .entry))) (now (bytes .entry))) × (now (buffer .exit) ≡ messageBuffer self (now (buffer .entry)) (now (bytes .entry))) ⌝ }
+    {
+        let refusal = book::message_refusal(bytes);
+        self.after_reading(refusal, bytes, buffer)
+    }
+
+    // Any bytes from the venue, of which the first whole message counts: 16 if closed, the reading refusals, 16 for a type out of phase, and 14,
+    // 15 or 13 for an application message; or 0 and the state after the message.
+    pub fn receive(self, bytes: &[u8], buffer: &mut [u8]) -> Answer
+        ensures { λ r. ⌜ (r ≡ receiveOf self (length (now (buffer .entry))) (now (bytes .entry))) × (now (buffer .exit) ≡ receiveBuffer self (now (buffer .entry)) (now (bytes .entry))) ⌝ }
+    {
+        let refusal = messages::read_refusal(1, bytes);
+        self.after_reading(refusal, bytes, buffer)
     }
 
     // A login with the table's numbers: 16 unless closed, then the writer's refusals; or it is written, and the session is asked.

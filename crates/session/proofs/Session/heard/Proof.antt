@@ -15,8 +15,8 @@ type-of-requires c κs = search needs
 byte-at-requires : tie.Need-byte-at-requires
 byte-at-requires c κs = search needs
 
-read-u32-requires : tie.Need-read-u32-requires
-read-u32-requires c κs = search needs
+received-in-requires : tie.Need-received-in-requires
+received-in-requires c κs = search needs
 
 responded-requires : tie.Need-responded-requires
 responded-requires c κs = search needs
@@ -32,7 +32,7 @@ returns c =
     let a = then .before .before .before .before .args in
     let xs = now (a .buffer) in
     hears-response (a .self) xs (now (a .m)) (sym (then .before .type-of .ensures) ∙ then .if1 .taken)
-    (told .responded .ensures .0 ∙ ap₂ (λ (x y : ℕ). respondedBy (a .self) x y (length xs)) (number .before .byte-at .ensures) (number .read-u32 .ensures))
+    (told .responded .ensures .0 ∙ ap₂ (λ (x y : ℕ). respondedBy (a .self) x y (length xs)) (number .before .byte-at .ensures) (number .received-in .ensures))
     (told .responded .ensures .1 ∙ ap (λ (x : ℕ). respondedBuffer (a .self) x xs) (number .before .byte-at .ensures))
 
 in-phase-requires : tie.Need-in-phase-requires
@@ -74,7 +74,7 @@ heard-spec =
     (tie.spec
     type-of-requires
     byte-at-requires
-    read-u32-requires
+    received-in-requires
     responded-requires
     same-length
     returns

@@ -3,7 +3,7 @@ use Rattle.wire.specs.Header.{typeOf}
 use Rattle.orders.specs.Shapes.{ofVenue}
 use Rattle.session.specs.Stages.{heardBy, heardBuffer}
 use Rattle.session.specs.Sessions.{passes}
-use Rattle.session.specs.SessionLaws.{open-passes, untimely, by-message, by-session}
+use Rattle.session.specs.SessionLaws.{untimely, by-message, by-session}
 use mathlib.Core.Path.{sym, ap, _∙_}
 use denote.Ref.{now}
 use lib.ListN.{length}
@@ -34,18 +34,17 @@ returns c =
 of-venue-requires : tie.Need-of-venue-requires
 of-venue-requires c κs = search needs
 
-message-read-requires : tie.Need-message-read-requires
-message-read-requires c κs =
+append-read-requires : tie.Need-append-read-requires
+append-read-requires c κs =
     let then = c .before in
     let other = then .before .before in
     let passed = other .before in
     let typed = passed .before in
     let framed = typed .before in
     let start = framed .before .before .before in
-    let p = start .args .self .phase in
     let t = typed .type-of .ensures ∙ ap typeOf (framed .frame .ensures) in
     let v = ap ofVenue (sym t) ∙ sym (then .before .of-venue .ensures) ∙ then .if2 .taken in
-    (open-passes p _ (ap (passes p) (sym t) ∙ sym (passed .passes .ensures) ∙ not-false _ (other .if1 .left)) v, start .pre .1, v)
+    (start .pre .1, v)
 
 same-length : tie.Need-same-length
 same-length c = search needs
@@ -62,7 +61,7 @@ returns-2 c =
     let a = start .args in
     let t = typed .type-of .ensures ∙ ap typeOf (framed .frame .ensures) in
     by-message (a .self) (now (a .buffer)) (now (a .bytes)) (start .pre .0) (start .pre .1) (ap (passes (a .self .phase)) (sym t) ∙ sym (passed .passes .ensures) ∙ not-false _ (other .if1 .left))
-    (ap ofVenue (sym t) ∙ sym (then .before .of-venue .ensures) ∙ then .if2 .taken) (told .message-read .ensures)
+    (ap ofVenue (sym t) ∙ sym (then .before .of-venue .ensures) ∙ then .if2 .taken) (told .append-read .ensures)
 
 heard-requires : tie.Need-heard-requires
 heard-requires c κs = search needs
@@ -94,7 +93,7 @@ taken-spec =
     passes-requires
     returns
     of-venue-requires
-    message-read-requires
+    append-read-requires
     same-length
     returns-2
     heard-requires
