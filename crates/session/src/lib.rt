@@ -53,13 +53,13 @@ pub fn closed_with(b: Book) -> Session
 }
 
 // Writes an order's record, the first 235 bytes given, under a number.
-fn write_numbered(given: &[u8], number: u32, out: &mut [u8]) -> u8
+fn write_numbered(given: &[u8], number: OutgoingNumber, out: &mut [u8]) -> u8
     requires { ⌜ recordSize ≤ length (now given) ⌝ }
-    ensures { λ r. ⌜ (r ≡ writeRefusal (numbered (now (given .entry)) number) (length (now (out .entry)))) × (now (out .exit) ≡ writeBuffer (numbered (now (given .entry)) number) (now (out .entry))) ⌝ }
+    ensures { λ r. ⌜ (r ≡ writeRefusal (numbered (now (given .entry)) (number .0)) (length (now (out .entry)))) × (now (out .exit) ≡ writeBuffer (numbered (now (given .entry)) (number .0)) (now (out .entry))) ⌝ }
 {
     let mut scratch = [0u8; block::RECORD];
     block::copy(&given[0..block::RECORD], &mut scratch);
-    numbers::write_u32(&mut scratch, 2, number);
+    numbers::write_u32(&mut scratch, 2, number.0);
     order_writer::write_order(&scratch, out)
 }
 
@@ -348,7 +348,8 @@ impl Session {
                 session: self,
             };
         }
-        let number = self.outgoing.0 + 1;
+        let next = self.outgoing.0 + 1;
+        let number = OutgoingNumber(next);
         let refusal = write_numbered(given, number, out);
         if refusal != 0 {
             return Answer {
@@ -362,7 +363,7 @@ impl Session {
             refusal: 0,
             session: Session {
                 phase: phase,
-                outgoing: OutgoingNumber(number),
+                outgoing: number,
                 book: book,
             },
         }

@@ -54,7 +54,7 @@ returns c =
     let start = copied .before .before .before .before .before in
     let a = start .args in
     let s = now (a .given) in
-    let e = ap recordAt (put .write-u32 .ensures .1 ∙ ap (λ (x : List ℕ). putBuffer x 2 (bytesOf 4 (a .number))) (patched-part _ s recordSize 0 refl (start .pre) (copied .copy .ensures))) ∙ numbered-is s (a .number) (start .pre) (omega (arith, start .fits .number)) in
+    let e = ap recordAt (put .write-u32 .ensures .1 ∙ ap (λ (x : List ℕ). putBuffer x 2 (bytesOf 4 (a .number .0))) (patched-part _ s recordSize 0 refl (start .pre) (copied .copy .ensures))) ∙ numbered-is s (a .number .0) (start .pre) (omega arith) in
     (wrote .write-order .ensures .0 ∙ ap (λ (r : Record). writeRefusal r (length (now (a .out)))) e, wrote .write-order .ensures .1 ∙ ap (λ (r : Record). writeBuffer r (now (a .out))) e)
 
 pub write-numbered-spec : {M : Type 1} → statement M

@@ -15,8 +15,8 @@ returns c =
     let a = c .before .before .before .before .args in
     gate-stops (a .self) (now (a .given)) (now (a .out)) (c .before .gate-refusal .ensures) (c .if1 .taken)
 
-add-number : tie.Need-add-number
-add-number c =
+add-next : tie.Need-add-next
+add-next c =
     let other = c .before in
     let a = other .before .before .before .before .args in
     let ok = admitted (a .self) (now (a .given)) (sym (other .before .gate-refusal .ensures) ∙ other .if1 .left) in
@@ -54,7 +54,7 @@ order-spec =
     (tie.spec
     gate-refusal-requires
     returns
-    add-number
+    add-next
     write-numbered-requires
     same-length
     returns-2
