@@ -1,6 +1,10 @@
 // The words of a question, with one space between: numbers and bytes.
-ghost use Prim.Native.Nat.{_≤_};
-ghost use lib.ListN.{length};
+ghost use mathlib.Core.Path.{_≡_};
+ghost use mathlib.Core.Bool.{false};
+ghost use Prim.Native.Nat.{_+_, _-_, _*_, _/_, _≤_, _<_};
+ghost use lib.ListN.{length, drop};
+ghost use Rattle.numbers.specs.Numbers.{patched};
+ghost use Rattle.asking.specs.Words.{wordsOf, wordOf, isDigit, numbered, numberOf, isHex, nibbleOf, allHex, bytesIn, isBytes, ran, runOf, runBuffer};
 
 // A number of a question.
 pub struct Number {
@@ -16,11 +20,14 @@ pub struct Run {
 
 // Where the word after k others begins, or the line's length.
 fn word_start(line: &[u8], k: usize) -> usize
-    ensures { λ r. ⌜ r ≤ length (now (line .entry)) ⌝ }
+    ensures { λ r. ⌜ (r ≤ length (now (line .entry))) × (wordOf 0 (drop r (now (line .entry))) ≡ wordOf k (now (line .entry))) ⌝ }
 {
     let mut left = k;
     let mut i: usize = 0;
-    while i < line.len() && 0 < left {
+    while i < line.len() {
+        if left == 0 {
+            return i;
+        }
         if line[i] == b' ' {
             left -= 1;
         }
@@ -29,14 +36,13 @@ fn word_start(line: &[u8], k: usize) -> usize
     i
 }
 
-// The place of the first space at or after a place, or the line's length.
-fn word_end(line: &[u8], from: usize) -> usize
-    requires { ⌜ from ≤ length (now line) ⌝ }
-    ensures { λ r. ⌜ (from ≤ r) × (r ≤ length (now (line .entry))) ⌝ }
+// How long the first word is: up to the first space, or to the end.
+fn word_length(s: &[u8]) -> usize
+    ensures { λ r. ⌜ r ≡ length (wordOf 0 (now (s .entry))) ⌝ }
 {
-    let mut i = from;
-    while i < line.len() {
-        if line[i] == b' ' {
+    let mut i: usize = 0;
+    while i < s.len() {
+        if s[i] == b' ' {
             return i;
         }
         i += 1;
@@ -45,7 +51,9 @@ fn word_end(line: &[u8], from: usize) -> usize
 }
 
 // How many words a line has.
-pub fn count(line: &[u8]) -> usize {
+pub fn count(line: &[u8]) -> usize
+    ensures { λ r. ⌜ r ≡ length (wordsOf (now (line .entry))) ⌝ }
+{
     let mut n: usize = 1;
     let mut i: usize = 0;
     while i < line.len() {
@@ -58,28 +66,27 @@ pub fn count(line: &[u8]) -> usize {
 }
 
 // The word after k others; empty where there is none.
-pub fn word(line: &[u8], k: usize) -> &[u8] {
+pub fn word(line: &[u8], k: usize) -> &[u8]
+    ensures { λ r. ⌜ now r ≡ wordOf k (now (line .entry)) ⌝ }
+{
     let start = word_start(line, k);
-    let end = word_end(line, start);
-    &line[start..end]
+    let n = word_length(&line[start..]);
+    &line[start..start + n]
 }
 
-// The value of a decimal digit, or 10.
-fn digit(b: u8) -> u64
-    ensures { λ r. ⌜ r ≤ 10 ⌝ }
+// Whether a byte is a decimal digit.
+fn is_digit(b: u8) -> bool
+    ensures { λ r. ⌜ r ≡ isDigit b ⌝ }
 {
     if b < b'0' {
-        return 10;
+        return false;
     }
-    if b'9' < b {
-        return 10;
-    }
-    (b - b'0') as u64
+    b <= b'9'
 }
 
 // The answer to a word that is no such number.
 fn no_number() -> Number
-    ensures { λ r. ⌜ r .value ≤ 0 ⌝ }
+    ensures { λ r. ⌜ r ≡ numbered false 0 ⌝ }
 {
     Number {
         ok: false,
@@ -89,7 +96,7 @@ fn no_number() -> Number
 
 // A number of one to twenty digits that is at most `most`.
 pub fn read_number(word: &[u8], most: u64) -> Number
-    ensures { λ r. ⌜ r .value ≤ most ⌝ }
+    ensures { λ r. ⌜ (r ≡ numberOf (now (word .entry)) most) × (r .value ≤ most) ⌝ }
 {
     if word.len() == 0 {
         return no_number();
@@ -100,10 +107,11 @@ pub fn read_number(word: &[u8], most: u64) -> Number
     let mut value: u64 = 0;
     let mut i: usize = 0;
     while i < word.len() {
-        let d = digit(word[i]);
-        if 9 < d {
+        let b = word[i];
+        if !is_digit(b) {
             return no_number();
         }
+        let d = (b - b'0') as u64;
         if (18446744073709551615 - d) / 10 < value {
             return no_number();
         }
@@ -119,41 +127,83 @@ pub fn read_number(word: &[u8], most: u64) -> Number
     }
 }
 
-// The value of a capital hex digit, or 16.
-fn nibble(b: u8) -> u8
-    ensures { λ r. ⌜ r ≤ 16 ⌝ }
+// Whether a byte is a capital hex digit.
+fn is_hex(b: u8) -> bool
+    ensures { λ r. ⌜ r ≡ isHex b ⌝ }
 {
-    if b'0' <= b {
+    if b < b'0' {
+        return false;
+    }
+    if b <= b'9' {
+        return true;
+    }
+    if b < b'A' {
+        return false;
+    }
+    b <= b'F'
+}
+
+// The value of a capital hex digit, 0 for any other byte.
+fn nibble(b: u8) -> u8
+    ensures { λ r. ⌜ (r ≡ nibbleOf b) × (r < 16) ⌝ }
+{
+    if is_hex(b) {
         if b <= b'9' {
             return b - b'0';
         }
+        return b - b'A' + 10;
     }
-    if b'A' <= b {
-        if b <= b'F' {
-            return b - b'A' + 10;
-        }
-    }
-    16
+    0
 }
 
-// The byte of two hex digits, or 256.
-fn pair(high: u8, low: u8) -> u16
-    ensures { λ r. ⌜ r ≤ 256 ⌝ }
+// Whether a word has hex digits alone.
+fn all_hex(word: &[u8]) -> bool
+    ensures { λ r. ⌜ r ≡ allHex (now (word .entry)) ⌝ }
 {
-    let h = nibble(high);
-    let l = nibble(low);
-    if 15 < h {
-        return 256;
+    let mut i: usize = 0;
+    while i < word.len() {
+        if !is_hex(word[i]) {
+            return false;
+        }
+        i += 1;
     }
-    if 15 < l {
-        return 256;
+    true
+}
+
+// Whether a word stands for bytes: two hex digits a byte, or `-` for none.
+fn is_bytes(word: &[u8]) -> bool
+    ensures { λ r. ⌜ r ≡ isBytes (now (word .entry)) ⌝ }
+{
+    if word.len() == 0 {
+        return false;
     }
-    (h as u16) * 16 + (l as u16)
+    if word.len() == 1 {
+        return word[0] == b'-';
+    }
+    if word.len() % 2 == 1 {
+        return false;
+    }
+    all_hex(word)
+}
+
+// The bytes of pairs of hex digits, into the front of a buffer that has room for them.
+fn put_bytes(word: &[u8], out: &mut [u8])
+    requires { ⌜ length (now word) / 2 ≤ length (now out) ⌝ }
+    ensures { λ _. ⌜ now (out .exit) ≡ patched (now (out .entry)) 0 (bytesIn (now (word .entry))) ⌝ }
+{
+    let n = word.len() / 2;
+    let mut i: usize = 0;
+    while i < n {
+        let high = nibble(word[2 * i]);
+        let low = nibble(word[2 * i + 1]);
+        out[i] = high * 16 + low;
+        i += 1;
+    }
 }
 
 // The answer to a word that is no bytes, or more than there is room for.
 fn no_run() -> Run
-    ensures { λ r. ⌜ r .count ≤ 0 ⌝ }
+    ensures { λ r. ⌜ r ≡ ran false 0 ⌝ }
 {
     Run {
         ok: false,
@@ -161,41 +211,17 @@ fn no_run() -> Run
     }
 }
 
-// The bytes of pairs of hex digits, into the front of a buffer.
-fn hex(word: &[u8], out: &mut [u8]) -> Run
-    ensures { λ r. ⌜ r .count ≤ length (now (out .entry)) ⌝ }
+// The bytes of a word: two hex digits a byte, or `-` for none. The word is judged before anything is stored.
+pub fn read_bytes(word: &[u8], out: &mut [u8]) -> Run
+    ensures { λ r. ⌜ (r ≡ runOf (now (word .entry)) (length (now (out .entry)))) × (now (out .exit) ≡ runBuffer (now (word .entry)) (now (out .entry))) × (r .count ≤ length (now (out .entry))) ⌝ }
 {
+    if !is_bytes(word) {
+        return no_run();
+    }
     let n = word.len() / 2;
     if out.len() < n {
         return no_run();
     }
-    let mut i: usize = 0;
-    while i < n {
-        let b = pair(word[2 * i], word[2 * i + 1]);
-        if 255 < b {
-            return no_run();
-        }
-        out[i] = b as u8;
-        i += 1;
-    }
+    put_bytes(word, out);
     Run { ok: true, count: n }
-}
-
-// The bytes of a word: two hex digits a byte, or `-` for none.
-pub fn read_bytes(word: &[u8], out: &mut [u8]) -> Run
-    ensures { λ r. ⌜ r .count ≤ length (now (out .entry)) ⌝ }
-{
-    if word.len() == 0 {
-        return no_run();
-    }
-    if word.len() == 1 {
-        return Run {
-            ok: word[0] == b'-',
-            count: 0,
-        };
-    }
-    if word.len() % 2 == 1 {
-        return no_run();
-    }
-    hex(word, out)
 }

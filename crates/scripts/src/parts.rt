@@ -112,35 +112,10 @@ fn lesser(a: usize, b: usize) -> usize
     b
 }
 
-// Where the part of 4,096 bytes that starts at a place ends, or the bytes themselves.
-fn part_end(at: usize, all: usize) -> usize
-    requires { ⌜ at < all ⌝ }
-    ensures { λ r. ⌜ (at < r) × (r ≤ all) ⌝ }
-{
-    if all - at < 4096 {
-        return all;
-    }
-    at + 4096
-}
-
-// Bytes in hex, of any count: `asking` writes 4,096 at a time.
-pub fn hex(s: &[u8]) {
-    if s.len() == 0 {
-        writing::text(b"-");
-        return;
-    }
-    let mut at: usize = 0;
-    while at < s.len() {
-        let end = part_end(at, s.len());
-        writing::hex(&s[at..end]);
-        at = end;
-    }
-}
-
 // The first bytes of a buffer, as many as a length says or as there are, and a table.
 pub fn stored(buffer: &[u8], length: u32, t: Table) {
     let n = lesser(length as usize, buffer.len());
-    hex(&buffer[0..n]);
+    writing::hex(&buffer[0..n]);
     let mut out = [0u8; 128];
     put_table(t, &mut out);
     writing::text(b" ");
@@ -150,5 +125,5 @@ pub fn stored(buffer: &[u8], length: u32, t: Table) {
 // A space and an output buffer after the call.
 pub fn output(out: &[u8]) {
     writing::text(b" ");
-    hex(out);
+    writing::hex(out);
 }

@@ -1,9 +1,9 @@
--- `scripts::parts::hex` is safe and ends: `at` is at most the number of bytes, and the measure is how many are left. Assumes nothing.
+-- `asking::writing::hex` is safe and ends: `at` is at most the number of bytes, and the measure is how many are left. Assumes nothing.
 use Prim.Native.Nat.{_-_, _≤_}
 use native.Mathlib.Omega.{arith}
-use lib.ListN.{length}
-use Rattle.scripts.proofs.parts.hex.Statement.{statement}
-use Rattle.scripts.proofs.parts.hex.Tie as tie
+use lib.ListN.{length, length-take, length-drop}
+use Rattle.asking.proofs.writing.hex.Statement.{statement}
+use Rattle.asking.proofs.writing.hex.Tie as tie
 
 abbrev Inv-loop : tie.InvT-loop
 Inv-loop s at₀ at = at ≤ length s
@@ -26,17 +26,17 @@ loop-holds c = omega arith
 part-end-requires : tie.Need-part-end-requires Inv-loop μ-loop
 part-end-requires c κs = omega arith
 
-sub-hex : tie.Need-sub-hex Inv-loop μ-loop
-sub-hex c = omega arith
+sub-part : tie.Need-sub-part Inv-loop μ-loop
+sub-part c = omega arith
 
-part-hex-start : tie.Need-part-hex-start Inv-loop μ-loop
-part-hex-start c = omega arith
+part-part-start : tie.Need-part-part-start Inv-loop μ-loop
+part-part-start c = omega arith
 
-part-hex-end : tie.Need-part-hex-end Inv-loop μ-loop
-part-hex-end c = omega arith
+part-part-end : tie.Need-part-part-end Inv-loop μ-loop
+part-part-end c = omega arith
 
-hex-requires : tie.Need-hex-requires Inv-loop μ-loop
-hex-requires c κs = tt
+part-requires : tie.Need-part-requires Inv-loop μ-loop
+part-requires c κs = simp (length-take, length-drop) (omega arith)
 
 loop-less : tie.Need-loop-less Inv-loop μ-loop
 loop-less c = omega arith
@@ -58,10 +58,10 @@ hex-spec =
     returns
     loop-holds
     part-end-requires
-    sub-hex
-    part-hex-start
-    part-hex-end
-    hex-requires
+    sub-part
+    part-part-start
+    part-part-end
+    part-requires
     loop-less
     loop-again
     returns-2)

@@ -1,0 +1,4 @@
+pub mod Words
+pub mod WordLaws
+pub mod Spelling
+pub mod SpellingLaws
