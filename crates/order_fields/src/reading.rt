@@ -246,7 +246,7 @@ fn text64_in(f: Found, s: &[u8]) -> Text64
 }
 
 // An optional number of four bytes, by its bitfield byte and bit.
-pub fn number_of(r: Record, message: u8, byte: u8, bit: u8) -> NumberField
+pub(crate) fn number_of(r: Record, message: u8, byte: u8, bit: u8) -> NumberField
     requires { ⌜ (1 ≤ byte) × (byte ≤ 15) × (bit < 8) ⌝ }
     ensures { λ a. ⌜ a ≡ numberOf message byte bit r ⌝ }
 {
@@ -255,7 +255,7 @@ pub fn number_of(r: Record, message: u8, byte: u8, bit: u8) -> NumberField
 }
 
 // An optional number of eight bytes, by its bitfield byte and bit.
-pub fn long_of(r: Record, message: u8, byte: u8, bit: u8) -> LongField
+pub(crate) fn long_of(r: Record, message: u8, byte: u8, bit: u8) -> LongField
     requires { ⌜ (1 ≤ byte) × (byte ≤ 15) × (bit < 8) ⌝ }
     ensures { λ a. ⌜ a ≡ longOf message byte bit r ⌝ }
 {
@@ -264,7 +264,7 @@ pub fn long_of(r: Record, message: u8, byte: u8, bit: u8) -> LongField
 }
 
 // An optional price, by its bitfield byte and bit.
-pub fn price_of(r: Record, message: u8, byte: u8, bit: u8) -> PriceField
+pub(crate) fn price_of(r: Record, message: u8, byte: u8, bit: u8) -> PriceField
     requires { ⌜ (1 ≤ byte) × (byte ≤ 15) × (bit < 8) ⌝ }
     ensures { λ a. ⌜ a ≡ priceOf message byte bit r ⌝ }
 {
@@ -273,7 +273,7 @@ pub fn price_of(r: Record, message: u8, byte: u8, bit: u8) -> PriceField
 }
 
 // An optional text of one byte, by its bitfield byte and bit.
-pub fn text1_of(r: Record, message: u8, byte: u8, bit: u8) -> Text1
+pub(crate) fn text1_of(r: Record, message: u8, byte: u8, bit: u8) -> Text1
     requires { ⌜ (1 ≤ byte) × (byte ≤ 15) × (bit < 8) ⌝ }
     ensures { λ a. ⌜ a ≡ text1Of message byte bit r ⌝ }
 {
@@ -282,7 +282,7 @@ pub fn text1_of(r: Record, message: u8, byte: u8, bit: u8) -> Text1
 }
 
 // An optional text of four bytes, by its bitfield byte and bit.
-pub fn text4_of(r: Record, message: u8, byte: u8, bit: u8) -> Text4
+pub(crate) fn text4_of(r: Record, message: u8, byte: u8, bit: u8) -> Text4
     requires { ⌜ (1 ≤ byte) × (byte ≤ 15) × (bit < 8) ⌝ }
     ensures { λ a. ⌜ a ≡ text4Of message byte bit r ⌝ }
 {
@@ -291,7 +291,7 @@ pub fn text4_of(r: Record, message: u8, byte: u8, bit: u8) -> Text4
 }
 
 // An optional text of eight bytes, by its bitfield byte and bit.
-pub fn text8_of(r: Record, message: u8, byte: u8, bit: u8) -> Text8
+pub(crate) fn text8_of(r: Record, message: u8, byte: u8, bit: u8) -> Text8
     requires { ⌜ (1 ≤ byte) × (byte ≤ 15) × (bit < 8) ⌝ }
     ensures { λ a. ⌜ a ≡ text8Of message byte bit r ⌝ }
 {
@@ -300,7 +300,7 @@ pub fn text8_of(r: Record, message: u8, byte: u8, bit: u8) -> Text8
 }
 
 // An optional text of 16 bytes, by its bitfield byte and bit.
-pub fn text16_of(r: Record, message: u8, byte: u8, bit: u8) -> Text16
+pub(crate) fn text16_of(r: Record, message: u8, byte: u8, bit: u8) -> Text16
     requires { ⌜ (1 ≤ byte) × (byte ≤ 15) × (bit < 8) ⌝ }
     ensures { λ a. ⌜ a ≡ text16Of message byte bit r ⌝ }
 {
@@ -309,7 +309,7 @@ pub fn text16_of(r: Record, message: u8, byte: u8, bit: u8) -> Text16
 }
 
 // An optional text of 64 bytes, by its bitfield byte and bit.
-pub fn text64_of(r: Record, message: u8, byte: u8, bit: u8) -> Text64
+pub(crate) fn text64_of(r: Record, message: u8, byte: u8, bit: u8) -> Text64
     requires { ⌜ (1 ≤ byte) × (byte ≤ 15) × (bit < 8) ⌝ }
     ensures { λ a. ⌜ a ≡ text64Of message byte bit r ⌝ }
 {
@@ -318,7 +318,7 @@ pub fn text64_of(r: Record, message: u8, byte: u8, bit: u8) -> Text64
 }
 
 // A number of four bytes in the fixed part, by its place there.
-pub fn number_fixed(r: Record, message: u8, at: usize) -> NumberField
+pub(crate) fn number_fixed(r: Record, message: u8, at: usize) -> NumberField
     requires { ⌜ at + 4 ≤ fixedSize ⌝ }
     ensures { λ a. ⌜ a ≡ numberFixed message at r ⌝ }
 {
@@ -327,7 +327,7 @@ pub fn number_fixed(r: Record, message: u8, at: usize) -> NumberField
 }
 
 // A number of eight bytes in the fixed part, by its place there.
-pub fn long_fixed(r: Record, message: u8, at: usize) -> LongField
+pub(crate) fn long_fixed(r: Record, message: u8, at: usize) -> LongField
     requires { ⌜ at + 8 ≤ fixedSize ⌝ }
     ensures { λ a. ⌜ a ≡ longFixed message at r ⌝ }
 {
@@ -336,7 +336,7 @@ pub fn long_fixed(r: Record, message: u8, at: usize) -> LongField
 }
 
 // A price in the fixed part, by its place there.
-pub fn price_fixed(r: Record, message: u8, at: usize) -> PriceField
+pub(crate) fn price_fixed(r: Record, message: u8, at: usize) -> PriceField
     requires { ⌜ at + 8 ≤ fixedSize ⌝ }
     ensures { λ a. ⌜ a ≡ priceFixed message at r ⌝ }
 {
@@ -345,7 +345,7 @@ pub fn price_fixed(r: Record, message: u8, at: usize) -> PriceField
 }
 
 // A text of one byte in the fixed part, by its place there.
-pub fn text1_fixed(r: Record, message: u8, at: usize) -> Text1
+pub(crate) fn text1_fixed(r: Record, message: u8, at: usize) -> Text1
     requires { ⌜ at + 1 ≤ fixedSize ⌝ }
     ensures { λ a. ⌜ a ≡ text1Fixed message at r ⌝ }
 {
@@ -354,7 +354,7 @@ pub fn text1_fixed(r: Record, message: u8, at: usize) -> Text1
 }
 
 // A text of four bytes in the fixed part, by its place there.
-pub fn text4_fixed(r: Record, message: u8, at: usize) -> Text4
+pub(crate) fn text4_fixed(r: Record, message: u8, at: usize) -> Text4
     requires { ⌜ at + 4 ≤ fixedSize ⌝ }
     ensures { λ a. ⌜ a ≡ text4Fixed message at r ⌝ }
 {
@@ -363,7 +363,7 @@ pub fn text4_fixed(r: Record, message: u8, at: usize) -> Text4
 }
 
 // A text of 20 bytes in the fixed part, by its place there.
-pub fn text20_fixed(r: Record, message: u8, at: usize) -> Text20
+pub(crate) fn text20_fixed(r: Record, message: u8, at: usize) -> Text20
     requires { ⌜ at + 20 ≤ fixedSize ⌝ }
     ensures { λ a. ⌜ a ≡ text20Fixed message at r ⌝ }
 {

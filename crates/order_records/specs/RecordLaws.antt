@@ -28,12 +28,12 @@ record-is s {n} {f} {b} {v} p q t u =
     ap₂ (λ (x : ℕ) (y : List ℕ). record { message = getD s 0 0; unit = getD s 1 0; number = x; fixed = y; count = getD s 65 0; bits = b; slots = v }) p q
     ∙ ap₂ (λ (x y : List ℕ). record { message = getD s 0 0; unit = getD s 1 0; number = numberAt 4 2 s; fixed = take fixedSize (drop 6 s); count = getD s 65 0; bits = x; slots = y }) t u
 
-pub load-short : (s : List ℕ) → length s < recordSize → loadOf s ≡ blank
-unfolding loadOf
+pub load-short : (s : List ℕ) → length s < recordSize → loadOf s ≡ record { refusal = 13; order = blank }
+unfolding loadOf storeRefusal
 load-short s h = rw (lt-ltb (length s) recordSize h)
 
-pub load-whole : (s : List ℕ) → recordSize ≤ length s → loadOf s ≡ recordAt s
-unfolding loadOf
+pub load-whole : (s : List ℕ) → recordSize ≤ length s → loadOf s ≡ record { refusal = 0; order = recordAt s }
+unfolding loadOf storeRefusal
 load-whole s h = rw (le-ltb (length s) recordSize h)
 
 pub store-short : (r : Record) (out : List ℕ) → length out < recordSize → (13 ≡ storeRefusal (length out)) × (out ≡ storeBuffer r out)

@@ -9,6 +9,7 @@ use Rattle.refusals.specs.Names.{noRoom}
 use Rattle.numbers.specs.Numbers.{numberAt, bytesOf, patched}
 use Rattle.orders.specs.declared.Record.{Record}
 use Rattle.orders.specs.Orders.{blank}
+use Rattle.order_records.specs.declared.Loaded.{Loaded}
 use Rattle.block.specs.Sizes.{fixedSize, layoutSize, recordSize}
 
 -- a record's bytes
@@ -28,14 +29,14 @@ recordAt s =
       slots = take layoutSize (drop 81 s);
     }
 
--- a record from any bytes: that of the first 235, and the blank one where there are fewer
-unfoldable pub loadOf : List ℕ → Record
-loadOf s = cond (ltb (length s) recordSize) blank (recordAt s)
-
--- a record into a buffer: 13 where the buffer has under 235 bytes, and it is as it was
+-- 01, Numbers of refusal: 13 where there are under 235 bytes, in a buffer that a record is stored in as in bytes that one is loaded from
 unfoldable pub storeRefusal : ℕ → ℕ
 storeRefusal room = cond (ltb room recordSize) noRoom 0
 
--- else the record's bytes stand in its front
+-- a record from any bytes: that of the first 235, and the blank one where there are fewer
+unfoldable pub loadOf : List ℕ → Loaded
+loadOf s = record { refusal = storeRefusal (length s); order = cond (ltb (length s) recordSize) blank (recordAt s) }
+
+-- the buffer that a record is stored in: as it was where it has under 235 bytes, and else with the record's bytes in its front
 unfoldable pub storeBuffer : Record → List ℕ → List ℕ
 storeBuffer r out = cond (ltb (length out) recordSize) out (patched out 0 (recordBytes r))

@@ -46,7 +46,7 @@ pub fn put_head(message: u8, unit: u8, number: u32, out: &mut [u8])
 }
 
 // The parts of a record into the front of a buffer that has room for it.
-pub fn pack_parts(
+fn pack_parts(
     message: u8,
     unit: u8,
     number: u32,
@@ -105,14 +105,28 @@ fn unpack(s: &[u8]) -> Record
     }
 }
 
-// The record of the first 235 of any bytes, or the blank one where there are fewer.
-pub fn load(s: &[u8]) -> Record
+// What loading answers: 0 and the record, or the refusal and the blank record.
+pub struct Loaded {
+    pub refusal: u8,
+    pub order: Record,
+}
+
+// The record of the first 235 of any bytes: 0 and the record; or 13 and the blank one where there are fewer.
+pub fn load(s: &[u8]) -> Loaded
     ensures { λ r. ⌜ r ≡ loadOf (now (s .entry)) ⌝ }
 {
     if s.len() < block::RECORD {
-        return orders::blank_record();
+        let blank = orders::blank_record();
+        return Loaded {
+            refusal: refusals::NO_ROOM,
+            order: blank,
+        };
     }
-    unpack(s)
+    let whole = unpack(s);
+    Loaded {
+        refusal: 0,
+        order: whole,
+    }
 }
 
 // A record into the front of any buffer: 0, and its 235 bytes stand there; or 13 for a buffer under 235 bytes, which is as it was.

@@ -8,7 +8,8 @@ use orders::Record;
 pub fn record_of(bytes: &[u8]) -> Record {
     let mut record = [0u8; 235];
     order_reader::read_order(wire::frame(bytes), &mut record);
-    order_records::load(&record)
+    let loaded = order_records::load(&record);
+    loaded.order
 }
 
 // What an acknowledgment says.

@@ -23,7 +23,7 @@ fn lift(s: &[u8], at: usize, to: &mut [u8])
 }
 
 // The byte at a place of a message of the type.
-pub fn byte_of(r: Record, message: u8, at: u8) -> ByteField
+pub(crate) fn byte_of(r: Record, message: u8, at: u8) -> ByteField
     ensures { λ a. ⌜ a ≡ byteOf message at r ⌝ }
 {
     let body = r.body;
@@ -40,7 +40,7 @@ pub fn byte_of(r: Record, message: u8, at: u8) -> ByteField
 }
 
 // The one byte from a place on of a message of the type.
-pub fn text1_of(r: Record, message: u8, at: u8) -> Text1
+pub(crate) fn text1_of(r: Record, message: u8, at: u8) -> Text1
     ensures { λ a. ⌜ a ≡ text1Of message at r ⌝ }
 {
     let body = r.body;
@@ -59,7 +59,7 @@ pub fn text1_of(r: Record, message: u8, at: u8) -> Text1
 }
 
 // The four bytes from a place on of a message of the type.
-pub fn text4_of(r: Record, message: u8, at: u8) -> Text4
+pub(crate) fn text4_of(r: Record, message: u8, at: u8) -> Text4
     ensures { λ a. ⌜ a ≡ text4Of message at r ⌝ }
 {
     let body = r.body;
@@ -78,7 +78,7 @@ pub fn text4_of(r: Record, message: u8, at: u8) -> Text4
 }
 
 // The ten bytes from a place on of a message of the type.
-pub fn text10_of(r: Record, message: u8, at: u8) -> Text10
+pub(crate) fn text10_of(r: Record, message: u8, at: u8) -> Text10
     ensures { λ a. ⌜ a ≡ text10Of message at r ⌝ }
 {
     let body = r.body;
@@ -97,7 +97,7 @@ pub fn text10_of(r: Record, message: u8, at: u8) -> Text10
 }
 
 // The 60 bytes from a place on of a message of the type.
-pub fn text60_of(r: Record, message: u8, at: u8) -> Text60
+pub(crate) fn text60_of(r: Record, message: u8, at: u8) -> Text60
     ensures { λ a. ⌜ a ≡ text60Of message at r ⌝ }
 {
     let body = r.body;
