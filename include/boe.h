@@ -80,8 +80,8 @@ uint8_t boe_table_step(uint8_t unit, uint32_t number, uint8_t *table, size_t tab
  *     136      4   where its last mark starts
  *     140      4   its messages
  *
- * Any 144 bytes are taken as a state: a length past the buffer or past 16,777,216, a last mark past the length, or 16,777,216 messages or more
- * are no room. A state's buffer may be longer; its bytes past 144 are not touched. */
+ * Any 144 bytes are taken as a state: a length past the buffer or past 16,777,216, a last mark past the length, or more than 16,777,216
+ * messages are no room. A state's buffer may be longer; its bytes past 144 are not touched. */
 #define BOE_STATE_BYTES 144
 #define BOE_STATE_TABLE_AT 0
 #define BOE_STATE_DATE_AT 128

@@ -15,9 +15,8 @@ use lib.Dec.{eqb, ltb}
 use lib.ListN.{length, take, getD, length-append}
 use lib.Seq.{getD-append-seam}
 use borrow.Author.Tests.{eq-eqb, ne-eqb, eqb-true, lt-ltb, le-ltb}
-use Rattle.day_model.specs.Model.{Msg, Table, pick, keep, count, messages, Sent, message, complete, Venue, none-msg, above, Move, idle, tells, passes, move, moved, sends, took, logged, nextInLog, World, Event, run, start}
-use Rattle.day_model.specs.Laws.{count-snoc, prefix-length}
-use Rattle.day_model.specs.Safe.{counted}
+use Rattle.day_model.specs.Model.{Msg, Table, pick, keep, count, Sent, message, complete, Venue, none-msg, above, Move, idle, tells, passes, move, moved, sends, took, logged, nextInLog, World, Event, run, start}
+use Rattle.day_model.specs.Laws.{count-snoc}
 use Rattle.day_model.specs.Inv.{Inv, inv-run, inv-start}
 use Rattle.day_model.specs.Steps.{movesTo, movesSend, docOn, aboveMove, docStep}
 use Rattle.day_model.specs.Brings.{aboveOf, brings, Turn, moves, grows, turned, putOut, turns, sentIn, Brought}
@@ -383,9 +382,7 @@ login-brings t v h ts = went-brought t v (turns ts (took t v)) (sentIn ts (took 
 
 -- in the day a login of the member's that is under way lists no more than the log holds
 pub lists-no-more : (w : World) → Inv w → w .asks ≡ true → (u : ℕ) → w .asking u ≤ count u (w .venue .log)
-lists-no-more w h a u =
-    let k : w .asking u ≡ count u (messages (w .member .book)) = ap (λ (t : Table). t u) (h .waits a .lists) ∙ counted (w .venue .log) (w .member) (h .safe) u in
-    omega (arith, k, prefix-length (h .safe .firsts u))
+lists-no-more w h a u = h .waits a .low u
 
 -- IN THE DAY the law has no premise, whatever happened before the login
 pub days-login-brings : (es : List Event) → run es start .asks ≡ true → (ts : List Turn)

@@ -8,7 +8,7 @@ use orders::Record;
 
 // An order of our desk's goes out, if the session takes it, and reaches the venue.
 pub fn sends(b: Bench, order: Record) -> Bench {
-    let mut given = [0u8; 235];
+    let mut given = [0u8; block::RECORD];
     order_records::store(order, &mut given);
     let mut up = [0u8; 600];
     let s = b.session;

@@ -6,7 +6,7 @@ use orders::Record;
 
 // The record of an order, an acknowledgment or an execution.
 pub fn record_of(bytes: &[u8]) -> Record {
-    let mut record = [0u8; 235];
+    let mut record = [0u8; block::RECORD];
     order_reader::read_order(wire::frame(bytes), &mut record);
     let loaded = order_records::load(&record);
     loaded.order

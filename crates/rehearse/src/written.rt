@@ -28,7 +28,7 @@ fn started(message: u8, unit: u8, number: u32) -> Record {
 
 // Writes a record's message.
 fn write(r: Record, out: &mut [u8]) {
-    let mut given = [0u8; 235];
+    let mut given = [0u8; block::RECORD];
     order_records::store(r, &mut given);
     order_writer::write_order(&given, out);
 }

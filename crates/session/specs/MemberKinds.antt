@@ -6,7 +6,7 @@ use mathlib.Core.List.{List}
 use native.Mathlib.Omega.{arith}
 use lib.Dec.{eqb, leb, ltb}
 use lib.ListN.{length}
-use borrow.Author.Tests.{eq-eqb, ne-eqb, eqb-true, eqb-false, ltb-true, ltb-false, le-leb, lt-leb, leb-true}
+use borrow.Author.Tests.{eq-eqb, ne-eqb, eqb-true, eqb-false, ltb-true, ltb-false, le-ltb, le-leb, lt-leb, leb-true}
 use Rattle.wire.specs.Header.{typeOf, unitOf, numberOf}
 use Rattle.wire.specs.Frame.{frameRefusal}
 use Rattle.table.specs.Table.{lastOf, unitRefusal, entryRefusal, stepRefusal}
@@ -128,4 +128,4 @@ room-is b room n l c = by (ltb room (b .length + n)) (ltb limit (b .length + n))
     by false false e g =
         let h = ltb-false room (b .length + n) e in
         let k = ltb-false limit (b .length + n) g in
-        by-count b room n h k l ∙ lt-leb limit (b .count) c ∙ sym (ap not (le-leb (b .length + n) (min room limit) (omega arith)))
+        by-count b room n h k l ∙ le-ltb limit (b .count) (omega (arith, c)) ∙ sym (ap not (le-leb (b .length + n) (min room limit) (omega arith)))

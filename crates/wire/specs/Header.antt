@@ -6,7 +6,7 @@ use Rattle.numbers.specs.Numbers.{numberAt, bytesOf}
 
 -- 01, Wire basics: BA BA; length (2); type (1); unit (1); number (4)
 abbrev pub headerBytes : ℕ → ℕ → ℕ → ℕ → List ℕ
-headerBytes length type unit number = 186 ∷ 186 ∷ bytesOf 2 length ++ (type ∷ unit ∷ bytesOf 4 number)
+headerBytes told type unit number = 186 ∷ 186 ∷ bytesOf 2 told ++ (type ∷ unit ∷ bytesOf 4 number)
 
 -- the length, at 2
 unfoldable pub lengthOf : List ℕ → ℕ

@@ -105,8 +105,8 @@ fn member(driver: &mut Driver) {
         _ => length.saturating_sub(random.between(0, 60) as u32),
     };
     let count = match random.below(5) {
-        0 => LIMIT - 1,
-        1 => LIMIT,
+        0 => LIMIT,
+        1 => LIMIT + 1,
         2 => some_number(random),
         _ => random.below(9) as u32,
     };
