@@ -52,6 +52,12 @@ pub fn answer(words: &[&str]) -> Option<String> {
             let result = read::message(read_u8(direction)?, &hex::read(bytes)?);
             Some(answered(result.map(|record| hex::write(&record))))
         }
+        ["read-into", direction, bytes, buffer] => {
+            let (direction, bytes) = (read_u8(direction)?, hex::read(bytes)?);
+            let mut buffer = hex::read(buffer)?;
+            let result = read::into(direction, &bytes, &mut buffer);
+            Some(with_buffer(result, &buffer))
+        }
         ["write", direction, record, bytes] => {
             let (direction, record) = (read_u8(direction)?, hex::read(record)?);
             let mut buffer = hex::read(bytes)?;

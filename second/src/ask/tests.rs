@@ -58,6 +58,17 @@ fn read_and_write() {
     check(&format!("read 255 {}EE", &cancel[..60]), "4");
     check(&format!("read 255 {}", &cancel[..60]), "3");
     check(&format!("read 0 {}", &cancel[..60]), "3");
+    let buffer = "EE".repeat(236);
+    check(
+        &format!("read-into 0 {} {}", cancel, buffer),
+        &format!("0 {}EE", record),
+    );
+    check(
+        &format!("read-into 0 {} {}", cancel, &buffer[4..]),
+        &format!("13 {}", &buffer[4..]),
+    );
+    check(&format!("read-into 1 {} EE", cancel), "4 EE");
+    check(&format!("read-into 0 {} EE", &cancel[..60]), "3 EE");
     let buffer = "EE".repeat(32);
     let record = format!("{}{}", record, "07".repeat(204));
     check(
@@ -264,6 +275,8 @@ fn outside_the_format() {
         "read 256 -",
         "read A -",
         "read 0 ba",
+        "read-into 0 -",
+        "read-into 0 - - -",
         "write 0 -",
         "write 0 - - -",
         "write 256 - -",

@@ -6,8 +6,8 @@ use crate::rules::read;
 use crate::rules::types::MEMBER;
 
 pub fn ask(lines: &mut Vec<String>) {
-    for line in OUTSIDE.iter().chain(INSIDE).chain(READ).chain(WRITE) {
-        lines.push(line.to_string());
+    for part in [OUTSIDE, INSIDE, READ, READ_INTO, WRITE] {
+        lines.extend(part.iter().map(|line| line.to_string()));
     }
     sizes(lines);
     longest(lines);
@@ -229,6 +229,27 @@ const READ: &[&str] = &[
     "read 255 BABA",
     "read 00 -",
     "read 00000000000000000255 BABA0700",
+];
+
+/// Of reading into a buffer; the last three are just inside the format.
+const READ_INTO: &[&str] = &[
+    "read-into",
+    "read-into 0",
+    "read-into 0 -",
+    "read-into 0 - - -",
+    "read-into 0 -  -",
+    "read-into 0 - - ",
+    "read-into 256 - -",
+    "read-into - - 0",
+    "read-into 0 BAB -",
+    "read-into 0 - BAB",
+    "read-into 0 ba -",
+    "read-into 0 - ba",
+    "Read-into 0 - -",
+    "readinto 0 - -",
+    "read-into 0 - -",
+    "read-into 255 BABA FF",
+    "read-into 1 BABA0800090000000000 -",
 ];
 
 /// Of writing; the last four are just inside the format.

@@ -1,10 +1,12 @@
-//! Records of every type cut about the two sizes that records have. A type says how many bytes its
-//! record has; it is judged first, and where there is no type byte there is nothing to judge.
+//! Records of every type cut about the two sizes that records have, and buffers for them. A type says
+//! how many bytes its record has. In writing it is judged first, and where there is no type byte there
+//! is nothing to judge; in reading the buffer's size is judged last.
 
-use super::bitfields::sample::Sample;
+use super::bitfields::sample::{Sample, NEW_ORDER};
 use super::parts::Parts;
 use super::session::sample::Sample as Session;
 use super::writing::{line, pattern};
+use crate::hex;
 use crate::random::Random;
 use crate::rules::layout;
 use crate::rules::record::{SESSION_SIZE, SIZE};
@@ -50,10 +52,18 @@ pub fn ask(lines: &mut Vec<String>) {
     for which in 0..layout::ALL.len() {
         let sample = Sample::any(&mut random, which);
         of_type(lines, &mut random, &sample);
+        read_into(lines, &mut random, &sample);
     }
     for which in 0..session::ALL.len() {
         let sample = Session::any(&mut random, which);
         of_type(lines, &mut random, &sample);
+        read_into(lines, &mut random, &sample);
+    }
+    // What is required is not selected.
+    let mut missing = Sample::least(&mut random, NEW_ORDER);
+    missing.clear();
+    for size in ENDS {
+        lines.push(into(&mut random, MEMBER, &missing.bytes(), size));
     }
     for type_byte in UNKNOWN {
         for direction in [MEMBER, VENUE, 2] {
@@ -94,12 +104,44 @@ fn of_type(lines: &mut Vec<String>, random: &mut Random, sample: &impl Parts) {
     }
 }
 
+/// A question about reading into a buffer of a size.
+fn into(random: &mut Random, direction: u8, bytes: &[u8], size: usize) -> String {
+    let (bytes, buffer) = (hex::write(bytes), hex::write(&pattern(random, size)));
+    format!("read-into {} {} {}", direction, bytes, buffer)
+}
+
+/// A valid message read into buffers of each size; then in directions that do not have its type, cut,
+/// followed by another, and damaged.
+fn read_into(lines: &mut Vec<String>, random: &mut Random, sample: &impl Parts) {
+    let own = sample.direction();
+    let message = sample.bytes();
+    let mut ask = |random: &mut Random, direction: u8, bytes: &[u8], size: usize| {
+        lines.push(into(random, direction, bytes, size));
+    };
+    for size in ENDS.into_iter().chain([SIZE + 1]) {
+        ask(random, own, &message, size);
+    }
+    for (index, size) in ENDS.into_iter().enumerate() {
+        match index % 2 {
+            0 => ask(random, [1 - own, 2][index / 2 % 2], &message, size),
+            _ => ask(random, own, &message[..message.len() - 1], size),
+        }
+    }
+    for size in [SIZE - 1, SESSION_SIZE] {
+        ask(random, own, &[&message[..], &message].concat(), size);
+    }
+    for _ in 0..10 {
+        let (direction, bytes) = sample.damaged(random);
+        let size = ENDS[random.between(0, ENDS.len() - 1)];
+        ask(random, direction, &bytes, size);
+    }
+}
+
 #[cfg(test)]
 mod tests {
     use super::*;
     use crate::ask;
-    use crate::hex;
-    use crate::rules::types;
+    use crate::rules::{self, frame, read, types};
     use std::collections::BTreeSet;
 
     /// The bytes that the record of a type has, by the table of README.md.
@@ -120,6 +162,7 @@ mod tests {
     fn answers() {
         let mut lines = Vec::new();
         ask(&mut lines);
+        lines.retain(|line| line.starts_with("write "));
         let mut sizes = BTreeSet::new();
         for question in &lines {
             let words: Vec<&str> = question.split(' ').collect();
@@ -148,5 +191,41 @@ mod tests {
             assert!(sizes.contains(&(235, size)));
         }
         assert!(!sizes.contains(&(439, 438)) && sizes.contains(&(439, 439)));
+    }
+
+    /// What a message is refused for comes first, then 13 for a buffer under its type's size; each
+    /// type is read into both kinds of buffer.
+    #[test]
+    fn answers_of_reading() {
+        let mut lines = Vec::new();
+        ask(&mut lines);
+        lines.retain(|line| line.starts_with("read-into "));
+        let mut seen = BTreeSet::new();
+        for question in &lines {
+            let words: Vec<&str> = question.split(' ').collect();
+            let direction = words[1].parse().unwrap();
+            let bytes = hex::read(words[2]).unwrap();
+            let size = hex::read(words[3]).unwrap().len();
+            let answer = ask::answer(question.as_bytes());
+            let (number, after) = answer.split_once(' ').unwrap();
+            let refusal = rules::refusal(read::message(direction, &bytes));
+            if refusal != 0 {
+                assert_eq!((number, after), (&refusal.to_string()[..], words[3]));
+                continue;
+            }
+            let type_byte = frame::header(&bytes).type_byte;
+            let own = size_of(direction, type_byte).unwrap();
+            seen.insert((type_byte, size));
+            assert_eq!(number == "13" && after == words[3], size < own);
+            assert_eq!(number == "0", size >= own);
+            assert_eq!(after.len(), words[3].len());
+            assert_eq!(after.get(2 * own..), words[3].get(2 * own..));
+        }
+        for type_byte in seen.clone().into_iter().map(|(type_byte, _)| type_byte) {
+            for size in ENDS {
+                assert!(seen.contains(&(type_byte, size)));
+            }
+        }
+        assert!(seen.len() >= 10 * ENDS.len());
     }
 }

@@ -18,6 +18,15 @@ pub fn message(direction: u8, buffer: &[u8]) -> Result<Vec<u8>, Refusal> {
     Ok(with_bitfields(layout, message)?.bytes())
 }
 
+/// Puts the record of the first whole message of `bytes` at the start of `buffer`: 13 comes last,
+/// where the buffer is shorter than the record of that type. What follows the record stays.
+pub fn into(direction: u8, bytes: &[u8], buffer: &mut [u8]) -> Result<(), Refusal> {
+    let record = message(direction, bytes)?;
+    check(buffer.len() >= record.len(), Refusal::Room)?;
+    buffer[..record.len()].copy_from_slice(&record);
+    Ok(())
+}
+
 /// The first whole message of a buffer, if it can be read. A type other than these is 4, at 4's
 /// place.
 pub fn of_types<'a>(direction: u8, buffer: &'a [u8], types: &[u8]) -> Result<&'a [u8], Refusal> {
@@ -229,6 +238,39 @@ mod tests {
             let mut buffer = whole.clone();
             buffer.extend(more);
             assert_eq!(record_of(1, &buffer), record);
+        }
+    }
+
+    /// A record's buffer must have the bytes of the message's type, which is judged after the message.
+    #[test]
+    fn buffers() {
+        for (direction, example, own) in [
+            (0, examples::new_order(), 235),
+            (1, examples::execution(), 235),
+            (0, examples::client_heartbeat(), 439),
+            (1, examples::logout_with_its_length(), 439),
+        ] {
+            let record = message(direction, &example).unwrap();
+            let mut bad = example.clone();
+            bad[5] = 200;
+            for size in 0..500 {
+                let before = vec![0xEE; size];
+                let mut buffer = before.clone();
+                assert_eq!(
+                    into(1 - direction, &example, &mut buffer),
+                    Err(Refusal::Type)
+                );
+                assert_eq!(into(direction, &bad, &mut buffer), Err(Refusal::Unit));
+                assert_eq!(buffer, before);
+                let answer = rules::refusal(into(direction, &example, &mut buffer));
+                assert_eq!(answer, if size < own { 13 } else { 0 });
+                if answer == 0 {
+                    assert_eq!(buffer[..own], record);
+                    assert_eq!(buffer[own..], before[own..]);
+                } else {
+                    assert_eq!(buffer, before);
+                }
+            }
         }
     }
 
