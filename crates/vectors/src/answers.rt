@@ -58,6 +58,9 @@ fn message_call_of(word: &[u8]) -> u8 {
     if check::same(word, b"write") {
         return 13;
     }
+    if check::same(word, b"read-into") {
+        return 19;
+    }
     book_call_of(word)
 }
 
@@ -84,7 +87,7 @@ fn book_call_of(word: &[u8]) -> u8 {
 // How many words a question of a call has.
 fn words_of(call: u8) -> usize {
     match call {
-        2 | 7 | 13 | 17 => 4,
+        2 | 7 | 13 | 17 | 19 => 4,
         3 | 16 => 5,
         5 | 6 | 10 | 11 | 12 | 14 | 15 => 3,
         _ => 2,
@@ -110,12 +113,13 @@ pub fn answered(line: &[u8], bytes: &mut [u8]) -> bool {
         10 => due(line),
         11 => silent(line),
         12 => read(line, bytes),
-        13 => write(line, bytes),
+        13 => lent(line, bytes, false),
         14 => books::open(line, bytes),
         15 => books::restart(line, bytes),
         16 => books::append(line, bytes),
         17 => books::close(line),
         18 => books::list(line, bytes),
+        19 => lent(line, bytes, true),
         _ => false,
     }
 }
@@ -395,8 +399,8 @@ fn is_order(message: u8) -> bool {
     }
 }
 
-// `write DIRECTION RECORD BYTES`: the refusal and the buffer after the call.
-fn write(line: &[u8], bytes: &mut [u8]) -> bool {
+// `write DIRECTION RECORD BYTES`, `read-into DIRECTION BYTES BUFFER`: the refusal and the buffer after the call.
+fn lent(line: &[u8], bytes: &mut [u8], reads: bool) -> bool {
     let direction = words::read_number(words::word(line, 1), 255);
     let mut given = [0u8; 4096];
     let order = words::read_bytes(words::word(line, 2), &mut given);
@@ -404,14 +408,19 @@ fn write(line: &[u8], bytes: &mut [u8]) -> bool {
     if direction.ok && order.ok && run.ok {
         let k = order.count;
         let n = run.count;
-        write_by(direction.value as u8, &given[0..k], &mut bytes[0..n]);
+        lent_by(direction.value as u8, &given[0..k], &mut bytes[0..n], reads);
         return true;
     }
     false
 }
 
-// The answer to `write` of a record's bytes.
-fn write_by(direction: u8, given: &[u8], out: &mut [u8]) {
+// The answer to `read-into` of a message's bytes, and to `write` of a record's.
+fn lent_by(direction: u8, given: &[u8], out: &mut [u8], reads: bool) {
+    if reads {
+        let read = gateway::boe_read(direction, given, out);
+        refused(read, out);
+        return;
+    }
     let refusal = gateway::boe_write(direction, given, out);
     refused(refusal, out);
 }
