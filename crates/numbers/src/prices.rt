@@ -4,7 +4,7 @@ ghost use Rattle.numbers.specs.Numbers.{bytesOf, putRefusal, putBuffer};
 ghost use Rattle.numbers.specs.Prices.{signedOf, bitsOf, priceAt};
 
 // The number with a sign that 64 bits hold in two's complement.
-pub fn signed(v: u64) -> i64
+fn signed(v: u64) -> i64
     ensures { λ r. ⌜ r ≡ signedOf v ⌝ }
 {
     if v < 9223372036854775808 {

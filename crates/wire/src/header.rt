@@ -4,14 +4,14 @@ ghost use Rattle.numbers.specs.Numbers.{putRefusal, putBuffer};
 ghost use Rattle.wire.specs.Header.{headerBytes, lengthOf, typeOf, unitOf, numberOf, totalOf};
 
 // The length field.
-pub fn length_of(m: &[u8]) -> u16
+pub(crate) fn length_of(m: &[u8]) -> u16
     ensures { λ r. ⌜ r ≡ lengthOf (now (m .entry)) ⌝ }
 {
     numbers::read_u16(m, 2)
 }
 
 // The message's bytes in all.
-pub fn total_of(m: &[u8]) -> usize
+pub(crate) fn total_of(m: &[u8]) -> usize
     ensures { λ r. ⌜ r ≡ totalOf (now (m .entry)) ⌝ }
 {
     let n = length_of(m);
