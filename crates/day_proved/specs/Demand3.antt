@@ -1,6 +1,7 @@
--- Demand 3: the statements alone. Each stands below the words that it answers; specs/Proved.antt proves them. The model of the day (events, line,
--- queue) is day_model/specs/Story.antt; what a venue must be is `MeetsVenue` in day_model/specs/Halves.antt; the member's calls are session/specs/MemberDay.antt, the
--- bench venue's venue/specs/VenueDay.antt, and what a line carries is day_line/specs/Lines.antt. Assumes nothing.
+-- Demand 3: the statements alone. Each stands below the words that it answers; specs/Proved.antt proves them. A moment of the day (line, queue and what is
+-- noted of them) is day_model/specs/Moments.antt, what may happen day_model/specs/Story.antt; what a venue must be is `MeetsVenue` in
+-- day_model/specs/Halves.antt; the member's calls are session/specs/MemberDay.antt, the bench venue's venue/specs/VenueDay.antt, and what a line carries
+-- is day_line/specs/Lines.antt. Assumes nothing.
 use Prim.Native.Nat.{ℕ, _≤_}
 use mathlib.Core.Logic.{_⊎_}
 use mathlib.Core.Path.{_≡_}
