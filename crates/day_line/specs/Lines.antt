@@ -9,12 +9,11 @@ use Rattle.wire.specs.Header.{typeOf, unitOf, numberOf}
 use Rattle.wire.specs.Frame.{framed}
 use Rattle.table.specs.declared.Table.{Table}
 use Rattle.table.specs.Table.{unitRefusal, lastOf}
-use Rattle.block.specs.Slots.{zeros}
 use Rattle.session_messages.specs.declared.Record.{Record}
 use Rattle.session_messages.specs.Sessions as logins
 use Rattle.session_logins.specs.declared.Choice.{Choice}
 use Rattle.session_logins.specs.declared.Bitfields.{Bitfields}
-use Rattle.session_logins.specs.LoginRequests.{loginRecord}
+use Rattle.session_logins.specs.LoginRequests.{blankUnits, loginRecord}
 use Rattle.session_fields.specs.SessionFields.{requestGroup, groupListed}
 use Rattle.messages.specs.Messages.{readRefusal}
 use Rattle.day_model.specs.Model.{Msg, Sent, response, message, complete, heartbeat, logout}
@@ -59,7 +58,7 @@ pub record Fields : Type 0 where
 
 -- no choice of units: the whole table is listed
 abbrev pub wholeTable : Choice
-wholeTable = record { which = 0; flag = 0; count = 0; units = zeros 32 }
+wholeTable = record { which = 0; flag = 0; count = 0; units = blankUnits }
 
 -- the record of a login with the whole table
 abbrev pub loginOfTable : Table → Fields → Record

@@ -3,6 +3,7 @@ ghost use Prim.Native.Nat.{_≤_};
 use asking::words;
 use session_logins::Bitfields;
 use session_logins::Choice;
+use table::Unit;
 
 // A choice of units of a question.
 pub struct Units {
@@ -29,15 +30,32 @@ pub fn read_units(line: &[u8]) -> Units {
     let count = words::read_number(words::word(line, 3), 255);
     let mut units = [0u8; 32];
     let run = words::read_bytes(words::word(line, 4), &mut units);
+    let choice = choice_of(
+        which.value as u8,
+        flag.value as u8,
+        count.value as u8,
+        &units,
+    );
     Units {
         ok: which.ok && flag.ok && count.ok && run.ok && run.count == 32,
-        choice: Choice {
-            which: which.value as u8,
-            flag: flag.value as u8,
-            count: count.value as u8,
-            units: units,
-        },
+        choice: choice,
     }
+}
+
+// The choice of a question's numbers, and of its units, a byte each.
+fn choice_of(which: u8, flag: u8, count: u8, units: &[u8; 32]) -> Choice {
+    let mut c = Choice {
+        which: which,
+        flag: flag,
+        count: count,
+        units: [Unit(0); 32],
+    };
+    let mut i: usize = 0;
+    while i < 32 {
+        c.units[i] = Unit(units[i]);
+        i += 1;
+    }
+    c
 }
 
 // A word of exactly 18 bytes as names.

@@ -2,7 +2,7 @@
 -- Assumes nothing.
 use mathlib.Core.Path.{_≡_, refl, sym, ap, _∙_}
 use mathlib.Core.Bool.{Bool, true, false}
-use mathlib.Core.List.{List, [], _∷_, _++_}
+use mathlib.Core.List.{List, [], _∷_, _++_, map}
 use Prim.Native.Nat.{ℕ, zero, suc, _+_, _-_, _*_, _≤_, _<_}
 use native.Mathlib.Nat.{le-of-suc-le-suc, not-suc-le-zero}
 use native.Mathlib.Numerals.{add-one}
@@ -16,12 +16,13 @@ use Rattle.numbers.specs.NumberLaws.{put-stores, patched-length, patched-join}
 use Rattle.block.specs.Slots.{zeros}
 use Rattle.block.specs.SlotLaws.{put-in-zeros}
 use Rattle.table.specs.declared.Table.{Table}
+use Rattle.table.specs.declared.Unit.{Unit}
 use Rattle.table.specs.Table.{lastOf}
 use Rattle.session_groups.specs.Values.{pairsBytes}
 use Rattle.session_logins.specs.declared.Choice.{Choice}
 use Rattle.session_logins.specs.declared.Bitfields.{Bitfields}
-use Rattle.session_logins.specs.LoginRequestLaws.{pairs-size, take-most, least-most}
-use Rattle.session_logins.specs.LoginRequests.{least, pairsFor, unitsGroup, bitsGroup, part, unitsPart, bitsPart, one, padded}
+use Rattle.session_logins.specs.LoginRequestLaws.{numbers-long, pairs-size, take-most, least-most}
+use Rattle.session_logins.specs.LoginRequests.{numbersOf, least, pairsFor, unitsGroup, bitsGroup, part, unitsPart, bitsPart, one, padded}
 
 -- ---- counts
 
@@ -68,6 +69,20 @@ pairs-suc : (t : Table) (us : List ℕ) (i : ℕ) → i < length us → pairsByt
 pairs-suc t [] i h = absurd (not-suc-le-zero h)
 pairs-suc t (u ∷ us) zero h = refl
 pairs-suc t (u ∷ us) (suc i) h = ap (λ (l : List ℕ). (u ∷ bytesOf 4 (lastOf t u)) ++ l) (pairs-suc t us i (le-of-suc-le-suc h))
+
+-- a list is as long as what it is mapped to
+mapped-long : (X Y : Type 0) (f : X → Y) (l : List X) → length (map f l) ≡ length l
+mapped-long X Y f [] = refl
+mapped-long X Y f (x ∷ l) = ap suc (mapped-long X Y f l)
+
+pub unmapped : (X Y : Type 0) (f : X → Y) (l : List X) (n : ℕ) → length (map f l) ≡ n → length l ≡ n
+unmapped X Y f l n e = sym (mapped-long X Y f l) ∙ e
+
+-- a unit's byte is that of the unit there
+pub number-at : (us : List Unit) (i : ℕ) (d : Unit) → i < length us → getD (numbersOf us) i 0 ≡ getD us i d .0
+number-at [] i d h = absurd (not-suc-le-zero h)
+number-at (u ∷ us) zero d h = refl
+number-at (u ∷ us) (suc i) d h = number-at us i d (le-of-suc-le-suc h)
 
 -- one pair more
 pub pairs-more : (t : Table) (us : List ℕ) (i : ℕ) → i < length us → pairsBytes (pairsFor t (take (i + 1) us)) ≡ pairsBytes (pairsFor t (take i us)) ++ (getD us i 0 ∷ bytesOf 4 (lastOf t (getD us i 0)))
@@ -124,19 +139,18 @@ module _ (kind : ℕ) (b : Bitfields) where
 pub first-there : (out out₁ l : List ℕ) (n : ℕ) → n ≡ length l → length l ≤ length out → out₁ ≡ patched out 0 l → n ≤ length out₁
 first-there out out₁ l n e h p = omega (arith, e, h, ap length p ∙ patched-length out 0 l (omega arith))
 
-pub pairs-room : (t : Table) (us : List ℕ) (n : ℕ) → n ≤ 32 → length (pairsBytes (pairsFor t (take (n - 0) us))) ≤ 160
-pairs-room t us n h = let m = take-most (n - 0) us in omega (arith, h, m, pairs-size t (take (n - 0) us))
+pub pairs-room : (t : Table) (us : List ℕ) (n : ℕ) → n ≤ 32 → length (pairsBytes (pairsFor t (take n us))) ≤ 160
+pairs-room t us n h = let m = take-most n us in omega (arith, h, m, pairs-size t (take n us))
 
 pub group-is : (t : Table) (c : Choice) (n : ℕ) → n ≡ least (c .count) 32
-    → (bytesOf 2 (5 + 5 * c .count) ++ (0x80 ∷ c .flag ∷ c .count ∷ [])) ++ pairsBytes (pairsFor t (take (n - 0) (c .units))) ≡ unitsGroup t c
-group-is t c n e =
-    let z : n - 0 ≡ least (c .count) 32 = omega (arith, e) in
-    ap (λ (k : ℕ). (bytesOf 2 (5 + 5 * c .count) ++ (0x80 ∷ c .flag ∷ c .count ∷ [])) ++ pairsBytes (pairsFor t (take k (c .units)))) z
+    → (bytesOf 2 (5 + 5 * c .count) ++ (0x80 ∷ c .flag ∷ c .count ∷ [])) ++ pairsBytes (pairsFor t (take n (numbersOf (c .units)))) ≡ unitsGroup t c
+group-is t c n e = ap (λ (k : ℕ). (bytesOf 2 (5 + 5 * c .count) ++ (0x80 ∷ c .flag ∷ c .count ∷ [])) ++ pairsBytes (pairsFor t (take k (numbersOf (c .units))))) e
 
 pub group-size : (t : Table) (c : Choice) (n : ℕ) → n ≡ least (c .count) 32 → 32 ≤ length (c .units) → 5 + 5 * n ≡ length (unitsGroup t c)
 group-size t c n e h =
-    let l : length (take (least (c .count) 32) (c .units)) ≡ least (c .count) 32 = length-take-le (least (c .count) 32) (c .units) (omega (arith, least-most (c .count) 32)) in
-    omega (arith, e, l, pairs-size t (take (least (c .count) 32) (c .units)))
+    let us = numbersOf (c .units) in
+    let l : length (take (least (c .count) 32) us) ≡ least (c .count) 32 = length-take-le (least (c .count) 32) us (omega (arith, least-most (c .count) 32, numbers-long (c .units))) in
+    omega (arith, e, l, pairs-size t (take (least (c .count) 32) us))
 
 pub bits-size : (kind : ℕ) (b : Bitfields) (n : ℕ) → n ≡ least (b .count) 15 → 15 ≤ length (b .bits) → 5 + n ≡ length (bitsGroup kind b)
 bits-size kind b n e h =

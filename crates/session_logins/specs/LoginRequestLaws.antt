@@ -25,6 +25,7 @@ use Rattle.kinds.specs.Kinds.{allNul}
 use Rattle.block.specs.Slots.{zeros}
 use Rattle.block.specs.SlotLaws.{zeros-are-nul}
 use Rattle.table.specs.declared.Table.{Table}
+use Rattle.table.specs.declared.Unit.{Unit}
 use Rattle.table.specs.Table.{lastOf}
 use Rattle.session_groups.specs.Groups.{free, mark, unitAt, unitsFrom, pairsGood, groupKey, groupSize, nextSize, groupsFrom, groupsEnd}
 use Rattle.session_groups.specs.Values.{Distinct, Pair, pairBytes, pairsBytes, unitsOf, PairsInOrder, Group, groupBytes, groupsBytes, kindsOf, InOrder, EachInOrder, GroupsInOrder, fresh}
@@ -36,7 +37,7 @@ use Rattle.session_messages.specs.Sessions.{namesGood, valuesGood, fixedSize, f
 use Rattle.session_messages.specs.SessionLaws.{names-front, is-written}
 use Rattle.session_logins.specs.declared.Choice.{Choice}
 use Rattle.session_logins.specs.declared.Bitfields.{Bitfields}
-use Rattle.session_logins.specs.LoginRequests.{allUnits, pickChoice, choiceOf, least, pairsFor, unitsGroup, bitsGroup, part, unitsPart, bitsPart, one, groupCount, groupsPart, saidOf, padded, loginRecord}
+use Rattle.session_logins.specs.LoginRequests.{allUnits, numbersOf, pickChoice, choiceOf, least, pairsFor, unitsGroup, bitsGroup, part, unitsPart, bitsPart, one, groupCount, groupsPart, saidOf, padded, loginRecord}
 
 -- ---- the choice
 
@@ -52,6 +53,10 @@ choice-kept c n = sym (ap (λ (b : Bool). pickChoice b allUnits c) (ne-eqb (c .w
 
 pub least-first : (a b : ℕ) → a ≤ b → a ≡ least a b
 least-first a b h = rw (le-leb a b h)
+
+pub numbers-long : (us : List Unit) → length (numbersOf us) ≡ length us
+numbers-long [] = refl
+numbers-long (u ∷ us) = ap suc (numbers-long us)
 
 pub pairs-many : (t : Table) (us : List ℕ) → length (pairsFor t us) ≡ length us
 pairs-many t [] = refl
@@ -85,8 +90,8 @@ least-most a b = by (leb a b) refl
 module _ (t : Table) (c : Choice) where
   group-most : length (unitsGroup t c) ≤ 165
   group-most =
-      let n = pairs-size t (take (least (c .count) 32) (c .units)) in
-      let m = take-most (least (c .count) 32) (c .units) in
+      let n = pairs-size t (take (least (c .count) 32) (numbersOf (c .units))) in
+      let m = take-most (least (c .count) 32) (numbersOf (c .units)) in
       let k = least-most (c .count) 32 in
       omega arith
 
@@ -132,7 +137,7 @@ pub record ChoiceInOrder (table : Table) (c : Choice) : Type 0 where
   pub flag-is : c .flag < 2
   pub few : c .count ≤ 32
   pub there : length (c .units) ≡ 32
-  pub pairs : PairsInOrder (pairsFor table (take (c .count) (c .units)))
+  pub pairs : PairsInOrder (pairsFor table (take (c .count) (numbersOf (c .units))))
 
 -- bitfields in order: at most 15 of them, each any byte
 pub record BitsInOrder (b : Bitfields) : Type 0 where
@@ -146,7 +151,7 @@ some true g gs = g ∷ gs
 some false g gs = gs
 
 abbrev pub unitsValue : Table → Choice → Group
-unitsValue table c = units (c .flag) (pairsFor table (take (c .count) (c .units)))
+unitsValue table c = units (c .flag) (pairsFor table (take (c .count) (numbersOf (c .units))))
 
 abbrev pub bitsValue : ℕ → Bitfields → Group
 bitsValue type b = bits type (take (b .count) (b .bits))
@@ -156,9 +161,9 @@ groupsValue table c a e = some (eqb (c .which) 1) (unitsValue table c) (some (a 
 
 units-bytes : (table : Table) (c : Choice) → ChoiceInOrder table c → unitsGroup table c ≡ groupBytes (unitsValue table c)
 units-bytes table c o =
-    let l : length (pairsFor table (take (c .count) (c .units))) ≡ c .count = pairs-many table (take (c .count) (c .units)) ∙ length-take-le (c .count) (c .units) (omega (arith, o .few, o .there)) in
-    ap (λ (k : ℕ). bytesOf 2 (5 + 5 * c .count) ++ (0x80 ∷ c .flag ∷ c .count ∷ pairsBytes (pairsFor table (take k (c .units))))) (sym (least-first (c .count) 32 (o .few)))
-    ∙ ap (λ (k : ℕ). bytesOf 2 (5 + 5 * k) ++ (0x80 ∷ c .flag ∷ k ∷ pairsBytes (pairsFor table (take (c .count) (c .units))))) (sym l)
+    let l : length (pairsFor table (take (c .count) (numbersOf (c .units)))) ≡ c .count = pairs-many table (take (c .count) (numbersOf (c .units))) ∙ length-take-le (c .count) (numbersOf (c .units)) (omega (arith, o .few, o .there, numbers-long (c .units))) in
+    ap (λ (k : ℕ). bytesOf 2 (5 + 5 * c .count) ++ (0x80 ∷ c .flag ∷ c .count ∷ pairsBytes (pairsFor table (take k (numbersOf (c .units)))))) (sym (least-first (c .count) 32 (o .few)))
+    ∙ ap (λ (k : ℕ). bytesOf 2 (5 + 5 * k) ++ (0x80 ∷ c .flag ∷ k ∷ pairsBytes (pairsFor table (take (c .count) (numbersOf (c .units)))))) (sym l)
 
 bits-bytes : (type : ℕ) (b : Bitfields) → BitsInOrder b → bitsGroup type b ≡ groupBytes (bitsValue type b)
 bits-bytes type b o =
@@ -416,24 +421,24 @@ module _ (table : Table) (choice : Choice) (names : List ℕ) (acknowledgments e
 
   -- FLAG REFUSED: a choice with a flag of 2 or more is 11
   pub flag-refused : 2 ≤ choice .flag → recordRefusal (loginRecord table choice names acknowledgments executions) room ≡ 11
-  flag-refused h = units-refused (λ s. flag-none (5 + 5 * choice .count) (choice .flag) (choice .count) (pairsBytes (pairsFor table (take (least (choice .count) 32) (choice .units))) ++ s) h)
+  flag-refused h = units-refused (λ s. flag-none (5 + 5 * choice .count) (choice .flag) (choice .count) (pairsBytes (pairsFor table (take (least (choice .count) 32) (numbersOf (choice .units)))) ++ s) h)
 
   -- UNITS REFUSED: a choice with a unit twice, or one outside 1 to 32, is 11
-  pub unit-refused : choice .flag < 2 → choice .count ≤ 32 → length (choice .units) ≡ 32 → (Distinct 32 (take (choice .count) (choice .units)) → ⊥)
+  pub unit-refused : choice .flag < 2 → choice .count ≤ 32 → length (choice .units) ≡ 32 → (Distinct 32 (take (choice .count) (numbersOf (choice .units))) → ⊥)
       → recordRefusal (loginRecord table choice names acknowledgments executions) room ≡ 11
   unit-refused f few there n =
-      let us : List ℕ = take (choice .count) (choice .units) in
+      let us : List ℕ = take (choice .count) (numbersOf (choice .units)) in
       let ps : List Pair = pairsFor table us in
-      let l : length ps ≡ choice .count = pairs-many table us ∙ length-take-le (choice .count) (choice .units) (omega (arith, few, there)) in
+      let l : length ps ≡ choice .count = pairs-many table us ∙ length-take-le (choice .count) (numbersOf (choice .units)) (omega (arith, few, there, numbers-long (choice .units))) in
       let d : Distinct 32 (unitsOf ps) → ⊥ = λ o. n (subst (Distinct 32) (units-back table us) o) in
       let k : choice .count ≡ least (choice .count) 32 = least-first (choice .count) 32 few in
       units-refused
-      (λ s. pairs-none (5 + 5 * choice .count) (choice .flag) (choice .count) (pairsBytes (pairsFor table (take (least (choice .count) 32) (choice .units))) ++ s) f
-      (ap₂ (λ (x y : ℕ). pairsGood x (pairsBytes (pairsFor table (take y (choice .units))) ++ s)) (sym l) (sym k) ∙ pairs-bad ps s d))
+      (λ s. pairs-none (5 + 5 * choice .count) (choice .flag) (choice .count) (pairsBytes (pairsFor table (take (least (choice .count) 32) (numbersOf (choice .units)))) ++ s) f
+      (ap₂ (λ (x y : ℕ). pairsGood x (pairsBytes (pairsFor table (take y (numbersOf (choice .units)))) ++ s)) (sym l) (sym k) ∙ pairs-bad ps s d))
 
   -- MANY REFUSED: a choice of more than 32 units is 11
   pub many-refused : choice .flag < 2 → 32 < choice .count → recordRefusal (loginRecord table choice names acknowledgments executions) room ≡ 11
   many-refused f h =
       units-refused
-      (λ s. pairs-none (5 + 5 * choice .count) (choice .flag) (choice .count) (pairsBytes (pairsFor table (take (least (choice .count) 32) (choice .units))) ++ s) f
-      (too-many (choice .count) (pairsBytes (pairsFor table (take (least (choice .count) 32) (choice .units))) ++ s) h))
+      (λ s. pairs-none (5 + 5 * choice .count) (choice .flag) (choice .count) (pairsBytes (pairsFor table (take (least (choice .count) 32) (numbersOf (choice .units)))) ++ s) f
+      (too-many (choice .count) (pairsBytes (pairsFor table (take (least (choice .count) 32) (numbersOf (choice .units)))) ++ s) h))

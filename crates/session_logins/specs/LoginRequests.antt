@@ -3,10 +3,11 @@ use Prim.Native.Nat.{ℕ, zero, suc, _+_, _-_, _*_}
 use mathlib.Core.Bool.{Bool, true, false, cond}
 use mathlib.Core.List.{List, [], _∷_, _++_}
 use lib.Dec.{leb, eqb}
-use lib.ListN.{length, take}
+use lib.ListN.{length, take, replicate}
 use Rattle.numbers.specs.Numbers.{bytesOf}
 use Rattle.block.specs.Slots.{zeros}
 use Rattle.table.specs.declared.Table.{Table}
+use Rattle.table.specs.declared.Unit.{Unit}
 use Rattle.table.specs.Table.{lastOf}
 use Rattle.session_groups.specs.Values.{Pair, pairsBytes}
 use Rattle.session_messages.specs.declared.Record.{Record}
@@ -20,9 +21,23 @@ abbrev pub upFrom : ℕ → ℕ → List ℕ
 upFrom zero k = []
 upFrom (suc n) k = k ∷ upFrom n (suc k)
 
+-- the same as units
+abbrev pub unitsUp : ℕ → ℕ → List Unit
+unitsUp zero k = []
+unitsUp (suc n) k = record { 0 = k } ∷ unitsUp n (suc k)
+
 -- all 32 with flag 1
 abbrev pub allUnits : Choice
-allUnits = record { which = 1; flag = 1; count = 32; units = upFrom 32 1 }
+allUnits = record { which = 1; flag = 1; count = 32; units = unitsUp 32 1 }
+
+-- the places of a choice that lists none
+abbrev pub blankUnits : List Unit
+blankUnits = replicate 32 (record { 0 = 0 })
+
+-- units as the bytes that they are on the wire
+abbrev pub numbersOf : List Unit → List ℕ
+numbersOf [] = []
+numbersOf (u ∷ us) = u .0 ∷ numbersOf us
 
 -- the first where a test holds, else the second
 abbrev pub pickChoice : Bool → Choice → Choice → Choice
@@ -47,7 +62,7 @@ pairsFor table (u ∷ us) = record { unit = u; number = lastOf table u } ∷ pai
 -- 01, The bit dictionary: the group of units, by its length, type, flag and count, and its pairs.
 -- Garbage is kept as it is, for the writer to refuse.
 abbrev pub unitsGroup : Table → Choice → List ℕ
-unitsGroup table c = bytesOf 2 (5 + 5 * c .count) ++ (0x80 ∷ c .flag ∷ c .count ∷ pairsBytes (pairsFor table (take (least (c .count) 32) (c .units))))
+unitsGroup table c = bytesOf 2 (5 + 5 * c .count) ++ (0x80 ∷ c .flag ∷ c .count ∷ pairsBytes (pairsFor table (take (least (c .count) 32) (numbersOf (c .units)))))
 
 -- 01, The bit dictionary: a group of bitfields, by its length, type, message type and count, and its bytes.
 abbrev pub bitsGroup : ℕ → Bitfields → List ℕ

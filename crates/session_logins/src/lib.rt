@@ -2,12 +2,11 @@
 ghost use mathlib.Core.Path.{_≡_};
 ghost use mathlib.Core.List.{[], _∷_, _++_};
 ghost use Prim.Native.Nat.{_*_, _≤_};
-ghost use lib.ListN.{length};
+ghost use lib.ListN.{length, take};
 ghost use Rattle.numbers.specs.Numbers.{bytesOf, patched};
-ghost use Rattle.block.specs.Slots.{zeros};
 ghost use Rattle.session_groups.specs.Values.{pairsBytes};
 ghost use Rattle.session_messages.specs.Sessions.{recordRefusal, recordBuffer};
-ghost use Rattle.session_logins.specs.LoginRequests.{allUnits, choiceOf, least, pairsFor, unitsPart, bitsPart, groupCount, groupsPart, saidOf, loginRecord};
+ghost use Rattle.session_logins.specs.LoginRequests.{blankUnits, allUnits, numbersOf, choiceOf, least, pairsFor, unitsPart, bitsPart, groupCount, groupsPart, saidOf, loginRecord};
 use session_messages::Record;
 use table::Table;
 use table::Unit;
@@ -18,7 +17,7 @@ pub struct Choice {
     pub which: u8,
     pub flag: u8,
     pub count: u8,
-    pub units: [u8; 32],
+    pub units: [Unit; 32],
 }
 
 // The bitfields that a login asks for of one message type, if it does.
@@ -30,18 +29,18 @@ pub struct Bitfields {
 
 // No choice given: all 32 units.
 pub fn no_choice() -> Choice
-    ensures { λ r. ⌜ r ≡ record { which = 0; flag = 0; count = 0; units = zeros 32 } ⌝ }
+    ensures { λ r. ⌜ r ≡ record { which = 0; flag = 0; count = 0; units = blankUnits } ⌝ }
 {
     Choice {
         which: 0,
         flag: 0,
         count: 0,
-        units: [0u8; 32],
+        units: [Unit(0); 32],
     }
 }
 
 // The first `count` of `units`, with a flag.
-pub fn chosen(flag: u8, count: u8, units: [u8; 32]) -> Choice
+pub fn chosen(flag: u8, count: u8, units: [Unit; 32]) -> Choice
     ensures { λ r. ⌜ r ≡ record { which = 1; flag = flag; count = count; units = units } ⌝ }
 {
     Choice {
@@ -54,13 +53,13 @@ pub fn chosen(flag: u8, count: u8, units: [u8; 32]) -> Choice
 
 // No group of units.
 pub fn no_units() -> Choice
-    ensures { λ r. ⌜ r ≡ record { which = 2; flag = 0; count = 0; units = zeros 32 } ⌝ }
+    ensures { λ r. ⌜ r ≡ record { which = 2; flag = 0; count = 0; units = blankUnits } ⌝ }
 {
     Choice {
         which: 2,
         flag: 0,
         count: 0,
-        units: [0u8; 32],
+        units: [Unit(0); 32],
     }
 }
 
@@ -73,38 +72,38 @@ pub fn all_units() -> Choice
         flag: 1,
         count: 32,
         units: [
-            1,
-            2,
-            3,
-            4,
-            5,
-            6,
-            7,
-            8,
-            9,
-            10,
-            11,
-            12,
-            13,
-            14,
-            15,
-            16,
-            17,
-            18,
-            19,
-            20,
-            21,
-            22,
-            23,
-            24,
-            25,
-            26,
-            27,
-            28,
-            29,
-            30,
-            31,
-            32,
+            Unit(1),
+            Unit(2),
+            Unit(3),
+            Unit(4),
+            Unit(5),
+            Unit(6),
+            Unit(7),
+            Unit(8),
+            Unit(9),
+            Unit(10),
+            Unit(11),
+            Unit(12),
+            Unit(13),
+            Unit(14),
+            Unit(15),
+            Unit(16),
+            Unit(17),
+            Unit(18),
+            Unit(19),
+            Unit(20),
+            Unit(21),
+            Unit(22),
+            Unit(23),
+            Unit(24),
+            Unit(25),
+            Unit(26),
+            Unit(27),
+            Unit(28),
+            Unit(29),
+            Unit(30),
+            Unit(31),
+            Unit(32),
         ],
     }
 }
@@ -141,16 +140,16 @@ fn put_group_head(size: u16, kind: u8, x: u8, count: u8, tail: &mut [u8])
     tail[4] = count;
 }
 
-// The pairs of units, each with its number in the table.
-pub fn put_pairs(table: Table, units: &[u8], tail: &mut [u8])
-    requires { ⌜ (length (now units) ≤ 32) × (5 * length (now units) ≤ length (now tail)) ⌝ }
-    ensures { λ _. ⌜ now (tail .exit) ≡ patched (now (tail .entry)) 0 (pairsBytes (pairsFor table (now (units .entry)))) ⌝ }
+// The pairs of the first n units of a choice, each with its number in the table.
+pub fn put_pairs(table: Table, choice: Choice, n: usize, tail: &mut [u8])
+    requires { ⌜ (n ≤ 32) × (5 * n ≤ length (now tail)) ⌝ }
+    ensures { λ _. ⌜ now (tail .exit) ≡ patched (now (tail .entry)) 0 (pairsBytes (pairsFor table (take n (numbersOf (choice .units))))) ⌝ }
 {
     let mut i: usize = 0;
-    while i < units.len() {
-        let u = units[i];
-        let entry = table.entry(Unit(u));
-        tail[5 * i] = u;
+    while i < n {
+        let unit = choice.units[i];
+        let entry = table.entry(unit);
+        tail[5 * i] = unit.0;
         numbers::write_u32(tail, 5 * i + 1, entry.last.0);
         i += 1;
     }
@@ -164,7 +163,6 @@ fn put_units(table: Table, choice: Choice, tail: &mut [u8]) -> usize
     if choice.which != 1 {
         return 0;
     }
-    let units = choice.units;
     let n = lesser(choice.count, 32);
     put_group_head(
         5 + 5 * (choice.count as u16),
@@ -173,7 +171,7 @@ fn put_units(table: Table, choice: Choice, tail: &mut [u8]) -> usize
         choice.count,
         tail,
     );
-    put_pairs(table, &units[0..n], &mut tail[5..]);
+    put_pairs(table, choice, n, &mut tail[5..]);
     5 + 5 * n
 }
 

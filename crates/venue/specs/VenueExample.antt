@@ -8,6 +8,7 @@ use Rattle.wire.specs.Header.{headerBytes, lengthOf, totalOf, numberOf}
 use Rattle.wire.specs.Frame.{notBA, startsBad, lengthBad, cutShort, frameRefusal, framed}
 use Rattle.table.specs.Table.{unitRefusal, entryRefusal, entryOf, zeroTable, raisedTable, stepRefusal}
 use Rattle.dictionary.specs.Dictionary as dictionary
+use lib.ListN.{replicate}
 use Rattle.block.specs.Slots.{zeros}
 use Rattle.block.specs.Places.{selectedAt, entryAt, slotsFrom, hasRequired}
 use Rattle.orders.specs.Shapes.{countAt, mostOf, unitGood, fixedGood}
@@ -29,7 +30,7 @@ msg unit number = headerBytes 46 0x25 unit number ++ (zeros 8 ++ ((0x41 ∷ zero
 
 -- a login that lists unit 1 at 1 and leaves the others out, with flag 1
 abbrev login : Bytes
-login = logins.sessionBytes (loginRecord (raisedTable zeroTable 1 1) (record { which = 1; flag = 1; count = 1; units = 1 ∷ zeros 31 }) (zeros 18) none none)
+login = logins.sessionBytes (loginRecord (raisedTable zeroTable 1 1) (record { which = 1; flag = 1; count = 1; units = record { 0 = 1 } ∷ replicate 31 (record { 0 = 0 }) }) (zeros 18) none none)
   where
     none : Bitfields
     none = record { given = false; count = 0; bits = zeros 15 }

@@ -53,8 +53,7 @@ pub fn put_pairs(table: Table, tail: &mut [u8])
     ensures { λ _. ⌜ now (tail .exit) ≡ patched (now (tail .entry)) 0 (pairsBytes (pairsFor table (upFrom 32 1))) ⌝ }
 {
     let all = session_logins::all_units();
-    let units = all.units;
-    session_logins::put_pairs(table, &units, tail);
+    session_logins::put_pairs(table, all, 32, tail);
 }
 
 // The pairs, and the login's groups after them.

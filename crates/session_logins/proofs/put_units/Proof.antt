@@ -8,9 +8,9 @@ use lib.ListN.{length, take}
 use Rattle.numbers.proofs.Tail.{puts-then, tail-length}
 use Rattle.numbers.specs.Numbers.{bytesOf, patched}
 use Rattle.session_groups.specs.Values.{pairsBytes}
-use Rattle.session_logins.specs.LoginRequests.{least, pairsFor}
-use Rattle.session_logins.proofs.Parts.{no-units, units-there, nothing-put, pairs-room, group-is, group-size}
-use Rattle.session_logins.specs.LoginRequestLaws.{least-most, take-most}
+use Rattle.session_logins.specs.LoginRequests.{numbersOf, least, pairsFor}
+use Rattle.session_logins.proofs.Parts.{unmapped, no-units, units-there, nothing-put, pairs-room, group-is, group-size}
+use Rattle.session_logins.specs.LoginRequestLaws.{least-most}
 use borrow.Author.Needs.{needs}
 use Rattle.session_logins.proofs.put_units.Statement.{statement}
 use Rattle.session_logins.proofs.put_units.Tie as tie
@@ -43,53 +43,40 @@ part-put-pairs-start : tie.Need-part-put-pairs-start
 part-put-pairs-start c = search needs
 
 part-put-pairs-end : tie.Need-part-put-pairs-end
-part-put-pairs-end c =
-    let start = c .before .before .before .before .before .before .before .before .before .before .before in
-    let h = least-most (start .args .choice .count) 32 in
-    let n = c .before .before .before .before .before .before .lesser .ensures in
-    let w : length (start .args .choice .units) ≡ 32 = search needs in
-    omega (arith, h, n, w)
-
-sub-put-pairs-2 : tie.Need-sub-put-pairs-2
-sub-put-pairs-2 c = search needs
-
-part-put-pairs-start-2 : tie.Need-part-put-pairs-start-2
-part-put-pairs-start-2 c = search needs
-
-part-put-pairs-end-2 : tie.Need-part-put-pairs-end-2
-part-put-pairs-end-2 c = search needs
+part-put-pairs-end c = search needs
 
 put-pairs-requires : tie.Need-put-pairs-requires
 put-pairs-requires c κs =
-    let start = c .before .before .before .before .before .before .before .before .before .before .before .before .before in
+    let told = c .before .before .before .before .before .before in
+    let start = c .before .before .before .before .before .before .before .before .before .before in
     let a = start .args in
-    let n = c .before .before .before .before .before .before .before .before .lesser .result in
-    let h : n ≤ 32 = omega (arith, least-most (a .choice .count) 32, c .before .before .before .before .before .before .before .before .lesser .ensures) in
-    let r = pairs-room (a .table) (a .choice .units) n h in
-    let t = tail-length (now (a .tail)) _ (bytesOf 2 (5 + 5 * a .choice .count) ++ (0x80 ∷ a .choice .flag ∷ a .choice .count ∷ [])) (pairsBytes (pairsFor (a .table) (take (n - 0) (a .choice .units)))) 5 refl (omega (arith, r, start .pre)) (c .before .before .before .before .before .put-group-head .ensures) in
-    let m = take-most (n - 0) (a .choice .units) in
-    (omega (arith, m, h), omega (arith, m, h, t, start .pre))
+    let n = told .lesser .result in
+    let h : n ≤ 32 = omega (arith, least-most (a .choice .count) 32, told .lesser .ensures) in
+    let r = pairs-room (a .table) (numbersOf (a .choice .units)) n h in
+    let t = tail-length (now (a .tail)) _ (bytesOf 2 (5 + 5 * a .choice .count) ++ (0x80 ∷ a .choice .flag ∷ a .choice .count ∷ [])) (pairsBytes (pairsFor (a .table) (take n (numbersOf (a .choice .units))))) 5 refl (omega (arith, r, start .pre)) (c .before .before .before .put-group-head .ensures) in
+    (h, omega (arith, h, t, start .pre))
 
 mul-result : tie.Need-mul-result
-mul-result c = omega (arith, least-most (c .before .before .before .before .before .before .before .before .before .before .before .before .before .before .before .before .args .choice .count) 32, c .before .before .before .before .before .before .before .before .before .before .before .lesser .ensures)
+mul-result c = omega (arith, least-most (c .before .before .before .before .before .before .before .before .before .before .before .before .before .args .choice .count) 32, c .before .before .before .before .before .before .before .before .before .lesser .ensures)
 
 add-result : tie.Need-add-result
-add-result c = omega (arith, least-most (c .before .before .before .before .before .before .before .before .before .before .before .before .before .before .before .before .args .choice .count) 32, c .before .before .before .before .before .before .before .before .before .before .before .lesser .ensures)
+add-result c = omega (arith, least-most (c .before .before .before .before .before .before .before .before .before .before .before .before .before .args .choice .count) 32, c .before .before .before .before .before .before .before .before .before .lesser .ensures)
 
 same-length : tie.Need-same-length
 same-length c = search needs
 
 returns-2 : tie.Need-returns-2
 returns-2 c =
-    let start = c .before .before .before .before .before .before .before .before .before .before .before .before .before .before .before .before in
+    let least-told = c .before .before .before .before .before .before .before .before .before in
+    let start = c .before .before .before .before .before .before .before .before .before .before .before .before .before in
     let a = start .args in
-    let n = c .before .before .before .before .before .before .before .before .before .before .before .lesser .result in
-    let q : n ≡ least (a .choice .count) 32 = c .before .before .before .before .before .before .before .before .before .before .before .lesser .ensures in
+    let n = least-told .lesser .result in
+    let q : n ≡ least (a .choice .count) 32 = least-told .lesser .ensures in
     let h : n ≤ 32 = omega (arith, least-most (a .choice .count) 32, q) in
-    let r = pairs-room (a .table) (a .choice .units) n h in
-    let w : length (a .choice .units) ≡ 32 = search (needs, start .good .1 .0) in
-    let there = units-there (a .table) (a .choice) (c .before .before .before .before .before .before .before .before .before .before .before .before .before .if1 .left) in
-    let p = puts-then (now (a .tail)) _ (bytesOf 2 (5 + 5 * a .choice .count) ++ (0x80 ∷ a .choice .flag ∷ a .choice .count ∷ [])) (pairsBytes (pairsFor (a .table) (take (n - 0) (a .choice .units)))) 5 refl (omega (arith, r, start .pre)) (c .before .before .before .before .before .before .before .before .put-group-head .ensures) (c .before .before .put-pairs .ensures) in
+    let r = pairs-room (a .table) (numbersOf (a .choice .units)) n h in
+    let w : length (a .choice .units) ≡ 32 = search (needs, unmapped, start .good .1 .0) in
+    let there = units-there (a .table) (a .choice) (c .before .before .before .before .before .before .before .before .before .before .if1 .left) in
+    let p = puts-then (now (a .tail)) _ (bytesOf 2 (5 + 5 * a .choice .count) ++ (0x80 ∷ a .choice .flag ∷ a .choice .count ∷ [])) (pairsBytes (pairsFor (a .table) (take n (numbersOf (a .choice .units))))) 5 refl (omega (arith, r, start .pre)) (c .before .before .before .before .before .before .put-group-head .ensures) (c .before .before .put-pairs .ensures) in
     (group-size (a .table) (a .choice) n q (omega (arith, w)) ∙ ap length there, p ∙ ap (λ (l : List ℕ). patched (now (a .tail)) 0 l) (group-is (a .table) (a .choice) n q ∙ there))
 
 pub put-units-spec : {M : Type 1} → statement M
@@ -105,9 +92,6 @@ put-units-spec =
     sub-put-pairs
     part-put-pairs-start
     part-put-pairs-end
-    sub-put-pairs-2
-    part-put-pairs-start-2
-    part-put-pairs-end-2
     put-pairs-requires
     mul-result
     add-result
