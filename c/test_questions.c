@@ -133,11 +133,14 @@ static int answer(char *question, char *out) {
         }
         return 1;
     }
-    if (strcmp(call, "write") == 0 && second && third && !fourth) {
+    int writes = strcmp(call, "write") == 0;
+    if ((writes || strcmp(call, "read-into") == 0) && second && third && !fourth) {
         static uint8_t given[MOST_BYTES];
+        uint8_t direction = (uint8_t)atoi(first);
         long k = unhex(second, given), n = unhex(third, bytes);
         if (k < 0 || n < 0) return 0;
-        unsigned refusal = boe_write((uint8_t)atoi(first), (struct boe_record *)given, (size_t)k, bytes, (size_t)n);
+        unsigned refusal = writes ? boe_write(direction, (struct boe_record *)given, (size_t)k, bytes, (size_t)n)
+                                  : boe_read(direction, given, (size_t)k, (struct boe_record *)bytes, (size_t)n);
         tohex(bytes, n, hex);
         sprintf(out, "%u %s", refusal, hex);
         return 1;
