@@ -1,17 +1,20 @@
 -- The code's loops over bitfield bytes and over the bits of one byte are a walk over the 120 places, whatever the walk's state.
 -- Assumes nothing.
 use mathlib.Core.Path.{_≡_, refl, sym, ap, ap₂, _∙_}
-use mathlib.Core.Bool.{Bool, true, false}
-use mathlib.Core.List.{List}
+use mathlib.Core.Bool.{Bool, true, false, false≢true, and-eq-true-iff, _&&_}
+use mathlib.Core.List.{List, [], _∷_}
 use Prim.Native.Nat.{ℕ, zero, suc, _+_, _*_, _-_, _/_, _%_, _^_, _≤_, _<_}
-use native.Mathlib.Nat.{add-zero, div-div-eq-div-mul, pow-suc}
+use native.Mathlib.Nat.{add-zero, zero-div, div-div-eq-div-mul, pow-suc}
 use native.Mathlib.Numerals.{add-one}
 use native.Mathlib.Omega.{arith}
-use lib.Dec.{eqb}
-use lib.ListN.{getD}
-use borrow.Author.Tests.{lt-ltb, le-ltb}
+use lib.Dec.{eqb, ltb}
+use lib.ListN.{getD, take, drop}
+use lib.Seq.{getD-take, getD-drop}
+use borrow.Author.Tests.{lt-ltb, le-ltb, ltb-true, ltb-false, eqb-true}
 use Rattle.dictionary.specs.declared.Entry.{Entry}
+use Rattle.dictionary.specs.declared.Entry.the-variants.{Refused, Field}
 use Rattle.dictionary.specs.Dictionary.{entryOf}
+use Rattle.kinds.specs.Kinds.{allNul}
 use Rattle.block.specs.Places.{selectedAt, entryAt}
 use Rattle.block.specs.Walk.{pick, walk, bitsFrom, inByte}
 use Rattle.block.specs.WalkLaws.{walk-add, walk-skip}
@@ -97,6 +100,47 @@ module _ (count : ℕ) (bits : List ℕ) where
     all-done : (j : ℕ) (st : S) → count ≤ j → walk (selectedAt count bits) change (allPlaces - 8 * j) (8 * j) st ≡ st
     all-done j st h = walk-skip (selectedAt count bits) change (allPlaces - 8 * j) (8 * j) st (λ k p q. past k (omega arith))
 
+-- a place whose bitfield byte is zero is not selected
+clear-at : (count : ℕ) (bits : List ℕ) (k : ℕ) → (k / 8 < count → getD bits (k / 8) 0 ≡ 0) → selectedAt count bits k ≡ false
+unfolding selectedAt
+clear-at count bits k z = go (ltb (k / 8) count) refl
+  where
+    go : (t : Bool) → ltb (k / 8) count ≡ t → selectedAt count bits k ≡ false
+    go false e = rw e
+    go true e = rw (e, z (ltb-true (k / 8) count e)) (rw (zero-div (2 ^ (k % 8))))
+
+-- a byte of a blank part is 0
+pub nul-at : (s : List ℕ) → allNul s ≡ true → (j : ℕ) → getD s j 0 ≡ 0
+nul-at [] h j = refl
+nul-at (b ∷ s) h zero = eqb-true b 0 (and-eq-true-iff (eqb b 0) (allNul s) .0 h .0)
+nul-at (b ∷ s) h (suc j) = nul-at s (and-eq-true-iff (eqb b 0) (allNul s) .0 h .1) j
+
+nul-within : (count : ℕ) (bits : List ℕ) (j i : ℕ) → allNul (take (count - j) (drop j bits)) ≡ true → j ≤ i → i < count → getD bits i 0 ≡ 0
+nul-within count bits j i z h l =
+    let e : j + (i - j) ≡ i = omega arith in
+    ap (λ (m : ℕ). getD bits m 0) (sym e)
+    ∙ sym (getD-drop j bits (i - j) 0)
+    ∙ sym (getD-take (count - j) (drop j bits) (i - j) 0 (omega arith))
+    ∙ nul-at (take (count - j) (drop j bits)) z (i - j)
+
+-- whether an entry is of a bit that is not listed
+abbrev refused : Entry → Bool
+refused Refused = true
+refused (Field w k p) = false
+
+refused-is : (e : Entry) → refused e ≡ true → e ≡ Refused
+refused-is Refused h = refl
+refused-is (Field w k p) h = absurd (false≢true h)
+
+-- whether the dictionary lists none of n places from k on
+unfoldable pub unlisted : ℕ → ℕ → ℕ → Bool
+unlisted message zero k = true
+unlisted message (suc n) k = refused (entryAt message k) && unlisted message n (suc k)
+
+pick-same : {S : Type 0} (b : Bool) (st : S) → pick b st st ≡ st
+pick-same true st = refl
+pick-same false st = refl
+
 -- ---- the same, as a loop over a dictionary's entries has it
 
 module _ {S : Type 0} (change : Entry → S → S) (message count : ℕ) (bits : List ℕ) where
@@ -137,3 +181,39 @@ module _ {S : Type 0} (change : Entry → S → S) (message count : ℕ) (bits :
   -- its end
   pub bytes-end : (j : ℕ) (st last : S) → count ≤ j → over (allPlaces - 8 * j) (8 * j) st ≡ last → st ≡ last
   bytes-end j st last h w = sym (all-done count bits (λ (k : ℕ). change (entryAt message k)) j st h) ∙ w
+
+  -- ---- and the same, byte after byte without a loop
+
+  -- a byte past the count leaves the state
+  byte-past : (j : ℕ) (st : S) → count ≤ j → over (allPlaces - 8 * (j + 1)) (8 * (j + 1)) st ≡ over (allPlaces - 8 * j) (8 * j) st
+  byte-past j st h =
+      all-done count bits (λ (k : ℕ). change (entryAt message k)) (j + 1) st (omega arith)
+      ∙ sym (all-done count bits (λ (k : ℕ). change (entryAt message k)) j st h)
+
+  byte-either : (j value : ℕ) (st st′ : S) (t : Bool) → ltb j count ≡ t → count ≤ 15 → value ≡ pick t (getD bits j 0) 0 → st′ ≡ inByte change message (j + 1) value st
+      → over (allPlaces - 8 * (j + 1)) (8 * (j + 1)) st′ ≡ over (allPlaces - 8 * j) (8 * j) st
+  byte-either j value st st′ true e l v s = byte-turn j value st st′ _ (ltb-true j count e) l v s refl
+  byte-either j value st st′ false e l v s =
+      ap (over (allPlaces - 8 * (j + 1)) (8 * (j + 1))) (s ∙ sym (byte-clear change message (j + 1) value st v)) ∙ byte-past j st (ltb-false j count e)
+
+  -- one byte, which is `value`, or 0 past the count: what is left to walk from the state after it ends as what was left before it
+  pub byte-given : (byte value : ℕ) (st st′ : S) → 1 ≤ byte → count ≤ 15 → value ≡ pick (ltb (byte - 1) count) (getD bits (byte - 1) 0) 0
+      → st′ ≡ inByte change message byte value st → over (allPlaces - 8 * byte) (8 * byte) st′ ≡ over (allPlaces - 8 * (byte - 1)) (8 * (byte - 1)) st
+  byte-given byte value st st′ h l v s =
+      let e : byte ≡ byte - 1 + 1 = omega arith in
+      ap (λ (b : ℕ). over (allPlaces - 8 * b) (8 * b) st′) e
+      ∙ byte-either (byte - 1) value st st′ (ltb (byte - 1) count) refl l v (s ∙ ap (λ (b : ℕ). inByte change message b value st) e)
+
+  -- bytes from j on without a set bit leave the state
+  pub bytes-clear : (j : ℕ) (st : S) → allNul (take (count - j) (drop j bits)) ≡ true → st ≡ over (allPlaces - 8 * j) (8 * j) st
+  bytes-clear j st z =
+      sym (walk-skip (selectedAt count bits) (λ (k : ℕ). change (entryAt message k)) (allPlaces - 8 * j) (8 * j) st (λ k p q. clear-at count bits k (λ h. nul-within count bits j (k / 8) z (omega arith) h)))
+
+  -- places that the dictionary does not list leave the state, where an unlisted bit does
+  pub places-unlisted : (n k : ℕ) (st : S) → ((st : S) → change Refused st ≡ st) → unlisted message n k ≡ true → over n k st ≡ st
+  unfolding walk unlisted
+  places-unlisted zero k st r u = refl
+  places-unlisted (suc n) k st r u =
+      let both = and-eq-true-iff (refused (entryAt message k)) (unlisted message n (suc k)) .0 u in
+      ap (over n (suc k)) (ap (λ (y : S). pick (selectedAt count bits k) y st) (ap (λ (e : Entry). change e st) (refused-is (entryAt message k) (both .0)) ∙ r st) ∙ pick-same (selectedAt count bits k) st)
+      ∙ places-unlisted n (suc k) st r (both .1)

@@ -1,10 +1,12 @@
 // The optional block over any dictionary: its definitions and laws (specs/), and the moves of bytes that it needs.
 ghost use mathlib.Core.Path.{_≡_};
-ghost use Prim.Native.Nat.{_≤_, _<_};
-ghost use lib.ListN.{length, take};
+ghost use Prim.Native.Nat.{_-_, _≤_, _<_};
+ghost use lib.Dec.{ltb};
+ghost use lib.ListN.{length, take, getD};
 ghost use Rattle.numbers.specs.Numbers.{patched};
 ghost use Rattle.block.specs.Places.{selectedAt, hasRequired};
 ghost use Rattle.block.specs.Slots.{zeros};
+ghost use Rattle.block.specs.Walk.{pick};
 ghost use Rattle.block.specs.Sizes.{layoutSize};
 
 // The sizes of an order's record and of its parts: the fixed part, where the longest one ends in a message, the full layout, the record.
@@ -66,6 +68,15 @@ pub fn clear(n: usize, to: &mut [u8])
         to[i] = 0;
         i += 1;
     }
+}
+
+// A bitfield byte of the first `count`, the first being 1; 0 for one that is not there.
+pub fn byte_of(bits: &[u8], count: u8, byte: u8) -> u8
+    requires { ⌜ (count ≤ length (now bits)) × (1 ≤ byte) ⌝ }
+    ensures { λ r. ⌜ r ≡ pick (ltb (byte - 1) count) (getD (now (bits .entry)) (byte - 1) 0) 0 ⌝ }
+{
+    let j = byte - 1;
+    if j < count { bits[j as usize] } else { 0 }
 }
 
 // Whether place k of 120 is selected.
