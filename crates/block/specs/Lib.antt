@@ -10,5 +10,6 @@ pub mod Stores
 pub mod Looks
 pub mod Gives
 pub mod Loops
+pub mod Fits
 pub mod FieldPlaces
 pub mod FieldPlaceLaws

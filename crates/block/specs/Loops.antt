@@ -23,7 +23,7 @@ use Rattle.block.specs.Sizes.{allPlaces}
 -- ---- the bits of one byte: x / 2 ^ i is what is left after i halvings
 
 -- one halving more
-halved : (x i : ℕ) → x / 2 ^ i / 2 ≡ x / 2 ^ (i + 1)
+pub halved : (x i : ℕ) → x / 2 ^ i / 2 ≡ x / 2 ^ (i + 1)
 halved x i = div-div-eq-div-mul x (2 ^ i) 2 ∙ ap (λ (n : ℕ). x / n) (sym (pow-suc 2 i)) ∙ rw add-one refl
 
 module _ {S : Type 0} (change : Entry → S → S) (message byte : ℕ) where
@@ -63,7 +63,7 @@ module _ {S : Type 0} (change : Entry → S → S) (b : Bool) (e : Entry) (st : 
 -- ---- places
 
 -- the entry of a bit of byte j
-entry-here : (message j i : ℕ) → i < 8 → entryAt message (8 * j + i) ≡ entryOf message (j + 1) i
+pub entry-here : (message j i : ℕ) → i < 8 → entryAt message (8 * j + i) ≡ entryOf message (j + 1) i
 unfolding entryAt
 entry-here message j i h =
     let a : (8 * j + i) / 8 ≡ j = omega arith in
@@ -72,14 +72,14 @@ entry-here message j i h =
 
 module _ (count : ℕ) (bits : List ℕ) where
   -- whether a bit of a bitfield byte is selected
-  selected-here : (j i : ℕ) → j < count → i < 8 → selectedAt count bits (8 * j + i) ≡ eqb (getD bits j 0 / 2 ^ i % 2) 1
+  pub selected-here : (j i : ℕ) → j < count → i < 8 → selectedAt count bits (8 * j + i) ≡ eqb (getD bits j 0 / 2 ^ i % 2) 1
   unfolding selectedAt
   selected-here j i h l =
       let a : (8 * j + i) / 8 ≡ j = omega arith in
       let b : (8 * j + i) % 8 ≡ i = omega arith in
       rw (a, b, lt-ltb j count h)
 
-  past : (k : ℕ) → count ≤ k / 8 → selectedAt count bits k ≡ false
+  pub past : (k : ℕ) → count ≤ k / 8 → selectedAt count bits k ≡ false
   unfolding selectedAt
   past k h = rw (le-ltb (k / 8) count h)
 
