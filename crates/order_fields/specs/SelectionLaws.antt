@@ -2,7 +2,7 @@
 -- where the reader and the writer have it so. Assumes nothing.
 use mathlib.Core.Path.{_≡_, refl, sym, ap, ap₂, _∙_}
 use mathlib.Core.Bool.{Bool, true, false, cond, _&&_}
-use mathlib.Core.List.{List, [], _∷_}
+use mathlib.Core.List.{List}
 use Prim.Native.Nat.{ℕ, zero, suc, _+_, _-_, _*_, _/_, _%_, _^_, _≤_, _<_}
 use native.Mathlib.Nat.{pow-suc, mul-comm, zero-div, div-div-eq-div-mul}
 use native.Mathlib.Omega.{arith}
@@ -15,6 +15,7 @@ use Rattle.kinds.specs.Kinds.{allNul}
 use Rattle.block.specs.Slots.{zeros}
 use Rattle.block.specs.SlotLaws.{both-true, zeros-are-nul}
 use Rattle.block.specs.Places.{bitSet, selectedAt}
+use Rattle.block.specs.Loops.{nul-at}
 use Rattle.orders.specs.Shapes.{countAt}
 use Rattle.orders.specs.Orders.{countOf, bitsOf, readRefusal, recordOf, zeroUnused}
 use Rattle.orders.specs.OrderLaws.{good}
@@ -103,11 +104,6 @@ raised count byte byte′ b h = by (leb byte′ count) refl
 
 abbrev pub UnusedZero : Record → Type 0
 UnusedZero r = (j : ℕ) → r .count ≤ j → getD (r .bits) j 0 ≡ 0
-
-nul-at : (s : List ℕ) → allNul s ≡ true → (j : ℕ) → getD s j 0 ≡ 0
-nul-at [] h j = refl
-nul-at (b ∷ s) h zero = eqb-true b 0 (both-true (eqb b 0) (allNul s) h .0)
-nul-at (b ∷ s) h (suc j) = nul-at s (both-true (eqb b 0) (allNul s) h .1) j
 
 nul-past : (s : List ℕ) (c : ℕ) → allNul (drop c s) ≡ true → (j : ℕ) → c ≤ j → getD s j 0 ≡ 0
 nul-past s c h j l =
