@@ -3,7 +3,7 @@ ghost use mathlib.Core.Path.{_≡_};
 ghost use mathlib.Core.Bool.{_||_};
 ghost use Prim.Native.Nat.{_+_, _≤_};
 ghost use lib.ListN.{length};
-ghost use Rattle.orders.specs.Shapes.{ofMember, ofVenue, countAt, mostOf, unitGood, newOrderGood, cancelOrderGood, acknowledgmentGood, executionGood, fixedGood};
+ghost use Rattle.orders.specs.Shapes.{ofMember, ofVenue, countAt, mostOf, unitGood, nameAt, newOrderRest, executionRest, fixedGood};
 ghost use Rattle.orders.specs.Orders.{blank};
 use kinds::Kind;
 use table::Unit;
@@ -83,63 +83,59 @@ pub fn unit_good(message: u8, unit: u8) -> bool
     table::unit_refusal(Unit(unit)) == 0
 }
 
-// New Order: ClOrdID and Side not blank and of their kinds, OrderQty from 1 to 999,999.
-fn new_order_good(f: &[u8]) -> bool
+// Where the identifier stands in the fixed part: ClOrdID, or OrigClOrdID of Cancel Order.
+fn name_at(message: u8) -> usize
+    ensures { λ r. ⌜ r ≡ nameAt message ⌝ }
+{
+    match message {
+        0x38 => 0,
+        0x39 => 0,
+        _ => 8,
+    }
+}
+
+// New Order, after ClOrdID: Side not blank and of its kind, OrderQty from 1 to 999,999.
+fn new_order_rest(f: &[u8]) -> bool
     requires { ⌜ 25 ≤ length (now f) ⌝ }
-    ensures { λ r. ⌜ r ≡ newOrderGood (now (f .entry)) ⌝ }
+    ensures { λ r. ⌜ r ≡ newOrderRest (now (f .entry)) ⌝ }
 {
-    if kinds::identifies(&f[0..20]) {
-        if kinds::agrees_filled(Kind::Alphanumeric, &f[20..21]) {
-            let quantity = numbers::read_u32(f, 21);
-            if 1 <= quantity {
-                return quantity <= 999999;
-            }
+    if kinds::agrees_filled(Kind::Alphanumeric, &f[20..21]) {
+        let quantity = numbers::read_u32(&f[21..25], 0);
+        if 1 <= quantity {
+            return quantity <= 999999;
         }
     }
     false
 }
 
-// Cancel Order: OrigClOrdID not blank and of its kind.
-fn cancel_order_good(f: &[u8]) -> bool
-    requires { ⌜ 20 ≤ length (now f) ⌝ }
-    ensures { λ r. ⌜ r ≡ cancelOrderGood (now (f .entry)) ⌝ }
-{
-    kinds::identifies(&f[0..20])
-}
-
-// Order Acknowledgment: ClOrdID not blank and of its kind.
-fn acknowledgment_good(f: &[u8]) -> bool
-    requires { ⌜ 28 ≤ length (now f) ⌝ }
-    ensures { λ r. ⌜ r ≡ acknowledgmentGood (now (f .entry)) ⌝ }
-{
-    kinds::identifies(&f[8..28])
-}
-
-// Order Execution: ClOrdID not blank and of its kind; BaseLiquidityIndicator, SubLiquidityIndicator and ContraBroker of theirs.
-fn execution_good(f: &[u8]) -> bool
+// Order Execution, after ClOrdID: BaseLiquidityIndicator, SubLiquidityIndicator and ContraBroker of their kinds.
+fn execution_rest(f: &[u8]) -> bool
     requires { ⌜ 58 ≤ length (now f) ⌝ }
-    ensures { λ r. ⌜ r ≡ executionGood (now (f .entry)) ⌝ }
+    ensures { λ r. ⌜ r ≡ executionRest (now (f .entry)) ⌝ }
 {
-    if kinds::identifies(&f[8..28]) {
-        if kinds::agrees(Kind::Alphanumeric, &f[52..53]) {
-            if kinds::agrees(Kind::Alphanumeric, &f[53..54]) {
-                return kinds::agrees(Kind::Alphanumeric, &f[54..58]);
-            }
+    if kinds::agrees(Kind::Alphanumeric, &f[52..53]) {
+        if kinds::agrees(Kind::Alphanumeric, &f[53..54]) {
+            return kinds::agrees(Kind::Alphanumeric, &f[54..58]);
         }
     }
     false
 }
 
-// Whether the values of a fixed part agree with their kinds and range. More bytes may follow it.
+// Whether the values of a fixed part agree with their kinds and range. More bytes may follow it. Every type has an identifier, never blank;
+// Cancel Order and Order Acknowledgment have nothing else to test.
 pub fn fixed_good(message: u8, f: &[u8]) -> bool
     requires { ⌜ countAt message ≤ length (now f) + 10 ⌝ }
     ensures { λ r. ⌜ r ≡ fixedGood message (now (f .entry)) ⌝ }
 {
+    let at = name_at(message);
+    if !kinds::identifies(&f[at..at + 20]) {
+        return false;
+    }
     match message {
-        0x38 => new_order_good(f),
-        0x39 => cancel_order_good(f),
-        0x25 => acknowledgment_good(f),
-        _ => execution_good(f),
+        0x38 => new_order_rest(f),
+        0x39 => true,
+        0x25 => true,
+        _ => execution_rest(f),
     }
 }
 

@@ -1,67 +1,146 @@
--- `orders::fixed_good` meets its contract. Assumes nothing.
-use Rattle.orders.specs.Shapes.{countAt, fixedGood}
-use mathlib.Core.Path.{_≡_, refl}
-use Prim.Native.Nat.{ℕ}
+-- `orders::fixed_good` meets its contract: every fixed part is its identifier and, in two types, more to test. Assumes nothing.
+use Rattle.orders.specs.Shapes.{countAt, nameAt, newOrderGood, cancelOrderGood, acknowledgmentGood, executionGood, newOrderRest, executionRest, fixedGood}
+use Rattle.kinds.specs.declared.Kind.the-variants.{Identifier}
+use Rattle.kinds.specs.Kinds.{agreesFilledOf}
+use mathlib.Core.Path.{_≡_, refl, sym, ap, ap₂, _∙_}
+use mathlib.Core.Bool.{Bool, true, false, cond, _&&_}
+use mathlib.Core.List.{List}
+use Prim.Native.Nat.{ℕ, _+_, _-_, _≤_}
 use native.Mathlib.Omega.{arith}
-use borrow.Author.Tests.{ne-eqb}
+use lib.Dec.{eqb}
+use lib.ListN.{take, drop}
+use denote.Ref.{now}
+use borrow.Author.Needs.{needs}
+use borrow.Author.Tests.{ne-eqb, not-true, not-false}
+use Rattle.orders.specs.OrderLaws.{in-new-order, in-others}
 use Rattle.orders.proofs.fixed_good.Statement.{statement}
 use Rattle.orders.proofs.fixed_good.Tie as tie
-use Rattle.block.specs.Sizes.{fixedEnd}
 
--- where the count of each type stands
-count-38 : (message : ℕ) → message ≡ 0x38 → countAt message ≡ 35
-unfolding countAt
-count-38 message e = rw e
+-- the identifier lies within the fixed part
+name-fits : (message n : ℕ) → countAt message ≤ n + 10 → nameAt message + 20 ≤ n
+unfolding countAt nameAt
+name-fits message n h = by (eqb message 0x38) (eqb message 0x39) (eqb message 0x25) h
+  where
+    by : (a b d : Bool) → cond a 35 (cond b 30 (cond d 47 69)) ≤ n + 10 → cond a 0 (cond b 0 8) + 20 ≤ n
+    by true b d h = omega (arith, h)
+    by false true d h = omega (arith, h)
+    by false false true h = omega (arith, h)
+    by false false false h = omega (arith, h)
 
-count-39 : (message : ℕ) → message ≡ 0x39 → countAt message ≡ 30
-unfolding countAt
-count-39 message e = rw e
+name-near : (message : ℕ) → nameAt message ≤ 8
+unfolding nameAt
+name-near message = by (eqb message 0x38) (eqb message 0x39)
+  where
+    by : (a b : Bool) → cond a 0 (cond b 0 8) ≤ 8
+    by true b = omega arith
+    by false true = omega arith
+    by false false = omega arith
 
-count-25 : (message : ℕ) → message ≡ 0x25 → countAt message ≡ 47
-unfolding countAt
-count-25 message e = rw e
+-- what is tested after it
+unfoldable restGood : ℕ → List ℕ → Bool
+restGood message f = cond (eqb message 0x38) (newOrderRest f) (cond (eqb message 0x39) true (cond (eqb message 0x25) true (executionRest f)))
 
-count-other : (message : ℕ) → (message ≡ 0x38 → ⊥) → (message ≡ 0x39 → ⊥) → (message ≡ 0x25 → ⊥) → countAt message ≡ fixedEnd
-unfolding countAt
-count-other message a b d = rw (ne-eqb message 0x38 a, ne-eqb message 0x39 b, ne-eqb message 0x25 d)
+and-true : (b : Bool) → b ≡ (b && true)
+and-true true = refl
+and-true false = refl
 
-new-order-good-requires : tie.Need-new-order-good-requires
-new-order-good-requires c κs = omega (arith, c .before .before .pre, count-38 _ (c .match .keys1))
+in-two : (message : ℕ) (f : List ℕ) → fixedGood message f ≡ (agreesFilledOf Identifier (take 20 (drop (nameAt message) f)) && restGood message f)
+unfolding fixedGood nameAt restGood
+in-two message f = by (eqb message 0x38) (eqb message 0x39) (eqb message 0x25)
+  where
+    by : (a b d : Bool)
+        → cond a (newOrderGood f) (cond b (cancelOrderGood f) (cond d (acknowledgmentGood f) (executionGood f)))
+        ≡ (agreesFilledOf Identifier (take 20 (drop (cond a 0 (cond b 0 8)) f)) && cond a (newOrderRest f) (cond b true (cond d true (executionRest f))))
+    by true b d = refl
+    by false true d = and-true _
+    by false false true = and-true _
+    by false false false = refl
 
-cancel-order-good-requires : tie.Need-cancel-order-good-requires
-cancel-order-good-requires c κs = omega (arith, c .before .before .pre, count-39 _ (c .match .keys2))
+-- so once the identifier is tested, the rest decides
+once-named : (message at : ℕ) (f : List ℕ) (r b : Bool) → at ≡ nameAt message → r ≡ agreesFilledOf Identifier (take (at + 20 - at) (drop at f)) → r ≡ b
+    → fixedGood message f ≡ (b && restGood message f)
+once-named message at f r b e h t =
+    let n : at + 20 - at ≡ 20 = omega arith in
+    in-two message f
+    ∙ ap (λ (x : Bool). x && restGood message f) (sym (ap₂ (λ (k i : ℕ). agreesFilledOf Identifier (take k (drop i f))) n e) ∙ sym h ∙ t)
 
-acknowledgment-good-requires : tie.Need-acknowledgment-good-requires
-acknowledgment-good-requires c κs = omega (arith, c .before .before .pre, count-25 _ (c .match .keys3))
+name-at-requires : tie.Need-name-at-requires
+name-at-requires c κs = search needs
 
-execution-good-requires : tie.Need-execution-good-requires
-execution-good-requires c κs = omega (arith, c .before .before .pre, count-other _ (c .match .rest .0 .0 .1) (c .match .rest .0 .1) (c .match .rest .1))
+add-identifies : tie.Need-add-identifies
+add-identifies c = omega (arith, c .name-at .ensures, name-near (c .before .before .args .message))
+
+sub-identifies : tie.Need-sub-identifies
+sub-identifies c = search needs
+
+part-identifies-start : tie.Need-part-identifies-start
+part-identifies-start c = search needs
+
+part-identifies-end : tie.Need-part-identifies-end
+part-identifies-end c = omega (arith, c .name-at .ensures, name-fits _ _ (c .before .before .pre))
+
+identifies-requires : tie.Need-identifies-requires
+identifies-requires c κs = search needs
 
 returns : tie.Need-returns
-unfolding fixedGood
-returns c = rw (c .before .match .keys1) (c .new-order-good .ensures)
+returns c =
+    let named = c .before in
+    let a = named .before .before .before .before .args in
+    let whole = once-named (a .message) _ (now (a .f)) _ false (named .before .before .name-at .ensures) (named .identifies .ensures) (not-true _ (c .if1 .taken)) in
+    sym whole
+
+new-order-rest-requires : tie.Need-new-order-rest-requires
+new-order-rest-requires c κs = omega (arith, c .before .before .before .before .before .before .pre, in-new-order _ (c .match .keys1))
+
+execution-rest-requires : tie.Need-execution-rest-requires
+execution-rest-requires c κs = omega (arith, c .before .before .before .before .before .before .pre, in-others _ (c .match .rest .0 .0 .1) (c .match .rest .0 .1) (c .match .rest .1))
 
 returns-2 : tie.Need-returns-2
-unfolding fixedGood
-returns-2 c = rw (c .before .match .keys2) (c .cancel-order-good .ensures)
+unfolding restGood
+returns-2 c =
+    let named = c .before .before .before in
+    let a = named .before .before .before .before .args in
+    let whole = once-named (a .message) _ (now (a .f)) _ true (named .before .before .name-at .ensures) (named .identifies .ensures) (not-false _ (c .before .before .if1 .left)) in
+    c .new-order-rest .ensures ∙ sym (whole ∙ rw (c .before .match .keys1))
 
 returns-3 : tie.Need-returns-3
-unfolding fixedGood
-returns-3 c = rw (c .before .match .keys3) (c .acknowledgment-good .ensures)
+unfolding restGood
+returns-3 c =
+    let named = c .before .before in
+    let a = named .before .before .before .before .args in
+    let whole = once-named (a .message) _ (now (a .f)) _ true (named .before .before .name-at .ensures) (named .identifies .ensures) (not-false _ (c .before .if1 .left)) in
+    sym (whole ∙ rw (c .match .keys2))
 
 returns-4 : tie.Need-returns-4
-unfolding fixedGood
-returns-4 c = simp (ne-eqb _ _ (c .before .match .rest .1), ne-eqb _ _ (c .before .match .rest .0 .1), ne-eqb _ _ (c .before .match .rest .0 .0 .1)) (c .execution-good .ensures)
+unfolding restGood
+returns-4 c =
+    let named = c .before .before in
+    let a = named .before .before .before .before .args in
+    let whole = once-named (a .message) _ (now (a .f)) _ true (named .before .before .name-at .ensures) (named .identifies .ensures) (not-false _ (c .before .if1 .left)) in
+    sym (whole ∙ rw (c .match .keys3))
+
+returns-5 : tie.Need-returns-5
+unfolding restGood
+returns-5 c =
+    let named = c .before .before .before in
+    let a = named .before .before .before .before .args in
+    let whole = once-named (a .message) _ (now (a .f)) _ true (named .before .before .name-at .ensures) (named .identifies .ensures) (not-false _ (c .before .before .if1 .left)) in
+    c .execution-rest .ensures ∙ sym (whole ∙ simp (ne-eqb _ _ (c .before .match .rest .1), ne-eqb _ _ (c .before .match .rest .0 .1), ne-eqb _ _ (c .before .match .rest .0 .0 .1)))
 
 pub fixed-good-spec : {M : Type 1} → statement M
 fixed-good-spec =
     tie.close
     (tie.spec
-    new-order-good-requires
-    cancel-order-good-requires
-    acknowledgment-good-requires
-    execution-good-requires
+    name-at-requires
+    add-identifies
+    sub-identifies
+    part-identifies-start
+    part-identifies-end
+    identifies-requires
     returns
+    new-order-rest-requires
+    execution-rest-requires
     returns-2
     returns-3
-    returns-4)
+    returns-4
+    returns-5)

@@ -1,0 +1,76 @@
+-- `orders::execution_rest` meets its contract. Assumes nothing.
+use mathlib.Core.Path.{sym, _∙_}
+use borrow.Author.Needs.{needs}
+use Rattle.orders.proofs.execution_rest.Statement.{statement}
+use Rattle.orders.proofs.execution_rest.Tie as tie
+
+sub-agrees : tie.Need-sub-agrees
+sub-agrees c = search needs
+
+part-agrees-start : tie.Need-part-agrees-start
+part-agrees-start c = search needs
+
+part-agrees-end : tie.Need-part-agrees-end
+part-agrees-end c = search needs
+
+agrees-requires : tie.Need-agrees-requires
+agrees-requires c κs = search needs
+
+sub-agrees-2 : tie.Need-sub-agrees-2
+sub-agrees-2 c = search needs
+
+part-agrees-start-2 : tie.Need-part-agrees-start-2
+part-agrees-start-2 c = search needs
+
+part-agrees-end-2 : tie.Need-part-agrees-end-2
+part-agrees-end-2 c = search needs
+
+agrees-requires-2 : tie.Need-agrees-requires-2
+agrees-requires-2 c κs = search needs
+
+sub-agrees-3 : tie.Need-sub-agrees-3
+sub-agrees-3 c = search needs
+
+part-agrees-start-3 : tie.Need-part-agrees-start-3
+part-agrees-start-3 c = search needs
+
+part-agrees-end-3 : tie.Need-part-agrees-end-3
+part-agrees-end-3 c = search needs
+
+agrees-requires-3 : tie.Need-agrees-requires-3
+agrees-requires-3 c κs = search needs
+
+returns : tie.Need-returns
+returns c =
+    let second = c .before .before .before in
+    let first = second .before .before .before in
+    rw (sym (first .agrees .ensures) ∙ second .before .before .if1 .taken, sym (second .agrees2 .ensures) ∙ c .before .before .if2 .taken) (c .agrees3 .ensures)
+
+returns-2 : tie.Need-returns-2
+returns-2 c =
+    let second = c .before in
+    let first = second .before .before .before in
+    rw (sym (first .agrees .ensures) ∙ second .before .before .if1 .taken, sym (second .agrees2 .ensures) ∙ c .if2 .left)
+
+returns-3 : tie.Need-returns-3
+returns-3 c = rw (sym (c .before .agrees .ensures) ∙ c .if1 .left)
+
+pub execution-rest-spec : {M : Type 1} → statement M
+execution-rest-spec =
+    tie.close
+    (tie.spec
+    sub-agrees
+    part-agrees-start
+    part-agrees-end
+    agrees-requires
+    sub-agrees-2
+    part-agrees-start-2
+    part-agrees-end-2
+    agrees-requires-2
+    sub-agrees-3
+    part-agrees-start-3
+    part-agrees-end-3
+    agrees-requires-3
+    returns
+    returns-2
+    returns-3)

@@ -1,0 +1,77 @@
+-- `orders::new_order_rest` meets its contract. Assumes nothing.
+use Rattle.numbers.specs.Numbers.{numberAt}
+use denote.Ref.{now}
+use borrow.Author.Tests.{le-leb, lt-leb}
+use lib.Dec.{leb}
+use lib.ListN.{getD, take, drop}
+use lib.Seq.{getD-take, getD-drop}
+use native.Mathlib.Omega.{arith}
+use Prim.Native.Nat.{ℕ, _+_, _<_}
+use mathlib.Core.Path.{_≡_, sym, ap, _∙_}
+use mathlib.Core.List.{List}
+use borrow.Author.Needs.{needs}
+use Rattle.orders.proofs.new_order_rest.Statement.{statement}
+use Rattle.orders.proofs.new_order_rest.Tie as tie
+
+-- OrderQty, read from its own four bytes
+quantity-is : (f : List ℕ) → numberAt 4 0 (take 4 (drop 21 f)) ≡ numberAt 4 21 f
+quantity-is f =
+    let byte : (j : ℕ) → j < 4 → getD (take 4 (drop 21 f)) j 0 ≡ getD f (21 + j) 0 = λ j h. getD-take 4 (drop 21 f) j 0 h ∙ getD-drop 21 f j 0 in
+    rw (byte 0 (omega arith), byte 1 (omega arith), byte 2 (omega arith), byte 3 (omega arith))
+
+sub-agrees-filled : tie.Need-sub-agrees-filled
+sub-agrees-filled c = search needs
+
+part-agrees-filled-start : tie.Need-part-agrees-filled-start
+part-agrees-filled-start c = search needs
+
+part-agrees-filled-end : tie.Need-part-agrees-filled-end
+part-agrees-filled-end c = search needs
+
+agrees-filled-requires : tie.Need-agrees-filled-requires
+agrees-filled-requires c κs = search needs
+
+sub-read-u32 : tie.Need-sub-read-u32
+sub-read-u32 c = search needs
+
+part-read-u32-start : tie.Need-part-read-u32-start
+part-read-u32-start c = search needs
+
+part-read-u32-end : tie.Need-part-read-u32-end
+part-read-u32-end c = search needs
+
+read-u32-requires : tie.Need-read-u32-requires
+read-u32-requires c κs = search needs
+
+returns : tie.Need-returns
+returns c =
+    let first = c .before .before .before .before in
+    let f = now (first .before .before .before .args .f) in
+    let n = c .before .read-u32 .ensures ∙ quantity-is f in
+    rw (sym (first .agrees-filled .ensures) ∙ c .before .before .before .if1 .taken, le-leb 1 (numberAt 4 21 f) (omega (arith, n, c .if2 .taken))) (ap (λ (x : ℕ). leb x 999999) n)
+
+returns-2 : tie.Need-returns-2
+returns-2 c =
+    let first = c .before .before .before .before in
+    let f = now (first .before .before .before .args .f) in
+    let n = c .before .read-u32 .ensures ∙ quantity-is f in
+    rw (sym (first .agrees-filled .ensures) ∙ c .before .before .before .if1 .taken, lt-leb 1 (numberAt 4 21 f) (omega (arith, n, c .if2 .left)))
+
+returns-3 : tie.Need-returns-3
+returns-3 c = rw (sym (c .before .agrees-filled .ensures) ∙ c .if1 .left)
+
+pub new-order-rest-spec : {M : Type 1} → statement M
+new-order-rest-spec =
+    tie.close
+    (tie.spec
+    sub-agrees-filled
+    part-agrees-filled-start
+    part-agrees-filled-end
+    agrees-filled-requires
+    sub-read-u32
+    part-read-u32-start
+    part-read-u32-end
+    read-u32-requires
+    returns
+    returns-2
+    returns-3)
