@@ -1,5 +1,5 @@
--- A text in parts: what its words say one by one, joined. A word's bytes are its number's, so that a word below 256 to the 7th ends with NUL, after which
--- all is NUL. Assumes nothing.
+-- A text in parts: what its words, or two windows on it, say one by one, joined; and a text whose last byte is not NUL. A word's bytes are its number's, so
+-- that a word below 256 to the 7th ends with NUL, after which all is NUL. Assumes nothing.
 use mathlib.Core.Path.{_≡_, refl, sym, ap, ap₂, _∙_}
 use mathlib.Core.Bool.{Bool, true, false, cond, _&&_, and-assoc, and-true, false≢true}
 use mathlib.Core.List.{List, [], _∷_, _++_}
@@ -7,13 +7,13 @@ use Prim.Native.Nat.{ℕ, zero, suc, _+_, _-_, _*_, _/_, _%_, _^_, _≤_, _<_}
 use native.Mathlib.Nat.{le-of-suc-le-suc, not-suc-le-zero, pow-suc, mul-comm, mul-assoc, zero-add, suc-add, suc-sub-suc, mod-eq-of-lt}
 use native.Mathlib.Omega.{arith}
 use lib.Dec.{eqb}
-use lib.ListN.{length, getD, take, drop, length-drop, take-append-drop}
-use lib.Seq.{drop-drop, length-take-le}
+use lib.ListN.{length, getD, take, drop, length-take, length-drop, take-append-drop}
+use lib.Seq.{drop-drop, length-take-le, take-add}
 use borrow.Author.Tests.{eqb-true, eqb-false, eq-eqb, ne-eqb}
 use Rattle.numbers.specs.Numbers.{numberAt, bytesOf}
 use Rattle.numbers.specs.NumberLaws.{number-after, number-past, bytes-later}
 use Rattle.kinds.specs.declared.Kind.{Kind}
-use Rattle.kinds.specs.Kinds.{allowed, allNul, agreesText}
+use Rattle.kinds.specs.Kinds.{allowed, allNul, allAllowed, agreesText}
 use Rattle.kinds.specs.KindLaws.{blank-text}
 use Rattle.kinds.proofs.Walk.{tail-is}
 use Rattle.kinds.proofs.Lanes.{lane-low, lane-up}
@@ -60,6 +60,91 @@ text-append k d n (b ∷ xs) ys = by (eqb b 0) refl (λ e. text-append k b e xs 
 text-then-nul : (k : Kind) (xs zs : List ℕ) → allNul zs ≡ true → agreesText k (xs ++ zs) ≡ agreesText k xs
 text-then-nul k [] zs h = blank-text k zs h
 text-then-nul k (b ∷ xs) zs h = ap₂ (λ s t. cond (eqb b 0) s (allowed k b && t)) (nul-append xs zs ∙ rw h (and-true (allNul xs))) (text-then-nul k xs zs h)
+
+-- ---- full texts
+
+-- the last byte by its place
+last-at : (b : ℕ) (xs : List ℕ) → lastOf b xs ≡ getD (b ∷ xs) (length xs) 0
+unfolding lastOf
+last-at b [] = refl
+last-at b (c ∷ xs) = last-at c xs
+
+-- where the last byte is not NUL none is, or the text does not agree
+full-after : (k : Kind) → allowed k 0 ≡ false → (d : ℕ) (xs : List ℕ) → eqb (lastOf d xs) 0 ≡ false → agreesText k xs ≡ allAllowed k xs
+unfolding lastOf
+full-after k n d [] h = refl
+full-after k n d (b ∷ xs) h = by (eqb b 0) refl (full-after k n b xs h)
+  where
+    none : b ≡ 0 → (t : Bool) → allNul xs ≡ t → t ≡ false
+    none z true e = absurd (eqb-false (lastOf b xs) 0 h (ap (λ (c : ℕ). lastOf c xs) z ∙ last-nul xs e))
+    none z false e = refl
+
+    by : (t : Bool) → eqb b 0 ≡ t → agreesText k xs ≡ allAllowed k xs → cond t (allNul xs) (allowed k b && agreesText k xs) ≡ (allowed k b && allAllowed k xs)
+    by true e r =
+        let z : b ≡ 0 = eqb-true b 0 e in
+        none z (allNul xs) refl ∙ sym (ap (λ t. t && allAllowed k xs) (ap (allowed k) z ∙ n))
+    by false e r = ap (λ t. allowed k b && t) r
+
+-- a text whose last byte is not NUL agrees exactly where the kind allows all its bytes, NUL being none of those
+pub full-text : (k : Kind) → allowed k 0 ≡ false → (s : List ℕ) → (getD s (length s - 1) 0 ≡ 0 → ⊥) → agreesText k s ≡ allAllowed k s
+unfolding lastOf
+full-text k n [] h = refl
+full-text k n (b ∷ xs) h =
+    let e : length (b ∷ xs) - 1 ≡ length xs = omega arith in
+    full-after k n 1 (b ∷ xs) (ne-eqb _ _ (λ z. h (ap (λ (i : ℕ). getD (b ∷ xs) i 0) e ∙ sym (last-at b xs) ∙ z)))
+
+-- ---- windows
+
+twice : (s t : Bool) → (s && t) ≡ (s && (s && t))
+twice true t = refl
+twice false t = refl
+
+-- bytes that are NUL, and what follows them: NUL as well, or they are no text together
+nul-window : (k : Kind) (ys zs : List ℕ) → 0 < length ys → allNul (ys ++ zs) ≡ (allNul ys && agreesText k (ys ++ zs))
+nul-window k [] zs h = absurd (not-suc-le-zero h)
+nul-window k (y ∷ ys) zs h = by (eqb y 0)
+  where
+    by : (t : Bool) → (t && allNul (ys ++ zs)) ≡ ((t && allNul ys) && cond t (allNul (ys ++ zs)) (allowed k y && agreesText k (ys ++ zs)))
+    by true = rw (nul-append ys zs) (twice (allNul ys) (allNul zs))
+    by false = refl
+
+-- a text agrees exactly where two windows on it do that share a byte, one from its start and one up to its end
+module _ (k : Kind) (ys zs : List ℕ) (h : 0 < length ys) where
+  windows : (xs : List ℕ) → agreesText k (xs ++ (ys ++ zs)) ≡ (agreesText k (xs ++ ys) && agreesText k (ys ++ zs))
+  windows [] =
+      let e = text-append k 1 refl ys zs in
+      e ∙ twice (agreesText k ys) _ ∙ ap (λ t. agreesText k ys && t) (sym e)
+  windows (b ∷ xs) = ap₂ (λ s t. cond (eqb b 0) s (allowed k b && t)) nul (windows xs) ∙ by (eqb b 0)
+    where
+      rest : Bool
+      rest = agreesText k (ys ++ zs)
+
+      nul : allNul (xs ++ (ys ++ zs)) ≡ (allNul (xs ++ ys) && rest)
+      nul =
+          nul-append xs (ys ++ zs)
+          ∙ ap (λ t. allNul xs && t) (nul-window k ys zs h)
+          ∙ sym (and-assoc (allNul xs) (allNul ys) rest)
+          ∙ ap (λ t. t && rest) (sym (nul-append xs ys))
+
+      by : (t : Bool) → cond t (allNul (xs ++ ys) && rest) (allowed k b && (agreesText k (xs ++ ys) && rest))
+          ≡ (cond t (allNul (xs ++ ys)) (allowed k b && agreesText k (xs ++ ys)) && rest)
+      by true = refl
+      by false = sym (and-assoc (allowed k b) (agreesText k (xs ++ ys)) rest)
+
+-- the same by places: the first m + n bytes, and those from m on
+pub two-windows : (k : Kind) (s : List ℕ) (m n : ℕ) → 0 < n → m < length s → agreesText k s ≡ (agreesText k (take (m + n) s) && agreesText k (drop m s))
+two-windows k s m n p h =
+    let later : List ℕ = drop m s in
+    let d : length later ≡ length s - m = length-drop m s in
+    let l : 0 < length (take n later) = simp length-take (omega arith) in
+    let e : take n later ++ drop n later ≡ later = take-append-drop n later in
+    ap (agreesText k) (sym (ap (λ (l : List ℕ). take m s ++ l) e ∙ take-append-drop m s))
+    ∙ windows k (take n later) (drop n later) l (take m s)
+    ∙ ap₂ (λ (x y : List ℕ). agreesText k x && agreesText k y) (sym (take-add m n s)) e
+
+-- NUL from m on changes nothing
+pub nul-from : (k : Kind) (s : List ℕ) (m : ℕ) → allNul (drop m s) ≡ true → agreesText k s ≡ agreesText k (take m s)
+nul-from k s m h = ap (agreesText k) (sym (take-append-drop m s)) ∙ text-then-nul k (take m s) (drop m s) h
 
 -- ---- words
 

@@ -57,6 +57,11 @@ agreesFilledOf k bs = not (allNul bs) && agreesOf k bs
 
 -- ---- the same tests as the code makes them, which never stops early
 
+-- a kind allows every byte
+abbrev pub allAllowed : Kind → List ℕ → Bool
+allAllowed k [] = true
+allAllowed k (b ∷ bs) = allowed k b && allAllowed k bs
+
 -- a byte b of an identifier may stand after a byte p: NUL after any, a character after any but NUL
 abbrev pub follows : ℕ → ℕ → Bool
 follows p b = eqb b 0 || (not (eqb p 0) && allowed Identifier b)

@@ -7,7 +7,7 @@ ghost use lib.Bits.{bitXor};
 ghost use lib.Dec.{eqb};
 ghost use lib.ListN.{length, take};
 ghost use Rattle.numbers.specs.Numbers.{bytesOf};
-ghost use Rattle.kinds.specs.Kinds.{within, letter, allowed, allNul, follows, agreesText, agreesOf, agreesFilledOf};
+ghost use Rattle.kinds.specs.Kinds.{within, letter, allowed, allNul, allAllowed, follows, agreesText, agreesOf, agreesFilledOf};
 ghost use Rattle.kinds.specs.Words.{kindOf, Low, Marks};
 
 // A field's kind: document 01's A, N, T, the characters of ClOrdID and OrigClOrdID, B and P.
@@ -224,6 +224,42 @@ fn long_agrees(plain: Plain, s: &[u8]) -> bool
     word_agrees(plain, numbers::read_u64(s, i))
 }
 
+// Whether a kind allows every byte of a field.
+fn every(kind: Kind, s: &[u8]) -> bool
+    ensures { λ r. ⌜ r ≡ allAllowed kind (now (s .entry)) ⌝ }
+{
+    let mut i: usize = 0;
+    let mut ok = true;
+    while i < s.len() {
+        ok = both(is_allowed(kind, s[i]), ok);
+        i += 1;
+    }
+    ok
+}
+
+// Whether a plain kind allows every byte of a field. In each arm the kind is a literal, so that its test is folded.
+fn full_agrees(plain: Plain, s: &[u8]) -> bool
+    ensures { λ r. ⌜ r ≡ allAllowed (kindOf plain) (now (s .entry)) ⌝ }
+{
+    match plain {
+        Plain::OfA => every(Kind::Letters, s),
+        Plain::OfN => every(Kind::Alphanumeric, s),
+        Plain::OfT => every(Kind::Text, s),
+    }
+}
+
+// Whether any field agrees with a plain kind. One whose last byte is not NUL is full: it has no NUL, or does not agree.
+fn any_agrees(plain: Plain, s: &[u8]) -> bool
+    ensures { λ r. ⌜ r ≡ agreesText (kindOf plain) (now (s .entry)) ⌝ }
+{
+    if s.len() != 0 {
+        if s[s.len() - 1] != 0 {
+            return full_agrees(plain, s);
+        }
+    }
+    long_agrees(plain, s)
+}
+
 // The same for a field of n bytes. Where n is a literal the compiler keeps one of the four.
 fn text_agrees(plain: Plain, n: usize, s: &[u8]) -> bool
     requires { ⌜ n ≡ length (now s) ⌝ }
@@ -238,7 +274,7 @@ fn text_agrees(plain: Plain, n: usize, s: &[u8]) -> bool
     if n == 16 {
         return pair_agrees(plain, word(s), word(&s[8..]));
     }
-    long_agrees(plain, s)
+    any_agrees(plain, s)
 }
 
 // Whether the n bytes of a field agree with its kind.
@@ -283,15 +319,27 @@ pub fn agrees_filled(kind: Kind, s: &[u8]) -> bool
     sized_agrees(kind, s.len(), s)
 }
 
-// Whether a field is an identifier and not blank: the same as the test above for that kind, made in one pass.
+// Whether a field of 20 bytes is an identifier, or blank: its first 16 bytes are one, and so are its last 16, or the last four are NUL.
+fn long_name(s: &[u8]) -> bool
+    requires { ⌜ length (now s) ≡ 20 ⌝ }
+    ensures { λ r. ⌜ r ≡ agreesText Kind.Identifier (now (s .entry)) ⌝ }
+{
+    let front = is_name(&s[0..16]);
+    if half(&s[16..]) == 0 {
+        return front;
+    }
+    both(front, is_name(&s[4..20]))
+}
+
+// Whether a field is an identifier and not blank. One of 20 bytes, as ClOrdID and OrigClOrdID are, is tested by itself, any other as a field that is never blank.
 pub fn identifies(s: &[u8]) -> bool
     ensures { λ r. ⌜ r ≡ agreesFilledOf Kind.Identifier (now (s .entry)) ⌝ }
 {
-    if s.len() == 0 {
-        return false;
+    if s.len() == 20 {
+        if s[0] == 0 {
+            return false;
+        }
+        return long_name(s);
     }
-    if s[0] == 0 {
-        return false;
-    }
-    is_name(s)
+    agrees_filled(Kind::Identifier, s)
 }

@@ -68,8 +68,8 @@ returns-3 c =
     ∙ ap (agreesText (kindOf (a .plain)))
     (ap₂ _++_ (first .word2 .ensures) (second .word3 .ensures ∙ ap (take 8) (tail-is s 8 (omega arith))) ∙ sym (take-add 8 8 s) ∙ take-all 16 s (omega arith))
 
-long-agrees-requires : tie.Need-long-agrees-requires
-long-agrees-requires c κs = search needs
+any-agrees-requires : tie.Need-any-agrees-requires
+any-agrees-requires c κs = search needs
 
 returns-4 : tie.Need-returns-4
 returns-4 c = search needs
@@ -91,5 +91,5 @@ text-agrees-spec =
     word-requires-3
     pair-agrees-requires
     returns-3
-    long-agrees-requires
+    any-agrees-requires
     returns-4)
