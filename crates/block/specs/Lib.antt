@@ -13,3 +13,4 @@ pub mod Loops
 pub mod Fits
 pub mod FieldPlaces
 pub mod FieldPlaceLaws
+pub mod Ends

@@ -1,6 +1,6 @@
 // The optional block over any dictionary: its definitions and laws (specs/), and the moves of bytes that it needs.
 ghost use mathlib.Core.Path.{_≡_};
-ghost use Prim.Native.Nat.{_-_, _≤_, _<_};
+ghost use Prim.Native.Nat.{_+_, _-_, _≤_, _<_};
 ghost use lib.Dec.{ltb};
 ghost use lib.ListN.{length, take, getD};
 ghost use Rattle.numbers.specs.Numbers.{patched};
@@ -47,6 +47,39 @@ pub fn move_field(from: &[u8], to: &mut [u8])
     let mut held = [0u8; LAYOUT];
     copy(from, &mut held);
     copy_front(&held, n, to);
+}
+
+// A field's bytes into the front of a lent tail by two moves of a known width, its first k bytes and its last k: they overlap, or meet.
+fn both_ends(k: usize, from: &[u8], to: &mut [u8])
+    requires { ⌜ (k ≤ length (now from)) × (length (now from) ≤ k + k) × (length (now from) ≤ length (now to)) × (k ≤ layoutSize) ⌝ }
+    ensures { λ _. ⌜ now (to .exit) ≡ patched (now (to .entry)) 0 (now (from .entry)) ⌝ }
+{
+    let n = from.len();
+    move_field(&from[0..k], to);
+    move_field(&from[n - k..n], &mut to[n - k..]);
+}
+
+// At most 16 bytes into the front of a lent tail: no loop over them.
+pub fn copy_few(from: &[u8], to: &mut [u8])
+    requires { ⌜ (length (now from) ≤ length (now to)) × (length (now from) ≤ 16) ⌝ }
+    ensures { λ _. ⌜ now (to .exit) ≡ patched (now (to .entry)) 0 (now (from .entry)) ⌝ }
+{
+    let n = from.len();
+    if 8 <= n {
+        both_ends(8, from, to);
+        return;
+    }
+    if 4 <= n {
+        both_ends(4, from, to);
+        return;
+    }
+    if 2 <= n {
+        both_ends(2, from, to);
+        return;
+    }
+    if n == 1 {
+        to[0] = from[0];
+    }
 }
 
 // A full layout into the front of a lent tail, in two parts that each are a few moves.

@@ -14,10 +14,10 @@ ghost use Rattle.block.specs.Sizes.{fixedEnd, fixedSize, layoutSize, recordSize
 use block_judge::Judged;
 
 // 4; 5; 6 if the message ends before its count byte is whole; 7; 6 if the bitfields do not fit.
-fn head_refusal(m: &[u8]) -> u8
+fn head_refusal(m: &[u8], message: u8, at: usize) -> u8
+    requires { ⌜ (message ≡ typeOf (now m)) × (at ≡ countAt message) ⌝ }
     ensures { λ r. ⌜ r ≡ headRefusal (now (m .entry)) ⌝ }
 {
-    let message = wire::header::type_of(m);
     if !orders::of_member(message) {
         if !orders::of_venue(message) {
             return refusals::UNKNOWN_TYPE;
@@ -26,7 +26,6 @@ fn head_refusal(m: &[u8]) -> u8
     if !orders::unit_good(message, wire::header::unit_of(m)) {
         return refusals::BAD_UNIT;
     }
-    let at = orders::count_at(message);
     if m.len() <= at {
         return refusals::WRONG_TOTAL;
     }
@@ -94,12 +93,12 @@ fn body_refusal(m: &[u8], message: u8, at: usize, count: u8) -> u8
 pub fn order_refusal(m: &[u8]) -> u8
     ensures { λ r. ⌜ r ≡ readRefusal (now (m .entry)) ⌝ }
 {
-    let refusal = head_refusal(m);
+    let message = wire::header::type_of(m);
+    let at = orders::count_at(message);
+    let refusal = head_refusal(m, message, at);
     if refusal != 0 {
         return refusal;
     }
-    let message = wire::header::type_of(m);
-    let at = orders::count_at(message);
     let count = numbers::byte_at(m, at);
     body_refusal(m, message, at, count)
 }
@@ -110,7 +109,7 @@ fn put_bits(bits: &[u8], tail: &mut [u8])
     ensures { λ _. ⌜ now (tail .exit) ≡ patched (now (tail .entry)) 0 (now (bits .entry) ++ zeros (15 - length (now (bits .entry)))) ⌝ }
 {
     block::clear(15, tail);
-    block::copy(bits, tail);
+    block::copy_few(bits, tail);
 }
 
 // The count, and these after it.

@@ -10,9 +10,6 @@ use borrow.Author.Needs.{needs}
 use Rattle.order_reader.proofs.head_refusal.Statement.{statement}
 use Rattle.order_reader.proofs.head_refusal.Tie as tie
 
-type-of-requires : tie.Need-type-of-requires
-type-of-requires c κs = search needs
-
 of-member-requires : tie.Need-of-member-requires
 of-member-requires c κs = search needs
 
@@ -23,10 +20,10 @@ returns : tie.Need-returns
 returns c =
     let venue = c .before in
     let member = venue .before .before in
-    let type = member .before .type-of in
-    let m = now (member .before .before .before .args .m) in
-    unknown-type m (type .result) _ (type .ensures) refl
-    (of-neither (type .result) (member .of-member .result) (venue .of-venue .result) (member .of-member .ensures) (venue .of-venue .ensures) (venue .before .if1 .taken) (c .if2 .taken))
+    let start = member .before .before in
+    let a = start .args in
+    unknown-type (now (a .m)) (a .message) _ (start .pre .0) refl
+    (of-neither (a .message) (member .of-member .result) (venue .of-venue .result) (member .of-member .ensures) (venue .of-venue .ensures) (venue .before .if1 .taken) (c .if2 .taken))
 
 unit-of-requires : tie.Need-unit-of-requires
 unit-of-requires c κs = search needs
@@ -40,57 +37,53 @@ returns-2 c =
     let unit = good .before in
     let head = unit .before in
     let member = head .before in
-    let type = member .before .type-of in
-    let known : (ofMember (type .result) || ofVenue (type .result)) ≡ true =
-    ⊎-elim (λ w. of-the-venue (type .result) (w .1 .result) (w .1 .ensures) (w .2 .left)) (λ w. of-the-member (type .result) (member .of-member .result) (member .of-member .ensures) (w .left)) (head .if1 .came) in
-    bad-unit (now (member .before .before .before .args .m)) (type .result) (unit .unit-of .result) (type .ensures) (unit .unit-of .ensures) known (good .unit-good .result) (good .unit-good .ensures)
+    let start = member .before .before in
+    let a = start .args in
+    let known : (ofMember (a .message) || ofVenue (a .message)) ≡ true =
+    ⊎-elim (λ w. of-the-venue (a .message) (w .1 .result) (w .1 .ensures) (w .2 .left)) (λ w. of-the-member (a .message) (member .of-member .result) (member .of-member .ensures) (w .left)) (head .if1 .came) in
+    bad-unit (now (a .m)) (a .message) (unit .unit-of .result) (start .pre .0) (unit .unit-of .ensures) known (good .unit-good .result) (good .unit-good .ensures)
     (c .if3 .taken)
-
-count-at-requires : tie.Need-count-at-requires
-count-at-requires c κs = search needs
 
 returns-3 : tie.Need-returns-3
 returns-3 c =
-    let at = c .before in
-    let good = at .before .before in
+    let good = c .before .before in
     let unit = good .before in
     let head = unit .before in
     let member = head .before in
-    let type = member .before .type-of in
-    let known : (ofMember (type .result) || ofVenue (type .result)) ≡ true =
-    ⊎-elim (λ w. of-the-venue (type .result) (w .1 .result) (w .1 .ensures) (w .2 .left)) (λ w. of-the-member (type .result) (member .of-member .result) (member .of-member .ensures) (w .left)) (head .if1 .came) in
-    no-count (now (member .before .before .before .args .m)) (type .result) (unit .unit-of .result) (type .ensures) (unit .unit-of .ensures) known (good .unit-good .result) (good .unit-good .ensures)
-    (at .before .if3 .left) (at .count-at .result) (at .count-at .ensures) (c .if4 .taken)
+    let start = member .before .before in
+    let a = start .args in
+    let known : (ofMember (a .message) || ofVenue (a .message)) ≡ true =
+    ⊎-elim (λ w. of-the-venue (a .message) (w .1 .result) (w .1 .ensures) (w .2 .left)) (λ w. of-the-member (a .message) (member .of-member .result) (member .of-member .ensures) (w .left)) (head .if1 .came) in
+    no-count (now (a .m)) (a .message) (unit .unit-of .result) (start .pre .0) (unit .unit-of .ensures) known (good .unit-good .result) (good .unit-good .ensures)
+    (c .before .if3 .left) (a .at) (start .pre .1) (c .if4 .taken)
 
 count-refusal-requires : tie.Need-count-refusal-requires
 count-refusal-requires c κs = search needs
 
 returns-4 : tie.Need-returns-4
 returns-4 c =
-    let at = c .before .before in
-    let good = at .before .before in
+    let good = c .before .before .before in
     let unit = good .before in
     let head = unit .before in
     let member = head .before in
-    let type = member .before .type-of in
-    let known : (ofMember (type .result) || ofVenue (type .result)) ≡ true =
-    ⊎-elim (λ w. of-the-venue (type .result) (w .1 .result) (w .1 .ensures) (w .2 .left)) (λ w. of-the-member (type .result) (member .of-member .result) (member .of-member .ensures) (w .left)) (head .if1 .came) in
+    let start = member .before .before in
+    let a = start .args in
+    let known : (ofMember (a .message) || ofVenue (a .message)) ≡ true =
+    ⊎-elim (λ w. of-the-venue (a .message) (w .1 .result) (w .1 .ensures) (w .2 .left)) (λ w. of-the-member (a .message) (member .of-member .result) (member .of-member .ensures) (w .left)) (head .if1 .came) in
     c .count-refusal .ensures
-    ∙ by-count (now (member .before .before .before .args .m)) (type .result) (unit .unit-of .result) (type .ensures) (unit .unit-of .ensures) known (good .unit-good .result) (good .unit-good .ensures)
-    (at .before .if3 .left) (at .count-at .result) (at .count-at .ensures) (c .before .if4 .left)
+    ∙ by-count (now (a .m)) (a .message) (unit .unit-of .result) (start .pre .0) (unit .unit-of .ensures) known (good .unit-good .result) (good .unit-good .ensures)
+    (c .before .before .if3 .left) (a .at) (start .pre .1) (c .before .if4 .left)
 
 pub head-refusal-spec : {M : Type 1} → statement M
 head-refusal-spec =
     tie.close
     (tie.spec
-    type-of-requires
     of-member-requires
     of-venue-requires
     returns
     unit-of-requires
     unit-good-requires
     returns-2
-    count-at-requires
     returns-3
     count-refusal-requires
     returns-4)
