@@ -1,6 +1,6 @@
 // Giving a layout's selected fields to a message, each into the lent tail of its buffer.
 ghost use mathlib.Core.Path.{_≡_};
-ghost use Prim.Native.Nat.{_+_, _*_, _%_, _≤_};
+ghost use Prim.Native.Nat.{_+_, _*_, _-_, _%_, _≤_};
 ghost use lib.Dec.{eqb};
 ghost use lib.ListN.{length};
 ghost use Rattle.dictionary.specs.Dictionary.{entryOf};
@@ -86,57 +86,77 @@ fn give_any(message: u8, byte: u8, value: u8, layout: &[u8], out: &mut [u8], at:
     give_bits(message, byte, 8 * byte, value, layout, out, at)
 }
 
-// The same, with an arm for each byte that a message lists: there the compiler knows message and byte, unrolls the loop and folds the dictionary
-// away. Cancel Order, with its one byte, stands last: of three messages the compiler makes a loop over the bytes for each.
-fn give_byte(message: u8, byte: u8, value: u8, layout: &[u8], out: &mut [u8], at: usize) -> usize
-    requires { ⌜ (length (now layout) ≡ layoutSize) × (byte ≤ 15) × (at ≤ length (now out)) ⌝ }
-    ensures { λ r. ⌜ (giving r (now (out .exit)) ≡ inByte (giveEntry (now (layout .entry))) message byte value (giving at (now (out .entry)))) × (r ≤ length (now (out .entry))) ⌝ }
+// One bitfield byte, the first being 1: its fields if it is there and not zero.
+fn give_next(
+    message: u8,
+    byte: u8,
+    end: u8,
+    bits: &[u8],
+    count: u8,
+    layout: &[u8],
+    out: &mut [u8],
+    at: usize,
+) -> usize
+    requires { ⌜ (length (now layout) ≡ layoutSize) × (count ≤ length (now bits)) × (count ≤ 15) × (1 ≤ byte) × (byte ≤ 15) × (end ≡ 8 * byte) × (at ≤ length (now out)) ⌝ }
+    ensures { λ r. ⌜ (giveWalk message count (now (bits .entry)) (now (layout .entry)) (allPlaces - 8 * byte) (8 * byte) (giving r (now (out .exit))) ≡ giveWalk message count (now (bits .entry)) (now (layout .entry)) (allPlaces - 8 * (byte - 1)) (8 * (byte - 1)) (giving at (now (out .entry)))) × (r ≤ length (now (out .entry))) ⌝ }
 {
-    match message {
-        0x38 => match byte {
-            1 => give_bits(message, byte, 8, value, layout, out, at),
-            2 => give_bits(message, byte, 16, value, layout, out, at),
-            3 => give_bits(message, byte, 24, value, layout, out, at),
-            6 => give_bits(message, byte, 48, value, layout, out, at),
-            10 => give_bits(message, byte, 80, value, layout, out, at),
-            _ => give_any(message, byte, value, layout, out, at),
-        },
-        0x25 => match byte {
-            1 => give_bits(message, byte, 8, value, layout, out, at),
-            2 => give_bits(message, byte, 16, value, layout, out, at),
-            3 => give_bits(message, byte, 24, value, layout, out, at),
-            5 => give_bits(message, byte, 40, value, layout, out, at),
-            _ => give_any(message, byte, value, layout, out, at),
-        },
-        0x2C => match byte {
-            1 => give_bits(message, byte, 8, value, layout, out, at),
-            2 => give_bits(message, byte, 16, value, layout, out, at),
-            3 => give_bits(message, byte, 24, value, layout, out, at),
-            _ => give_any(message, byte, value, layout, out, at),
-        },
-        _ => match byte {
-            1 => match message {
-                0x39 => give_bits(message, byte, 8, value, layout, out, at),
-                _ => give_any(message, byte, value, layout, out, at),
-            },
-            _ => give_any(message, byte, value, layout, out, at),
-        },
-    }
-}
-
-// A byte that is zero selects nothing.
-fn give_next(message: u8, byte: u8, value: u8, layout: &[u8], out: &mut [u8], at: usize) -> usize
-    requires { ⌜ (length (now layout) ≡ layoutSize) × (byte ≤ 15) × (at ≤ length (now out)) ⌝ }
-    ensures { λ r. ⌜ (giving r (now (out .exit)) ≡ inByte (giveEntry (now (layout .entry))) message byte value (giving at (now (out .entry)))) × (r ≤ length (now (out .entry))) ⌝ }
-{
+    let value = block::byte_of(bits, count, byte);
     if value == 0 {
         return at;
     }
-    give_byte(message, byte, value, layout, out, at)
+    give_bits(message, byte, end, value, layout, out, at)
 }
 
-// All fields that the first `count` bitfield bytes select, from a place of the message on.
-pub fn give_all(
+// New Order: the bytes that it lists, one after another. There the compiler knows message and byte and folds the dictionary away; a byte that is
+// not listed gives nothing.
+fn new_order_bytes(bits: &[u8], count: u8, layout: &[u8], out: &mut [u8], start: usize) -> usize
+    requires { ⌜ (length (now layout) ≡ layoutSize) × (count ≤ length (now bits)) × (count ≤ 15) × (start ≤ length (now out)) ⌝ }
+    ensures { λ r. ⌜ giving r (now (out .exit)) ≡ giveWalk 0x38 count (now (bits .entry)) (now (layout .entry)) allPlaces 0 (giving start (now (out .entry))) ⌝ }
+{
+    let a = give_next(0x38, 1, 8, bits, count, layout, out, start);
+    let b = give_next(0x38, 2, 16, bits, count, layout, out, a);
+    let c = give_next(0x38, 3, 24, bits, count, layout, out, b);
+    let d = give_next(0x38, 6, 48, bits, count, layout, out, c);
+    give_next(0x38, 10, 80, bits, count, layout, out, d)
+}
+
+// The same of Cancel Order.
+fn cancel_order_bytes(bits: &[u8], count: u8, layout: &[u8], out: &mut [u8], start: usize) -> usize
+    requires { ⌜ (length (now layout) ≡ layoutSize) × (count ≤ length (now bits)) × (count ≤ 15) × (start ≤ length (now out)) ⌝ }
+    ensures { λ r. ⌜ giving r (now (out .exit)) ≡ giveWalk 0x39 count (now (bits .entry)) (now (layout .entry)) allPlaces 0 (giving start (now (out .entry))) ⌝ }
+{
+    give_next(0x39, 1, 8, bits, count, layout, out, start)
+}
+
+// The same of Order Acknowledgment.
+fn acknowledgment_bytes(
+    bits: &[u8],
+    count: u8,
+    layout: &[u8],
+    out: &mut [u8],
+    start: usize,
+) -> usize
+    requires { ⌜ (length (now layout) ≡ layoutSize) × (count ≤ length (now bits)) × (count ≤ 15) × (start ≤ length (now out)) ⌝ }
+    ensures { λ r. ⌜ giving r (now (out .exit)) ≡ giveWalk 0x25 count (now (bits .entry)) (now (layout .entry)) allPlaces 0 (giving start (now (out .entry))) ⌝ }
+{
+    let a = give_next(0x25, 1, 8, bits, count, layout, out, start);
+    let b = give_next(0x25, 2, 16, bits, count, layout, out, a);
+    let c = give_next(0x25, 3, 24, bits, count, layout, out, b);
+    give_next(0x25, 5, 40, bits, count, layout, out, c)
+}
+
+// The same of Order Execution.
+fn execution_bytes(bits: &[u8], count: u8, layout: &[u8], out: &mut [u8], start: usize) -> usize
+    requires { ⌜ (length (now layout) ≡ layoutSize) × (count ≤ length (now bits)) × (count ≤ 15) × (start ≤ length (now out)) ⌝ }
+    ensures { λ r. ⌜ giving r (now (out .exit)) ≡ giveWalk 0x2C count (now (bits .entry)) (now (layout .entry)) allPlaces 0 (giving start (now (out .entry))) ⌝ }
+{
+    let a = give_next(0x2C, 1, 8, bits, count, layout, out, start);
+    let b = give_next(0x2C, 2, 16, bits, count, layout, out, a);
+    give_next(0x2C, 3, 24, bits, count, layout, out, b)
+}
+
+// Any message: all bytes that are there, in a loop.
+fn give_loop(
     message: u8,
     bits: &[u8],
     count: u8,
@@ -152,7 +172,31 @@ pub fn give_all(
     while j < count {
         let value = bits[j as usize];
         j += 1;
-        at = give_next(message, j, value, layout, out, at);
+        at = give_any(message, j, value, layout, out, at);
     }
     at
+}
+
+// All fields that the first `count` bitfield bytes select, from a place of the message on.
+pub fn give_all(
+    message: u8,
+    bits: &[u8],
+    count: u8,
+    layout: &[u8],
+    out: &mut [u8],
+    start: usize,
+) -> usize
+    requires { ⌜ (length (now layout) ≡ layoutSize) × (count ≤ length (now bits)) × (count ≤ 15) × (start ≤ length (now out)) ⌝ }
+    ensures { λ r. ⌜ giving r (now (out .exit)) ≡ giveWalk message count (now (bits .entry)) (now (layout .entry)) allPlaces 0 (giving start (now (out .entry))) ⌝ }
+{
+    if count == 0 {
+        return start;
+    }
+    match message {
+        0x38 => new_order_bytes(bits, count, layout, out, start),
+        0x39 => cancel_order_bytes(bits, count, layout, out, start),
+        0x25 => acknowledgment_bytes(bits, count, layout, out, start),
+        0x2C => execution_bytes(bits, count, layout, out, start),
+        _ => give_loop(message, bits, count, layout, out, start),
+    }
 }

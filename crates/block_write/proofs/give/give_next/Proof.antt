@@ -1,5 +1,5 @@
--- `block_write::give::give_next` meets its contract: a byte without a set bit leaves the state. Assumes nothing.
-use Rattle.block.specs.Loops.{byte-clear}
+-- `block_write::give::give_next` meets its contract: a byte that is not there or has no set bit leaves the state. Assumes nothing.
+use Rattle.block.specs.Loops.{byte-clear, byte-given}
 use Rattle.block.specs.Walk.{giveEntry}
 use Rattle.block_write.specs.State.{giving}
 use denote.Ref.{now}
@@ -7,20 +7,37 @@ use borrow.Author.Needs.{needs}
 use Rattle.block_write.proofs.give.give_next.Statement.{statement}
 use Rattle.block_write.proofs.give.give_next.Tie as tie
 
+byte-of-requires : tie.Need-byte-of-requires
+byte-of-requires c κs = search needs
+
 returns : tie.Need-returns
 returns c =
-    let start = c .before .before .before in
+    let told = c .before in
+    let start = told .before .before .before .before in
     let a = start .args in
-    (byte-clear (giveEntry (now (a .layout))) (a .message) (a .byte) (a .value) (giving (a .at) (now (a .out))) (c .if1 .taken), start .pre .2)
+    let st = giving (a .at) (now (a .out)) in (
+      byte-given (giveEntry (now (a .layout))) (a .message) (a .count) (now (a .bits)) (a .byte) _ st st (start .pre .3) (start .pre .2) (told .byte-of .ensures)
+          (byte-clear (giveEntry (now (a .layout))) (a .message) (a .byte) _ st (c .if1 .taken)),
+      start .pre .6,
+    )
 
-give-byte-requires : tie.Need-give-byte-requires
-give-byte-requires c κs = search needs
+give-bits-requires : tie.Need-give-bits-requires
+give-bits-requires c κs = search needs
 
 same-length : tie.Need-same-length
 same-length c = search needs
 
 returns-2 : tie.Need-returns-2
-returns-2 c = search needs
+returns-2 c =
+    let given = c .before .before in
+    let told = given .before .before .before in
+    let start = told .before .before .before .before in
+    let a = start .args in (
+      byte-given (giveEntry (now (a .layout))) (a .message) (a .count) (now (a .bits)) (a .byte) _ (giving (a .at) (now (a .out))) _ (start .pre .3) (start .pre .2) (told .byte-of .ensures)
+          (given .give-bits .ensures .0),
+      given .give-bits .ensures .1,
+    )
 
 pub give-next-spec : {M : Type 1} → statement M
-give-next-spec = tie.close (tie.spec returns give-byte-requires same-length returns-2)
+give-next-spec =
+    tie.close (tie.spec byte-of-requires returns give-bits-requires same-length returns-2)
