@@ -1,5 +1,6 @@
 // The writer of a message with bitfields: from a record to the message's bytes in a lent buffer, or the number of the refusal.
 ghost use mathlib.Core.Path.{_≡_};
+ghost use mathlib.Core.Bool.{_&&_};
 ghost use mathlib.Core.List.{_∷_, _++_};
 ghost use Prim.Native.Nat.{_+_, _-_, _≤_, _<_};
 ghost use lib.ListN.{length, take, drop};
@@ -31,15 +32,43 @@ fn top_refusal(message: u8, unit: u8, count: u8) -> u8
     0
 }
 
-// Whether the places of a fixed part that its message does not use are zero; their number is a literal, so that the test is a few steps.
+// Whether two windows are blank.
+fn two_blank(a: &[u8], b: &[u8]) -> bool
+    ensures { λ r. ⌜ r ≡ (allNul (now (a .entry)) && allNul (now (b .entry))) ⌝ }
+{
+    if !kinds::is_blank(a) {
+        return false;
+    }
+    kinds::is_blank(b)
+}
+
+// Whether at most sixteen bytes are blank, in a few steps: the first and the last eight, or the first and the last four, which may overlap; fewer
+// than four are read as one number.
+fn blank_few(s: &[u8]) -> bool
+    requires { ⌜ length (now s) ≤ 16 ⌝ }
+    ensures { λ r. ⌜ r ≡ allNul (now (s .entry)) ⌝ }
+{
+    let n = s.len();
+    if 8 <= n {
+        let from = n - 8;
+        return two_blank(&s[0..8], &s[from..n]);
+    }
+    if 4 <= n {
+        let from = n - 4;
+        return two_blank(&s[0..4], &s[from..n]);
+    }
+    numbers::read_u32(s, 0) == 0
+}
+
+// Whether the places of a fixed part that its message does not use are zero, in two windows that overlap, each of 16 or 32 bytes: a few steps.
 fn fixed_blank(message: u8, fixed: &[u8]) -> bool
     requires { ⌜ length (now fixed) ≡ fixedSize ⌝ }
     ensures { λ r. ⌜ r ≡ allNul (drop (countAt message - 10) (now (fixed .entry))) ⌝ }
 {
     match message {
-        0x38 => kinds::is_blank(&fixed[25..block::FIXED]),
-        0x39 => kinds::is_blank(&fixed[20..block::FIXED]),
-        0x25 => kinds::is_blank(&fixed[37..block::FIXED]),
+        0x38 => two_blank(&fixed[25..57], &fixed[43..block::FIXED]),
+        0x39 => two_blank(&fixed[20..52], &fixed[43..block::FIXED]),
+        0x25 => two_blank(&fixed[37..53], &fixed[43..block::FIXED]),
         _ => true,
     }
 }
@@ -53,7 +82,7 @@ fn unused_zero(message: u8, count: u8, fixed: &[u8], bits: &[u8], rest: &[u8]) -
         return false;
     }
     let k = count as usize;
-    if !kinds::is_blank(&bits[k..]) {
+    if !blank_few(&bits[k..]) {
         return false;
     }
     kinds::is_blank(rest)
@@ -170,7 +199,7 @@ fn write_parts(
         return top;
     }
     let mut rest = [0u8; block::LAYOUT];
-    block::copy(&slots[0..block::LAYOUT], &mut rest);
+    block::copy_layout(slots, &mut rest);
     let s = block_write::look_all(message, bits, count, &mut rest);
     let seen = seen_refusal(message, count, fixed, bits, &rest, s);
     if seen != 0 {

@@ -18,17 +18,17 @@ returns : tie.Need-returns
 unfolding unusedZero
 returns c = rw (sym (c .before .fixed-blank .ensures) ∙ not-true _ (c .if1 .taken))
 
-sub-is-blank : tie.Need-sub-is-blank
-sub-is-blank c = search needs
+sub-blank-few : tie.Need-sub-blank-few
+sub-blank-few c = search needs
 
-part-is-blank-start : tie.Need-part-is-blank-start
-part-is-blank-start c = search needs
+part-blank-few-start : tie.Need-part-blank-few-start
+part-blank-few-start c = search needs
 
-part-is-blank-end : tie.Need-part-is-blank-end
-part-is-blank-end c = search needs
+part-blank-few-end : tie.Need-part-blank-few-end
+part-blank-few-end c = search needs
 
-is-blank-requires : tie.Need-is-blank-requires
-is-blank-requires c κs = search needs
+blank-few-requires : tie.Need-blank-few-requires
+blank-few-requires c κs = search needs
 
 returns-2 : tie.Need-returns-2
 unfolding unusedZero
@@ -37,11 +37,11 @@ returns-2 c =
     let else = blank .before .before in
     let start = else .before .before .before .before .before in
     let a = start .args in
-    let e : _ ≡ allNul (drop (a .count) (now (a .bits))) = blank .is-blank .ensures ∙ ap allNul (tail-is (now (a .bits)) (a .count) (omega (arith, start .pre .1, start .pre .2))) in
+    let e : _ ≡ allNul (drop (a .count) (now (a .bits))) = blank .blank-few .ensures ∙ ap allNul (tail-is (now (a .bits)) (a .count) (omega (arith, start .pre .1, start .pre .2))) in
     rw (sym (else .before .fixed-blank .ensures) ∙ not-false _ (else .if1 .left), sym e ∙ not-true _ (c .if2 .taken))
 
-is-blank-requires-2 : tie.Need-is-blank-requires-2
-is-blank-requires-2 c κs = search needs
+is-blank-requires : tie.Need-is-blank-requires
+is-blank-requires c κs = search needs
 
 returns-3 : tie.Need-returns-3
 unfolding unusedZero
@@ -50,8 +50,8 @@ returns-3 c =
     let else = blank .before .before in
     let start = else .before .before .before .before .before in
     let a = start .args in
-    let e : _ ≡ allNul (drop (a .count) (now (a .bits))) = blank .is-blank .ensures ∙ ap allNul (tail-is (now (a .bits)) (a .count) (omega (arith, start .pre .1, start .pre .2))) in
-    rw (sym (else .before .fixed-blank .ensures) ∙ not-false _ (else .if1 .left), sym e ∙ not-false _ (c .before .if2 .left)) (c .is-blank2 .ensures)
+    let e : _ ≡ allNul (drop (a .count) (now (a .bits))) = blank .blank-few .ensures ∙ ap allNul (tail-is (now (a .bits)) (a .count) (omega (arith, start .pre .1, start .pre .2))) in
+    rw (sym (else .before .fixed-blank .ensures) ∙ not-false _ (else .if1 .left), sym e ∙ not-false _ (c .before .if2 .left)) (c .is-blank .ensures)
 
 pub unused-zero-spec : {M : Type 1} → statement M
 unused-zero-spec =
@@ -59,10 +59,10 @@ unused-zero-spec =
     (tie.spec
     fixed-blank-requires
     returns
-    sub-is-blank
-    part-is-blank-start
-    part-is-blank-end
-    is-blank-requires
+    sub-blank-few
+    part-blank-few-start
+    part-blank-few-end
+    blank-few-requires
     returns-2
-    is-blank-requires-2
+    is-blank-requires
     returns-3)

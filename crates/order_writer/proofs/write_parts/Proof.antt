@@ -10,8 +10,7 @@ use Rattle.orders.specs.OrderLaws.{count-bounds}
 use Rattle.orders.specs.declared.Record.{Record}
 use denote.Ref.{now}
 use lib.Dec.{ltb}
-use lib.ListN.{length, take}
-use lib.Seq.{take-all}
+use lib.ListN.{length}
 use borrow.Author.Tests.{lt-ltb, le-ltb}
 use native.Mathlib.Omega.{arith}
 use Prim.Native.Nat.{ℕ, _+_, _≤_}
@@ -24,10 +23,8 @@ use Rattle.order_writer.proofs.write_parts.Tie as tie
 use Rattle.block.specs.Sizes.{allPlaces, fixedEnd, layoutSize}
 
 -- a layout copied over zeros
-whole-layout : (v z : List ℕ) → length z ≡ layoutSize → length v ≡ layoutSize → patched z 0 (take layoutSize v) ≡ v
-whole-layout v z e l =
-    let t : take layoutSize v ≡ v = take-all layoutSize v (omega (arith, l)) in
-    ap (patched z 0) t ∙ patched-whole z v (e ∙ sym l)
+whole-layout : (v z : List ℕ) → length z ≡ layoutSize → length v ≡ layoutSize → patched z 0 v ≡ v
+whole-layout v z e l = patched-whole z v (e ∙ sym l)
 
 -- the record of the parts
 abbrev parts : tie.Start → Record
@@ -43,7 +40,7 @@ few c =
     count-fits (a .message) (a .unit) (a .count) (top-zero c)
 
 abbrev past-top : tie.After-look-all → tie.Else1
-past-top c = c .before .before .before .before .before .before
+past-top c = c .before .before .before .before .before
 
 abbrev start-of : tie.After-look-all → tie.Start
 start-of c = past-top c .before .before .before .before .before .before
@@ -54,7 +51,7 @@ looked-at c =
     let start = start-of c in
     let a = start .args in
     let copied = c .before .before .before in
-    c .look-all .ensures ∙ ap (λ (l : List ℕ). lookWalk (a .message) (a .count) (now (a .bits)) allPlaces 0 (unseen l)) (copied .copy .ensures ∙ whole-layout (now (a .slots)) _ refl (start .pre .1))
+    c .look-all .ensures ∙ ap (λ (l : List ℕ). lookWalk (a .message) (a .count) (now (a .bits)) allPlaces 0 (unseen l)) (copied .copy-layout .ensures ∙ whole-layout (now (a .slots)) _ refl (start .pre .1))
 
 -- what was looked at, before what was seen of it was judged
 abbrev look-of : tie.After-seen-refusal → tie.After-look-all
@@ -93,20 +90,11 @@ returns c =
     let e = top .ensures ∙ stops in
     (e, buffer-kept (parts start) (now (a .out)) e (c .if1 .taken))
 
-sub-copy : tie.Need-sub-copy
-sub-copy c = search needs
+slice-aggregate-copy-layout : tie.Need-slice-aggregate-copy-layout
+slice-aggregate-copy-layout c = search needs
 
-part-copy-start : tie.Need-part-copy-start
-part-copy-start c = search needs
-
-part-copy-end : tie.Need-part-copy-end
-part-copy-end c = search needs
-
-slice-aggregate-copy : tie.Need-slice-aggregate-copy
-slice-aggregate-copy c = search needs
-
-copy-requires : tie.Need-copy-requires
-copy-requires c κs = search needs
+copy-layout-requires : tie.Need-copy-layout-requires
+copy-layout-requires c κs = search needs
 
 slice-aggregate-look-all : tie.Need-slice-aggregate-look-all
 slice-aggregate-look-all c = search needs
@@ -114,9 +102,9 @@ slice-aggregate-look-all c = search needs
 look-all-requires : tie.Need-look-all-requires
 look-all-requires c κs =
     let copied = c .before .before in
-    let past = copied .before .before .before in
+    let past = copied .before .before in
     let start = past .before .before .before .before .before .before in
-    (ap length (copied .copy .ensures ∙ whole-layout (now (start .args .slots)) _ refl (start .pre .1)) ∙ start .pre .1, omega (arith, few past, start .pre .2), few past)
+    (ap length (copied .copy-layout .ensures ∙ whole-layout (now (start .args .slots)) _ refl (start .pre .1)) ∙ start .pre .1, omega (arith, few past, start .pre .2), few past)
 
 slice-aggregate-seen-refusal : tie.Need-slice-aggregate-seen-refusal
 slice-aggregate-seen-refusal c = search needs
@@ -188,11 +176,8 @@ write-parts-spec =
     (tie.spec
     top-refusal-requires
     returns
-    sub-copy
-    part-copy-start
-    part-copy-end
-    slice-aggregate-copy
-    copy-requires
+    slice-aggregate-copy-layout
+    copy-layout-requires
     slice-aggregate-look-all
     look-all-requires
     slice-aggregate-seen-refusal
