@@ -1,2 +1,3 @@
 -- What the functions of storing rest on.
 pub mod One
+pub mod Unlisted

@@ -1,6 +1,6 @@
 // Reading the optional block: a walk over the set bits that stores each field of a message in a record's full layout.
 ghost use mathlib.Core.Path.{_≡_};
-ghost use Prim.Native.Nat.{_+_, _*_, _%_, _≤_};
+ghost use Prim.Native.Nat.{_+_, _*_, _-_, _%_, _≤_};
 ghost use lib.Dec.{eqb, leb};
 ghost use lib.ListN.{length, take};
 ghost use Rattle.numbers.specs.Numbers.{patched};
@@ -86,57 +86,71 @@ fn store_any(message: u8, byte: u8, value: u8, msg: &[u8], start: usize, layout:
     store_bits(message, byte, 8 * byte, value, msg, start, layout)
 }
 
-// The same, with an arm for each byte that a message lists: there the compiler knows message and byte, unrolls the loop and folds the dictionary
-// away. Cancel Order, with its one byte, stands last: of three messages the compiler makes a loop over the bytes for each.
-fn store_byte(message: u8, byte: u8, value: u8, msg: &[u8], at: usize, layout: &mut [u8]) -> usize
-    requires { ⌜ (length (now layout) ≡ layoutSize) × (byte ≤ 15) × (at ≤ length (now msg)) ⌝ }
-    ensures { λ r. ⌜ (storing r (now (layout .exit)) ≡ inByte (storeEntry (now (msg .entry))) message byte value (storing at (now (layout .entry)))) × (r ≤ length (now (msg .entry))) ⌝ }
+// One bitfield byte: its fields if it is there and not zero.
+fn store_next(
+    message: u8,
+    byte: u8,
+    end: u8,
+    bits: &[u8],
+    count: u8,
+    msg: &[u8],
+    at: usize,
+    layout: &mut [u8],
+) -> usize
+    requires { ⌜ (length (now layout) ≡ layoutSize) × (length (now bits) ≡ count) × (count ≤ 15) × (1 ≤ byte) × (byte ≤ 15) × (end ≡ 8 * byte) × (at ≤ length (now msg)) ⌝ }
+    ensures { λ r. ⌜ (storeWalk message count (now (bits .entry)) (now (msg .entry)) (allPlaces - 8 * byte) (8 * byte) (storing r (now (layout .exit))) ≡ storeWalk message count (now (bits .entry)) (now (msg .entry)) (allPlaces - 8 * (byte - 1)) (8 * (byte - 1)) (storing at (now (layout .entry)))) × (r ≤ length (now (msg .entry))) ⌝ }
 {
-    match message {
-        0x38 => match byte {
-            1 => store_bits(message, byte, 8, value, msg, at, layout),
-            2 => store_bits(message, byte, 16, value, msg, at, layout),
-            3 => store_bits(message, byte, 24, value, msg, at, layout),
-            6 => store_bits(message, byte, 48, value, msg, at, layout),
-            10 => store_bits(message, byte, 80, value, msg, at, layout),
-            _ => store_any(message, byte, value, msg, at, layout),
-        },
-        0x25 => match byte {
-            1 => store_bits(message, byte, 8, value, msg, at, layout),
-            2 => store_bits(message, byte, 16, value, msg, at, layout),
-            3 => store_bits(message, byte, 24, value, msg, at, layout),
-            5 => store_bits(message, byte, 40, value, msg, at, layout),
-            _ => store_any(message, byte, value, msg, at, layout),
-        },
-        0x2C => match byte {
-            1 => store_bits(message, byte, 8, value, msg, at, layout),
-            2 => store_bits(message, byte, 16, value, msg, at, layout),
-            3 => store_bits(message, byte, 24, value, msg, at, layout),
-            _ => store_any(message, byte, value, msg, at, layout),
-        },
-        _ => match byte {
-            1 => match message {
-                0x39 => store_bits(message, byte, 8, value, msg, at, layout),
-                _ => store_any(message, byte, value, msg, at, layout),
-            },
-            _ => store_any(message, byte, value, msg, at, layout),
-        },
-    }
-}
-
-// A byte that is zero selects nothing.
-fn store_next(message: u8, byte: u8, value: u8, msg: &[u8], at: usize, layout: &mut [u8]) -> usize
-    requires { ⌜ (length (now layout) ≡ layoutSize) × (byte ≤ 15) × (at ≤ length (now msg)) ⌝ }
-    ensures { λ r. ⌜ (storing r (now (layout .exit)) ≡ inByte (storeEntry (now (msg .entry))) message byte value (storing at (now (layout .entry)))) × (r ≤ length (now (msg .entry))) ⌝ }
-{
+    let value = block::byte_of(bits, count, byte);
     if value == 0 {
         return at;
     }
-    store_byte(message, byte, value, msg, at, layout)
+    store_bits(message, byte, end, value, msg, at, layout)
 }
 
-// All fields that the bitfield bytes select, into a layout: how far the message is stored.
-pub fn store_all(message: u8, bits: &[u8], count: u8, msg: &[u8], layout: &mut [u8]) -> usize
+// The bitfield bytes that a New Order lists, one after the other: the compiler knows message and byte, and folds loop and dictionary away. The other
+// bytes store nothing.
+fn new_order_bytes(bits: &[u8], count: u8, msg: &[u8], layout: &mut [u8]) -> usize
+    requires { ⌜ (length (now layout) ≡ layoutSize) × (length (now bits) ≡ count) × (count ≤ 15) ⌝ }
+    ensures { λ r. ⌜ storing r (now (layout .exit)) ≡ storeWalk 0x38 count (now (bits .entry)) (now (msg .entry)) allPlaces 0 (storing 0 (now (layout .entry))) ⌝ }
+{
+    let a = store_next(0x38, 1, 8, bits, count, msg, 0, layout);
+    let b = store_next(0x38, 2, 16, bits, count, msg, a, layout);
+    let c = store_next(0x38, 3, 24, bits, count, msg, b, layout);
+    let d = store_next(0x38, 6, 48, bits, count, msg, c, layout);
+    store_next(0x38, 10, 80, bits, count, msg, d, layout)
+}
+
+// The same of a Cancel Order.
+fn cancel_order_bytes(bits: &[u8], count: u8, msg: &[u8], layout: &mut [u8]) -> usize
+    requires { ⌜ (length (now layout) ≡ layoutSize) × (length (now bits) ≡ count) × (count ≤ 15) ⌝ }
+    ensures { λ r. ⌜ storing r (now (layout .exit)) ≡ storeWalk 0x39 count (now (bits .entry)) (now (msg .entry)) allPlaces 0 (storing 0 (now (layout .entry))) ⌝ }
+{
+    store_next(0x39, 1, 8, bits, count, msg, 0, layout)
+}
+
+// The same of an Order Acknowledgment.
+fn acknowledgment_bytes(bits: &[u8], count: u8, msg: &[u8], layout: &mut [u8]) -> usize
+    requires { ⌜ (length (now layout) ≡ layoutSize) × (length (now bits) ≡ count) × (count ≤ 15) ⌝ }
+    ensures { λ r. ⌜ storing r (now (layout .exit)) ≡ storeWalk 0x25 count (now (bits .entry)) (now (msg .entry)) allPlaces 0 (storing 0 (now (layout .entry))) ⌝ }
+{
+    let a = store_next(0x25, 1, 8, bits, count, msg, 0, layout);
+    let b = store_next(0x25, 2, 16, bits, count, msg, a, layout);
+    let c = store_next(0x25, 3, 24, bits, count, msg, b, layout);
+    store_next(0x25, 5, 40, bits, count, msg, c, layout)
+}
+
+// The same of an Order Execution.
+fn execution_bytes(bits: &[u8], count: u8, msg: &[u8], layout: &mut [u8]) -> usize
+    requires { ⌜ (length (now layout) ≡ layoutSize) × (length (now bits) ≡ count) × (count ≤ 15) ⌝ }
+    ensures { λ r. ⌜ storing r (now (layout .exit)) ≡ storeWalk 0x2C count (now (bits .entry)) (now (msg .entry)) allPlaces 0 (storing 0 (now (layout .entry))) ⌝ }
+{
+    let a = store_next(0x2C, 1, 8, bits, count, msg, 0, layout);
+    let b = store_next(0x2C, 2, 16, bits, count, msg, a, layout);
+    store_next(0x2C, 3, 24, bits, count, msg, b, layout)
+}
+
+// All bitfield bytes of any message.
+fn store_loop(message: u8, bits: &[u8], count: u8, msg: &[u8], layout: &mut [u8]) -> usize
     requires { ⌜ (length (now layout) ≡ layoutSize) × (length (now bits) ≡ count) × (count ≤ 15) ⌝ }
     ensures { λ r. ⌜ storing r (now (layout .exit)) ≡ storeWalk message count (now (bits .entry)) (now (msg .entry)) allPlaces 0 (storing 0 (now (layout .entry))) ⌝ }
 {
@@ -145,7 +159,24 @@ pub fn store_all(message: u8, bits: &[u8], count: u8, msg: &[u8], layout: &mut [
     while j < count {
         let value = bits[j as usize];
         j += 1;
-        at = store_next(message, j, value, msg, at, layout);
+        at = store_any(message, j, value, msg, at, layout);
     }
     at
+}
+
+// All fields that the bitfield bytes select, into a layout: how far the message is stored.
+pub fn store_all(message: u8, bits: &[u8], count: u8, msg: &[u8], layout: &mut [u8]) -> usize
+    requires { ⌜ (length (now layout) ≡ layoutSize) × (length (now bits) ≡ count) × (count ≤ 15) ⌝ }
+    ensures { λ r. ⌜ storing r (now (layout .exit)) ≡ storeWalk message count (now (bits .entry)) (now (msg .entry)) allPlaces 0 (storing 0 (now (layout .entry))) ⌝ }
+{
+    if count == 0 {
+        return 0;
+    }
+    match message {
+        0x38 => new_order_bytes(bits, count, msg, layout),
+        0x39 => cancel_order_bytes(bits, count, msg, layout),
+        0x25 => acknowledgment_bytes(bits, count, msg, layout),
+        0x2C => execution_bytes(bits, count, msg, layout),
+        _ => store_loop(message, bits, count, msg, layout),
+    }
 }

@@ -1,82 +1,81 @@
--- `block_store::store_all` meets its contract. The loop's invariant: the layout keeps its length, and the walk over the places of the other bytes, from
--- the state reached, ends as the walk over all 120. The measure is the count of bytes that are left. Assumes nothing.
-use mathlib.Core.Path.{_≡_, refl, _∙_}
-use Prim.Native.Nat.{_*_, _-_, _≤_}
+-- `block_store::store_all` meets its contract: no byte stores nothing, and the message of each arm is the one that its bytes are of. Assumes nothing.
+use mathlib.Core.Path.{refl}
 use native.Mathlib.Omega.{arith}
-use lib.ListN.{length}
 use denote.Ref.{now}
 use Rattle.block.specs.Walk.{storeEntry}
-use Rattle.block.specs.Loops.{byte-turn, bytes-end}
-use Rattle.block_store.specs.State.{storing, storeWalk}
+use Rattle.block.specs.Loops.{bytes-end}
+use Rattle.block_store.specs.State.{storing}
 use borrow.Author.Needs.{needs}
 use Rattle.block_store.proofs.store_all.Statement.{statement}
 use Rattle.block_store.proofs.store_all.Tie as tie
-use Rattle.block.specs.Sizes.{allPlaces}
 
-abbrev Inv-loop : tie.InvT-loop
-Inv-loop message bits count msg layout₀ j₀ at₀ layout j at =
-    (j ≤ count)
-    × (length layout ≡ length layout₀)
-    × (at ≤ length msg)
-    × (storeWalk message count bits msg (allPlaces - 8 * j) (8 * j) (storing at layout) ≡ storeWalk message count bits msg allPlaces 0 (storing 0 layout₀))
-
-abbrev μ-loop : tie.MeasureT-loop
-μ-loop message bits count msg layout₀ j₀ at₀ layout j at = count - j
-
-loop-holds : tie.Need-loop-holds Inv-loop μ-loop
-loop-holds c = (omega arith, refl, omega arith, refl)
-
-cast-value : tie.Need-cast-value Inv-loop μ-loop
-cast-value c = search needs
-
-shared-slice-read-value : tie.Need-shared-slice-read-value Inv-loop μ-loop
-shared-slice-read-value c = search needs
-
-add-j : tie.Need-add-j Inv-loop μ-loop
-add-j c = search needs
-
-store-next-requires : tie.Need-store-next-requires Inv-loop μ-loop
-store-next-requires c κs = search needs
-
-loop-less : tie.Need-loop-less Inv-loop μ-loop
-loop-less c = search needs
-
-loop-again : tie.Need-loop-again Inv-loop μ-loop
-loop-again c =
-    let put = c .before .before in
-    let in-loop = put .before .before .before in
-    let at-loop = in-loop .before in
-    let start = at-loop .before .before .before .before in
-    let a = start .args in
-    let inv = at-loop .loop .inv in (
-      omega arith,
-      put .store-next .kept .1 .1 .1 .1 .1 .0 ∙ inv .1,
-      put .store-next .ensures .1,
-      byte-turn (storeEntry (now (a .msg))) (a .message) (a .count) (now (a .bits)) (at-loop .loop .j) _ (storing (at-loop .loop .at) (at-loop .loop .layout)) _ _
-          (in-loop .loop-test .taken) (start .pre .2) refl (put .store-next .ensures .0) (inv .3),
-    )
-
-same-length : tie.Need-same-length Inv-loop μ-loop
-same-length c = c .before .loop .inv .1
-
-returns : tie.Need-returns Inv-loop μ-loop
+returns : tie.Need-returns
 returns c =
-    let at-loop = c .before in
-    let a = at-loop .before .before .before .before .args in
-    bytes-end (storeEntry (now (a .msg))) (a .message) (a .count) (now (a .bits)) (at-loop .loop .j) (storing (at-loop .loop .at) (at-loop .loop .layout)) _ (c .loop-test .left) (at-loop .loop .inv .3)
+    let a = c .before .before .before .before .args in
+    bytes-end (storeEntry (now (a .msg))) (a .message) (a .count) (now (a .bits)) 0 (storing 0 (now (a .layout))) _ (omega arith) refl
+
+new-order-bytes-requires : tie.Need-new-order-bytes-requires
+new-order-bytes-requires c κs = search needs
+
+cancel-order-bytes-requires : tie.Need-cancel-order-bytes-requires
+cancel-order-bytes-requires c κs = search needs
+
+acknowledgment-bytes-requires : tie.Need-acknowledgment-bytes-requires
+acknowledgment-bytes-requires c κs = search needs
+
+execution-bytes-requires : tie.Need-execution-bytes-requires
+execution-bytes-requires c κs = search needs
+
+store-loop-requires : tie.Need-store-loop-requires
+store-loop-requires c κs = search needs
+
+same-length : tie.Need-same-length
+same-length c = search needs
+
+returns-2 : tie.Need-returns-2
+returns-2 c = rw (c .before .before .before .before .match .keys1) (c .before .before .new-order-bytes .ensures)
+
+same-length-2 : tie.Need-same-length-2
+same-length-2 c = search needs
+
+returns-3 : tie.Need-returns-3
+returns-3 c = rw (c .before .before .before .before .match .keys2) (c .before .before .cancel-order-bytes .ensures)
+
+same-length-3 : tie.Need-same-length-3
+same-length-3 c = search needs
+
+returns-4 : tie.Need-returns-4
+returns-4 c = rw (c .before .before .before .before .match .keys3) (c .before .before .acknowledgment-bytes .ensures)
+
+same-length-4 : tie.Need-same-length-4
+same-length-4 c = search needs
+
+returns-5 : tie.Need-returns-5
+returns-5 c = rw (c .before .before .before .before .match .keys4) (c .before .before .execution-bytes .ensures)
+
+same-length-5 : tie.Need-same-length-5
+same-length-5 c = search needs
+
+returns-6 : tie.Need-returns-6
+returns-6 c = search needs
 
 pub store-all-spec : {M : Type 1} → statement M
 store-all-spec =
     tie.close
     (tie.spec
-    Inv-loop
-    μ-loop
-    loop-holds
-    cast-value
-    shared-slice-read-value
-    add-j
-    store-next-requires
-    loop-less
-    loop-again
+    returns
+    new-order-bytes-requires
+    cancel-order-bytes-requires
+    acknowledgment-bytes-requires
+    execution-bytes-requires
+    store-loop-requires
     same-length
-    returns)
+    returns-2
+    same-length-2
+    returns-3
+    same-length-3
+    returns-4
+    same-length-4
+    returns-5
+    same-length-5
+    returns-6)

@@ -1,26 +1,42 @@
--- `block_store::store_next` meets its contract: a byte without a set bit leaves the state. Assumes nothing.
+-- `block_store::store_next` meets its contract: a byte that is not there or without a set bit leaves the state. Assumes nothing.
 use denote.Ref.{now}
 use Rattle.block.specs.Walk.{storeEntry}
-use Rattle.block.specs.Loops.{byte-clear}
+use Rattle.block.specs.Loops.{byte-clear, byte-given}
 use Rattle.block_store.specs.State.{storing}
 use borrow.Author.Needs.{needs}
 use Rattle.block_store.proofs.store_next.Statement.{statement}
 use Rattle.block_store.proofs.store_next.Tie as tie
 
+byte-of-requires : tie.Need-byte-of-requires
+byte-of-requires c κs = search needs
+
 returns : tie.Need-returns
 returns c =
-    let start = c .before .before .before in
+    let got = c .before in
+    let start = got .before .before .before .before in
     let a = start .args in
-    (byte-clear (storeEntry (now (a .msg))) (a .message) (a .byte) (a .value) (storing (a .at) (now (a .layout))) (c .if1 .taken), start .pre .2)
+    let st = storing (a .at) (now (a .layout)) in (
+      byte-given (storeEntry (now (a .msg))) (a .message) (a .count) (now (a .bits)) (a .byte) _ st st (start .pre .3) (start .pre .2) (got .byte-of .ensures)
+          (byte-clear (storeEntry (now (a .msg))) (a .message) (a .byte) _ st (c .if1 .taken)),
+      start .pre .6,
+    )
 
-store-byte-requires : tie.Need-store-byte-requires
-store-byte-requires c κs = search needs
+store-bits-requires : tie.Need-store-bits-requires
+store-bits-requires c κs = search needs
 
 same-length : tie.Need-same-length
 same-length c = search needs
 
 returns-2 : tie.Need-returns-2
-returns-2 c = search needs
+returns-2 c =
+    let put = c .before .before in
+    let got = put .before .before .before in
+    let start = got .before .before .before .before in
+    let a = start .args in (
+      byte-given (storeEntry (now (a .msg))) (a .message) (a .count) (now (a .bits)) (a .byte) _ (storing (a .at) (now (a .layout))) _ (start .pre .3) (start .pre .2) (got .byte-of .ensures)
+          (put .store-bits .ensures .0),
+      put .store-bits .ensures .1,
+    )
 
 pub store-next-spec : {M : Type 1} → statement M
-store-next-spec = tie.close (tie.spec returns store-byte-requires same-length returns-2)
+store-next-spec = tie.close (tie.spec byte-of-requires returns store-bits-requires same-length returns-2)
