@@ -2,13 +2,13 @@
 pub mod give;
 
 ghost use mathlib.Core.Path.{_≡_};
-ghost use Prim.Native.Nat.{_+_, _*_, _%_, _≤_};
+ghost use Prim.Native.Nat.{_+_, _*_, _-_, _%_, _≤_};
 ghost use lib.Dec.{eqb};
 ghost use lib.ListN.{length};
 ghost use Rattle.dictionary.specs.declared.Entry.the-variants.{Field};
 ghost use Rattle.dictionary.specs.Dictionary.{entryOf};
 ghost use Rattle.block.specs.Walk.{pick, worseOf, inByte, lookEntry};
-ghost use Rattle.block_write.specs.State.{looking, unseen, lookWalk};
+ghost use Rattle.block_write.specs.State.{looking, unseen, lookWalk, Midway};
 ghost use Rattle.block.specs.Sizes.{allPlaces, layoutSize};
 use dictionary::Entry;
 use kinds::Kind;
@@ -93,53 +93,145 @@ fn look_any(message: u8, byte: u8, value: u8, rest: &mut [u8], s: Seen) -> Seen
     look_bits(message, byte, 8 * byte, value, rest, s)
 }
 
-// The same, with an arm for each byte that a message lists: there the compiler knows message and byte, unrolls the loop and folds the dictionary
-// away. Cancel Order, with its one byte, stands last: of three messages the compiler makes a loop over the bytes for each.
-fn look_byte(message: u8, byte: u8, value: u8, rest: &mut [u8], s: Seen) -> Seen
-    requires { ⌜ (length (now rest) ≡ layoutSize) × (byte ≤ 15) × (s .total ≤ 100000) ⌝ }
-    ensures { λ r. ⌜ (looking r (now (rest .exit)) ≡ inByte lookEntry message byte value (looking s (now (rest .entry)))) × (r .total ≤ s .total + 2040) ⌝ }
+// One bitfield byte: its fields if it is there and not zero.
+fn look_next(
+    message: u8,
+    byte: u8,
+    end: u8,
+    bits: &[u8],
+    count: u8,
+    rest: &mut [u8],
+    s: Seen,
+) -> Seen
+    requires { ⌜ (1 ≤ byte) × (byte ≤ 15) × (end ≡ 8 * byte) × Midway count (now bits) (byte - 1) (s .total) (now rest) ⌝ }
+    ensures { λ r. ⌜ (lookWalk message count (now (bits .entry)) (allPlaces - 8 * byte) (8 * byte) (looking r (now (rest .exit))) ≡ lookWalk message count (now (bits .entry)) (allPlaces - 8 * (byte - 1)) (8 * (byte - 1)) (looking s (now (rest .entry)))) × Midway count (now (bits .entry)) byte (r .total) (now (rest .exit)) ⌝ }
 {
-    match message {
-        0x38 => match byte {
-            1 => look_bits(message, byte, 8, value, rest, s),
-            2 => look_bits(message, byte, 16, value, rest, s),
-            3 => look_bits(message, byte, 24, value, rest, s),
-            6 => look_bits(message, byte, 48, value, rest, s),
-            10 => look_bits(message, byte, 80, value, rest, s),
-            _ => look_any(message, byte, value, rest, s),
-        },
-        0x25 => match byte {
-            1 => look_bits(message, byte, 8, value, rest, s),
-            2 => look_bits(message, byte, 16, value, rest, s),
-            3 => look_bits(message, byte, 24, value, rest, s),
-            5 => look_bits(message, byte, 40, value, rest, s),
-            _ => look_any(message, byte, value, rest, s),
-        },
-        0x2C => match byte {
-            1 => look_bits(message, byte, 8, value, rest, s),
-            2 => look_bits(message, byte, 16, value, rest, s),
-            3 => look_bits(message, byte, 24, value, rest, s),
-            _ => look_any(message, byte, value, rest, s),
-        },
-        _ => match byte {
-            1 => match message {
-                0x39 => look_bits(message, byte, 8, value, rest, s),
-                _ => look_any(message, byte, value, rest, s),
-            },
-            _ => look_any(message, byte, value, rest, s),
-        },
-    }
-}
-
-// A byte that is zero selects nothing.
-fn look_next(message: u8, byte: u8, value: u8, rest: &mut [u8], s: Seen) -> Seen
-    requires { ⌜ (length (now rest) ≡ layoutSize) × (byte ≤ 15) × (s .total ≤ 100000) ⌝ }
-    ensures { λ r. ⌜ (looking r (now (rest .exit)) ≡ inByte lookEntry message byte value (looking s (now (rest .entry)))) × (r .total ≤ s .total + 2040) ⌝ }
-{
+    let value = block::byte_of(bits, count, byte);
     if value == 0 {
         return s;
     }
-    look_byte(message, byte, value, rest, s)
+    look_bits(message, byte, end, value, rest, s)
+}
+
+// All bytes after the first `from`, of any message.
+fn look_loop(message: u8, from: u8, bits: &[u8], count: u8, rest: &mut [u8], s: Seen) -> Seen
+    requires { ⌜ Midway count (now bits) from (s .total) (now rest) ⌝ }
+    ensures { λ r. ⌜ looking r (now (rest .exit)) ≡ lookWalk message count (now (bits .entry)) (allPlaces - 8 * from) (8 * from) (looking s (now (rest .entry))) ⌝ }
+{
+    let mut j = from;
+    let mut r = s;
+    while j < count {
+        let value = bits[j as usize];
+        j += 1;
+        r = look_any(message, j, value, rest, r);
+    }
+    r
+}
+
+// The same, where they are as a rule not there, or blank.
+fn look_rest(message: u8, from: u8, bits: &[u8], count: u8, rest: &mut [u8], s: Seen) -> Seen
+    requires { ⌜ Midway count (now bits) from (s .total) (now rest) ⌝ }
+    ensures { λ r. ⌜ looking r (now (rest .exit)) ≡ lookWalk message count (now (bits .entry)) (allPlaces - 8 * from) (8 * from) (looking s (now (rest .entry))) ⌝ }
+{
+    if count <= from {
+        return s;
+    }
+    let f = from as usize;
+    let n = count as usize;
+    if kinds::is_blank(&bits[f..n]) {
+        return s;
+    }
+    look_loop(message, from, bits, count, rest, s)
+}
+
+// New Order, byte after byte up to the last that it lists: with literals for message, byte and end the compiler unrolls the bits and folds the
+// dictionary away.
+fn new_order_bytes(bits: &[u8], count: u8, rest: &mut [u8], s: Seen) -> Seen
+    requires { ⌜ Midway count (now bits) 0 (s .total) (now rest) ⌝ }
+    ensures { λ r. ⌜ looking r (now (rest .exit)) ≡ lookWalk 0x38 count (now (bits .entry)) allPlaces 0 (looking s (now (rest .entry))) ⌝ }
+{
+    let a = look_next(0x38, 1, 8, bits, count, rest, s);
+    let b = look_next(0x38, 2, 16, bits, count, rest, a);
+    let c = look_next(0x38, 3, 24, bits, count, rest, b);
+    if count <= 3 {
+        return c;
+    }
+    let d = look_next(0x38, 4, 32, bits, count, rest, c);
+    let e = look_next(0x38, 5, 40, bits, count, rest, d);
+    let f = look_next(0x38, 6, 48, bits, count, rest, e);
+    let g = look_next(0x38, 7, 56, bits, count, rest, f);
+    let h = look_next(0x38, 8, 64, bits, count, rest, g);
+    let i = look_next(0x38, 9, 72, bits, count, rest, h);
+    let j = look_next(0x38, 10, 80, bits, count, rest, i);
+    look_rest(0x38, 10, bits, count, rest, j)
+}
+
+// The same of Cancel Order.
+fn cancel_order_bytes(bits: &[u8], count: u8, rest: &mut [u8], s: Seen) -> Seen
+    requires { ⌜ Midway count (now bits) 0 (s .total) (now rest) ⌝ }
+    ensures { λ r. ⌜ looking r (now (rest .exit)) ≡ lookWalk 0x39 count (now (bits .entry)) allPlaces 0 (looking s (now (rest .entry))) ⌝ }
+{
+    let a = look_next(0x39, 1, 8, bits, count, rest, s);
+    look_rest(0x39, 1, bits, count, rest, a)
+}
+
+// The same of Order Acknowledgment.
+fn acknowledgment_bytes(bits: &[u8], count: u8, rest: &mut [u8], s: Seen) -> Seen
+    requires { ⌜ Midway count (now bits) 0 (s .total) (now rest) ⌝ }
+    ensures { λ r. ⌜ looking r (now (rest .exit)) ≡ lookWalk 0x25 count (now (bits .entry)) allPlaces 0 (looking s (now (rest .entry))) ⌝ }
+{
+    let a = look_next(0x25, 1, 8, bits, count, rest, s);
+    let b = look_next(0x25, 2, 16, bits, count, rest, a);
+    let c = look_next(0x25, 3, 24, bits, count, rest, b);
+    if count <= 3 {
+        return c;
+    }
+    let d = look_next(0x25, 4, 32, bits, count, rest, c);
+    let e = look_next(0x25, 5, 40, bits, count, rest, d);
+    look_rest(0x25, 5, bits, count, rest, e)
+}
+
+// The same of Order Execution.
+fn execution_bytes(bits: &[u8], count: u8, rest: &mut [u8], s: Seen) -> Seen
+    requires { ⌜ Midway count (now bits) 0 (s .total) (now rest) ⌝ }
+    ensures { λ r. ⌜ looking r (now (rest .exit)) ≡ lookWalk 0x2C count (now (bits .entry)) allPlaces 0 (looking s (now (rest .entry))) ⌝ }
+{
+    let a = look_next(0x2C, 1, 8, bits, count, rest, s);
+    let b = look_next(0x2C, 2, 16, bits, count, rest, a);
+    let c = look_next(0x2C, 3, 24, bits, count, rest, b);
+    look_rest(0x2C, 3, bits, count, rest, c)
+}
+
+// New Order. Each message has such a function of its own: within it the compiler folds what is called more than once.
+fn look_new_order(bits: &[u8], count: u8, rest: &mut [u8], s: Seen) -> Seen
+    requires { ⌜ Midway count (now bits) 0 (s .total) (now rest) ⌝ }
+    ensures { λ r. ⌜ looking r (now (rest .exit)) ≡ lookWalk 0x38 count (now (bits .entry)) allPlaces 0 (looking s (now (rest .entry))) ⌝ }
+{
+    new_order_bytes(bits, count, rest, s)
+}
+
+// Cancel Order.
+fn look_cancel_order(bits: &[u8], count: u8, rest: &mut [u8], s: Seen) -> Seen
+    requires { ⌜ Midway count (now bits) 0 (s .total) (now rest) ⌝ }
+    ensures { λ r. ⌜ looking r (now (rest .exit)) ≡ lookWalk 0x39 count (now (bits .entry)) allPlaces 0 (looking s (now (rest .entry))) ⌝ }
+{
+    cancel_order_bytes(bits, count, rest, s)
+}
+
+// Order Acknowledgment.
+fn look_acknowledgment(bits: &[u8], count: u8, rest: &mut [u8], s: Seen) -> Seen
+    requires { ⌜ Midway count (now bits) 0 (s .total) (now rest) ⌝ }
+    ensures { λ r. ⌜ looking r (now (rest .exit)) ≡ lookWalk 0x25 count (now (bits .entry)) allPlaces 0 (looking s (now (rest .entry))) ⌝ }
+{
+    acknowledgment_bytes(bits, count, rest, s)
+}
+
+// Order Execution.
+fn look_execution(bits: &[u8], count: u8, rest: &mut [u8], s: Seen) -> Seen
+    requires { ⌜ Midway count (now bits) 0 (s .total) (now rest) ⌝ }
+    ensures { λ r. ⌜ looking r (now (rest .exit)) ≡ lookWalk 0x2C count (now (bits .entry)) allPlaces 0 (looking s (now (rest .entry))) ⌝ }
+{
+    execution_bytes(bits, count, rest, s)
 }
 
 // All fields that the first `count` bitfield bytes select, each cleared in the layout.
@@ -147,16 +239,19 @@ pub fn look_all(message: u8, bits: &[u8], count: u8, rest: &mut [u8]) -> Seen
     requires { ⌜ (length (now rest) ≡ layoutSize) × (count ≤ length (now bits)) × (count ≤ 15) ⌝ }
     ensures { λ r. ⌜ looking r (now (rest .exit)) ≡ lookWalk message count (now (bits .entry)) allPlaces 0 (unseen (now (rest .entry))) ⌝ }
 {
-    let mut j: u8 = 0;
-    let mut r = Seen {
+    let s = Seen {
         total: 0,
         wrong: 0,
         bad: 0,
     };
-    while j < count {
-        let value = bits[j as usize];
-        j += 1;
-        r = look_next(message, j, value, rest, r);
+    if count == 0 {
+        return s;
     }
-    r
+    match message {
+        0x38 => look_new_order(bits, count, rest, s),
+        0x39 => look_cancel_order(bits, count, rest, s),
+        0x25 => look_acknowledgment(bits, count, rest, s),
+        0x2C => look_execution(bits, count, rest, s),
+        _ => look_loop(message, 0, bits, count, rest, s),
+    }
 }
