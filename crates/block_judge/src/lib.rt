@@ -1,11 +1,12 @@
 // Judging the optional block where it stands: a walk over the set bits that asks of each field's bytes in the message.
 ghost use mathlib.Core.Path.{_≡_};
-ghost use Prim.Native.Nat.{_+_, _*_, _%_, _≤_, _<_};
+ghost use mathlib.Core.Bool.{true};
+ghost use Prim.Native.Nat.{_+_, _-_, _*_, _%_, _≤_, _<_};
 ghost use lib.Dec.{eqb};
 ghost use lib.ListN.{length};
 ghost use Rattle.dictionary.specs.Dictionary.{entryOf};
 ghost use Rattle.block.specs.Walk.{pick, worseOf, inByte, judgeField, judgeEntry};
-ghost use Rattle.block_judge.specs.State.{judging, begun, judgeWalk};
+ghost use Rattle.block_judge.specs.State.{judging, begun, judgeWalk, blankAfter, plain};
 ghost use Rattle.block.specs.Sizes.{allPlaces};
 use dictionary::Entry;
 use kinds::Kind;
@@ -99,53 +100,145 @@ fn judge_any(message: u8, byte: u8, value: u8, msg: &[u8], t: Judged) -> Judged
     judge_bits(message, byte, 8 * byte, value, msg, t)
 }
 
-// The same, with an arm for each byte that a message lists: there the compiler knows message and byte, unrolls the loop and folds the dictionary
-// away. Cancel Order, with its one byte, stands last: of three messages the compiler makes a loop over the bytes for each.
-fn judge_byte(message: u8, byte: u8, value: u8, msg: &[u8], t: Judged) -> Judged
-    requires { ⌜ (byte ≤ 15) × (t .at ≤ 100000) ⌝ }
-    ensures { λ r. ⌜ (judging r ≡ inByte (judgeEntry (now (msg .entry))) message byte value (judging t)) × (r .at ≤ t .at + 2040) ⌝ }
+// One bitfield byte: its fields if it is there and not zero. What is left to walk after it ends as what was left before it.
+fn judge_next(
+    message: u8,
+    byte: u8,
+    end: u8,
+    bits: &[u8],
+    count: u8,
+    msg: &[u8],
+    t: Judged,
+) -> Judged
+    requires { ⌜ (count ≤ length (now bits)) × (count ≤ 15) × (1 ≤ byte) × (byte ≤ 15) × (end ≡ 8 * byte) × (t .at ≤ 2040 * (byte - 1)) ⌝ }
+    ensures { λ r. ⌜ (judgeWalk message count (now (bits .entry)) (now (msg .entry)) (allPlaces - 8 * byte) (8 * byte) (judging r) ≡ judgeWalk message count (now (bits .entry)) (now (msg .entry)) (allPlaces - 8 * (byte - 1)) (8 * (byte - 1)) (judging t)) × (r .at ≤ 2040 * byte) ⌝ }
 {
-    match message {
-        0x38 => match byte {
-            1 => judge_bits(message, byte, 8, value, msg, t),
-            2 => judge_bits(message, byte, 16, value, msg, t),
-            3 => judge_bits(message, byte, 24, value, msg, t),
-            6 => judge_bits(message, byte, 48, value, msg, t),
-            10 => judge_bits(message, byte, 80, value, msg, t),
-            _ => judge_any(message, byte, value, msg, t),
-        },
-        0x25 => match byte {
-            1 => judge_bits(message, byte, 8, value, msg, t),
-            2 => judge_bits(message, byte, 16, value, msg, t),
-            3 => judge_bits(message, byte, 24, value, msg, t),
-            5 => judge_bits(message, byte, 40, value, msg, t),
-            _ => judge_any(message, byte, value, msg, t),
-        },
-        0x2C => match byte {
-            1 => judge_bits(message, byte, 8, value, msg, t),
-            2 => judge_bits(message, byte, 16, value, msg, t),
-            3 => judge_bits(message, byte, 24, value, msg, t),
-            _ => judge_any(message, byte, value, msg, t),
-        },
-        _ => match byte {
-            1 => match message {
-                0x39 => judge_bits(message, byte, 8, value, msg, t),
-                _ => judge_any(message, byte, value, msg, t),
-            },
-            _ => judge_any(message, byte, value, msg, t),
-        },
-    }
-}
-
-// A byte that is zero selects nothing.
-fn judge_next(message: u8, byte: u8, value: u8, msg: &[u8], t: Judged) -> Judged
-    requires { ⌜ (byte ≤ 15) × (t .at ≤ 100000) ⌝ }
-    ensures { λ r. ⌜ (judging r ≡ inByte (judgeEntry (now (msg .entry))) message byte value (judging t)) × (r .at ≤ t .at + 2040) ⌝ }
-{
+    let value = block::byte_of(bits, count, byte);
     if value == 0 {
         return t;
     }
-    judge_byte(message, byte, value, msg, t)
+    judge_bits(message, byte, end, value, msg, t)
+}
+
+// New Order, in a line of calls up to the last byte that it lists, those after it being blank. The compiler knows message and byte of each call: it
+// unrolls the loop over the bits and folds the dictionary away.
+fn new_order_bytes(bits: &[u8], count: u8, msg: &[u8], t: Judged) -> Judged
+    requires { ⌜ (count ≤ length (now bits)) × (count ≤ 15) × (blankAfter 10 count (now bits) ≡ true) × (t .at ≡ 0) ⌝ }
+    ensures { λ r. ⌜ judging r ≡ judgeWalk 0x38 count (now (bits .entry)) (now (msg .entry)) allPlaces 0 (judging t) ⌝ }
+{
+    let a = judge_next(0x38, 1, 8, bits, count, msg, t);
+    let b = judge_next(0x38, 2, 16, bits, count, msg, a);
+    let c = judge_next(0x38, 3, 24, bits, count, msg, b);
+    if count <= 3 {
+        return c;
+    }
+    let d = judge_next(0x38, 4, 32, bits, count, msg, c);
+    let e = judge_next(0x38, 5, 40, bits, count, msg, d);
+    let f = judge_next(0x38, 6, 48, bits, count, msg, e);
+    let g = judge_next(0x38, 7, 56, bits, count, msg, f);
+    let h = judge_next(0x38, 8, 64, bits, count, msg, g);
+    let i = judge_next(0x38, 9, 72, bits, count, msg, h);
+    judge_next(0x38, 10, 80, bits, count, msg, i)
+}
+
+// The same of Cancel Order.
+fn cancel_order_bytes(bits: &[u8], count: u8, msg: &[u8], t: Judged) -> Judged
+    requires { ⌜ (count ≤ length (now bits)) × (count ≤ 15) × (blankAfter 1 count (now bits) ≡ true) × (t .at ≡ 0) ⌝ }
+    ensures { λ r. ⌜ judging r ≡ judgeWalk 0x39 count (now (bits .entry)) (now (msg .entry)) allPlaces 0 (judging t) ⌝ }
+{
+    judge_next(0x39, 1, 8, bits, count, msg, t)
+}
+
+// The same of Order Acknowledgment.
+fn acknowledgment_bytes(bits: &[u8], count: u8, msg: &[u8], t: Judged) -> Judged
+    requires { ⌜ (count ≤ length (now bits)) × (count ≤ 15) × (blankAfter 5 count (now bits) ≡ true) × (t .at ≡ 0) ⌝ }
+    ensures { λ r. ⌜ judging r ≡ judgeWalk 0x25 count (now (bits .entry)) (now (msg .entry)) allPlaces 0 (judging t) ⌝ }
+{
+    let a = judge_next(0x25, 1, 8, bits, count, msg, t);
+    let b = judge_next(0x25, 2, 16, bits, count, msg, a);
+    let c = judge_next(0x25, 3, 24, bits, count, msg, b);
+    if count <= 3 {
+        return c;
+    }
+    let d = judge_next(0x25, 4, 32, bits, count, msg, c);
+    judge_next(0x25, 5, 40, bits, count, msg, d)
+}
+
+// The same of Order Execution.
+fn execution_bytes(bits: &[u8], count: u8, msg: &[u8], t: Judged) -> Judged
+    requires { ⌜ (count ≤ length (now bits)) × (count ≤ 15) × (blankAfter 3 count (now bits) ≡ true) × (t .at ≡ 0) ⌝ }
+    ensures { λ r. ⌜ judging r ≡ judgeWalk 0x2C count (now (bits .entry)) (now (msg .entry)) allPlaces 0 (judging t) ⌝ }
+{
+    let a = judge_next(0x2C, 1, 8, bits, count, msg, t);
+    let b = judge_next(0x2C, 2, 16, bits, count, msg, a);
+    judge_next(0x2C, 3, 24, bits, count, msg, b)
+}
+
+// The line of New Order, one call further in: so the compiler folds it into its caller.
+fn judge_new_order(bits: &[u8], count: u8, msg: &[u8], t: Judged) -> Judged
+    requires { ⌜ (count ≤ length (now bits)) × (count ≤ 15) × (blankAfter 10 count (now bits) ≡ true) × (t .at ≡ 0) ⌝ }
+    ensures { λ r. ⌜ judging r ≡ judgeWalk 0x38 count (now (bits .entry)) (now (msg .entry)) allPlaces 0 (judging t) ⌝ }
+{
+    new_order_bytes(bits, count, msg, t)
+}
+
+// The same of Order Acknowledgment.
+fn judge_acknowledgment(bits: &[u8], count: u8, msg: &[u8], t: Judged) -> Judged
+    requires { ⌜ (count ≤ length (now bits)) × (count ≤ 15) × (blankAfter 5 count (now bits) ≡ true) × (t .at ≡ 0) ⌝ }
+    ensures { λ r. ⌜ judging r ≡ judgeWalk 0x25 count (now (bits .entry)) (now (msg .entry)) allPlaces 0 (judging t) ⌝ }
+{
+    acknowledgment_bytes(bits, count, msg, t)
+}
+
+// The same of Order Execution.
+fn judge_execution(bits: &[u8], count: u8, msg: &[u8], t: Judged) -> Judged
+    requires { ⌜ (count ≤ length (now bits)) × (count ≤ 15) × (blankAfter 3 count (now bits) ≡ true) × (t .at ≡ 0) ⌝ }
+    ensures { λ r. ⌜ judging r ≡ judgeWalk 0x2C count (now (bits .entry)) (now (msg .entry)) allPlaces 0 (judging t) ⌝ }
+{
+    execution_bytes(bits, count, msg, t)
+}
+
+// Any message, in a loop over its bytes.
+fn judge_loop(message: u8, bits: &[u8], count: u8, msg: &[u8], t: Judged) -> Judged
+    requires { ⌜ (count ≤ length (now bits)) × (count ≤ 15) × (t .at ≡ 0) ⌝ }
+    ensures { λ r. ⌜ judging r ≡ judgeWalk message count (now (bits .entry)) (now (msg .entry)) allPlaces 0 (judging t) ⌝ }
+{
+    let mut j: u8 = 0;
+    let mut r = t;
+    while j < count {
+        let value = bits[j as usize];
+        j += 1;
+        r = judge_any(message, j, value, msg, r);
+    }
+    r
+}
+
+// Whether the bitfield bytes after the first k are blank.
+fn is_blank_after(k: u8, bits: &[u8], count: u8) -> bool
+    requires { ⌜ count ≤ length (now bits) ⌝ }
+    ensures { λ r. ⌜ r ≡ blankAfter k count (now (bits .entry)) ⌝ }
+{
+    if count <= k {
+        return true;
+    }
+    let start = k as usize;
+    let end = count as usize;
+    kinds::is_blank(&bits[start..end])
+}
+
+// Whether a message has a line of its own and its bytes after the last listed one are blank. Asked once before the lines, since a call of the loop
+// at the end of each of them would cost them all.
+fn is_plain(message: u8, bits: &[u8], count: u8) -> bool
+    requires { ⌜ count ≤ length (now bits) ⌝ }
+    ensures { λ r. ⌜ r ≡ plain message count (now (bits .entry)) ⌝ }
+{
+    match message {
+        0x38 => is_blank_after(10, bits, count),
+        0x39 => is_blank_after(1, bits, count),
+        0x25 => is_blank_after(5, bits, count),
+        0x2C => is_blank_after(3, bits, count),
+        _ => false,
+    }
 }
 
 // All fields that the bitfield bytes select.
@@ -153,16 +246,21 @@ pub fn judge_all(message: u8, bits: &[u8], count: u8, msg: &[u8]) -> Judged
     requires { ⌜ (length (now bits) ≡ count) × (count ≤ 15) ⌝ }
     ensures { λ r. ⌜ judging r ≡ judgeWalk message count (now (bits .entry)) (now (msg .entry)) allPlaces 0 begun ⌝ }
 {
-    let mut j: u8 = 0;
-    let mut r = Judged {
+    let t = Judged {
         at: 0,
         wrong: 0,
         bad: 0,
     };
-    while j < count {
-        let value = bits[j as usize];
-        j += 1;
-        r = judge_next(message, j, value, msg, r);
+    if count == 0 {
+        return t;
     }
-    r
+    if !is_plain(message, bits, count) {
+        return judge_loop(message, bits, count, msg, t);
+    }
+    match message {
+        0x38 => judge_new_order(bits, count, msg, t),
+        0x39 => cancel_order_bytes(bits, count, msg, t),
+        0x25 => judge_acknowledgment(bits, count, msg, t),
+        _ => judge_execution(bits, count, msg, t),
+    }
 }

@@ -1,70 +1,107 @@
--- `block_judge::judge_all` meets its contract. The loop's invariant: the walk over the places of the other bytes, from the state reached, ends as the
--- walk over all 120. The measure is the count of bytes that are left. Assumes nothing.
-use Rattle.block_judge.specs.State.{judging, begun, judgeWalk}
-use Rattle.block.specs.Loops.{byte-turn, bytes-end}
+-- `block_judge::judge_all` meets its contract: a message that is plain goes by its own line, any other by the loop. Assumes nothing.
+use Rattle.block_judge.proofs.Lines.{in-new-order, in-cancel-order, in-acknowledgment, in-execution, only-execution}
+use Rattle.block_judge.specs.State.{begun, judgeWalk}
+use Rattle.block.specs.Loops.{bytes-end}
 use Rattle.block.specs.Walk.{judgeEntry}
+use Rattle.block.specs.Sizes.{allPlaces}
 use denote.Ref.{now}
 use native.Mathlib.Omega.{arith}
-use Prim.Native.Nat.{_*_, _-_, _≤_}
-use mathlib.Core.Path.{_≡_, refl}
+use borrow.Author.Tests.{not-false}
+use Prim.Native.Nat.{ℕ}
+use mathlib.Core.Path.{refl, sym, ap, _∙_}
 use borrow.Author.Needs.{needs}
 use Rattle.block_judge.proofs.judge_all.Statement.{statement}
 use Rattle.block_judge.proofs.judge_all.Tie as tie
-use Rattle.block.specs.Sizes.{allPlaces}
 
-abbrev Inv-loop : tie.InvT-loop
-Inv-loop message bits count msg j₀ r₀ j r = (j ≤ count) × (r .at ≤ 2040 * j) × (judgeWalk message count bits msg (allPlaces - 8 * j) (8 * j) (judging r) ≡ judgeWalk message count bits msg allPlaces 0 begun)
-
-abbrev μ-loop : tie.MeasureT-loop
-μ-loop message bits count msg j₀ r₀ j r = count - j
-
-loop-holds : tie.Need-loop-holds Inv-loop μ-loop
-loop-holds c = (omega arith, omega arith, refl)
-
-cast-value : tie.Need-cast-value Inv-loop μ-loop
-cast-value c = search needs
-
-shared-slice-read-value : tie.Need-shared-slice-read-value Inv-loop μ-loop
-shared-slice-read-value c = search needs
-
-add-j : tie.Need-add-j Inv-loop μ-loop
-add-j c = search needs
-
-judge-next-requires : tie.Need-judge-next-requires Inv-loop μ-loop
-judge-next-requires c κs = search needs
-
-loop-less : tie.Need-loop-less Inv-loop μ-loop
-loop-less c = search needs
-
-loop-again : tie.Need-loop-again Inv-loop μ-loop
-loop-again c =
-    let in-loop = c .before .before in
-    let at-loop = in-loop .before in
-    let start = at-loop .before .before .before in
-    let a = start .args in
-    let t = c .judge-next .ensures in (
-      omega arith,
-      omega (arith, t .1),
-      byte-turn (judgeEntry (now (a .msg))) (a .message) (a .count) (now (a .bits)) (at-loop .loop .j) _ (judging (at-loop .loop .r)) _ _ (in-loop .loop-test .taken) (start .pre .1) refl (t .0) (at-loop .loop .inv .2),
-    )
-
-returns : tie.Need-returns Inv-loop μ-loop
+returns : tie.Need-returns
 returns c =
-    let at-loop = c .before in
-    let a = at-loop .before .before .before .args in
-    bytes-end (judgeEntry (now (a .msg))) (a .message) (a .count) (now (a .bits)) (at-loop .loop .j) (judging (at-loop .loop .r)) _ (c .loop-test .left) (at-loop .loop .inv .2)
+    let a = c .before .before .before .args in
+    bytes-end (judgeEntry (now (a .msg))) (a .message) (a .count) (now (a .bits)) 0 begun _ (omega arith) refl
+
+is-plain-requires : tie.Need-is-plain-requires
+is-plain-requires c κs = search needs
+
+judge-loop-requires : tie.Need-judge-loop-requires
+judge-loop-requires c κs = search needs
+
+returns-2 : tie.Need-returns-2
+returns-2 c = search needs
+
+judge-new-order-requires : tie.Need-judge-new-order-requires
+judge-new-order-requires c κs =
+    let asked = c .before .before in
+    let start = asked .before .before .before .before in
+    let a = start .args in
+    let p = sym (asked .is-plain .ensures) ∙ not-false _ (c .before .if2 .left) in
+    (omega arith, start .pre .1, in-new-order (a .message) (a .count) (now (a .bits)) (c .match .keys1) ∙ p, refl)
+
+cancel-order-bytes-requires : tie.Need-cancel-order-bytes-requires
+cancel-order-bytes-requires c κs =
+    let asked = c .before .before in
+    let start = asked .before .before .before .before in
+    let a = start .args in
+    let p = sym (asked .is-plain .ensures) ∙ not-false _ (c .before .if2 .left) in
+    (omega arith, start .pre .1, in-cancel-order (a .message) (a .count) (now (a .bits)) (c .match .keys2) ∙ p, refl)
+
+judge-acknowledgment-requires : tie.Need-judge-acknowledgment-requires
+judge-acknowledgment-requires c κs =
+    let asked = c .before .before in
+    let start = asked .before .before .before .before in
+    let a = start .args in
+    let p = sym (asked .is-plain .ensures) ∙ not-false _ (c .before .if2 .left) in
+    (omega arith, start .pre .1, in-acknowledgment (a .message) (a .count) (now (a .bits)) (c .match .keys3) ∙ p, refl)
+
+judge-execution-requires : tie.Need-judge-execution-requires
+judge-execution-requires c κs =
+    let asked = c .before .before in
+    let start = asked .before .before .before .before in
+    let a = start .args in
+    let p = sym (asked .is-plain .ensures) ∙ not-false _ (c .before .if2 .left) in
+    let r = c .match .rest in
+    (omega arith, start .pre .1, in-execution (a .message) (a .count) (now (a .bits)) (only-execution (a .message) (a .count) (now (a .bits)) (r .0 .0 .1) (r .0 .1) (r .1) p) ∙ p, refl)
+
+returns-3 : tie.Need-returns-3
+returns-3 c =
+    let arm = c .before in
+    let asked = arm .before .before in
+    let a = asked .before .before .before .before .args in
+    c .judge-new-order .ensures ∙ ap (λ (n : ℕ). judgeWalk n (a .count) (now (a .bits)) (now (a .msg)) allPlaces 0 begun) (sym (arm .match .keys1))
+
+returns-4 : tie.Need-returns-4
+returns-4 c =
+    let arm = c .before in
+    let asked = arm .before .before in
+    let a = asked .before .before .before .before .args in
+    c .cancel-order-bytes .ensures ∙ ap (λ (n : ℕ). judgeWalk n (a .count) (now (a .bits)) (now (a .msg)) allPlaces 0 begun) (sym (arm .match .keys2))
+
+returns-5 : tie.Need-returns-5
+returns-5 c =
+    let arm = c .before in
+    let asked = arm .before .before in
+    let a = asked .before .before .before .before .args in
+    c .judge-acknowledgment .ensures ∙ ap (λ (n : ℕ). judgeWalk n (a .count) (now (a .bits)) (now (a .msg)) allPlaces 0 begun) (sym (arm .match .keys3))
+
+returns-6 : tie.Need-returns-6
+returns-6 c =
+    let arm = c .before in
+    let asked = arm .before .before in
+    let a = asked .before .before .before .before .args in
+    let r = arm .match .rest in
+    c .judge-execution .ensures ∙ ap (λ (n : ℕ). judgeWalk n (a .count) (now (a .bits)) (now (a .msg)) allPlaces 0 begun) (sym (only-execution (a .message) (a .count) (now (a .bits)) (r .0 .0 .1) (r .0 .1) (r .1) (sym (asked .is-plain .ensures) ∙ not-false _ (arm .before .if2 .left))))
 
 pub judge-all-spec : {M : Type 1} → statement M
 judge-all-spec =
     tie.close
     (tie.spec
-    Inv-loop
-    μ-loop
-    loop-holds
-    cast-value
-    shared-slice-read-value
-    add-j
-    judge-next-requires
-    loop-less
-    loop-again
-    returns)
+    returns
+    is-plain-requires
+    judge-loop-requires
+    returns-2
+    judge-new-order-requires
+    cancel-order-bytes-requires
+    judge-acknowledgment-requires
+    judge-execution-requires
+    returns-3
+    returns-4
+    returns-5
+    returns-6)

@@ -1,5 +1,5 @@
--- `block_judge::judge_next` meets its contract: a byte without a set bit leaves the state. Assumes nothing.
-use Rattle.block.specs.Loops.{byte-clear}
+-- `block_judge::judge_next` meets its contract: a byte that is not there or has no set bit leaves the state. Assumes nothing.
+use Rattle.block.specs.Loops.{byte-given, byte-clear}
 use Rattle.block.specs.Walk.{judgeEntry}
 use Rattle.block_judge.specs.State.{judging}
 use denote.Ref.{now}
@@ -8,14 +8,29 @@ use borrow.Author.Needs.{needs}
 use Rattle.block_judge.proofs.judge_next.Statement.{statement}
 use Rattle.block_judge.proofs.judge_next.Tie as tie
 
-returns : tie.Need-returns
-returns c = let a = c .before .before .args in (byte-clear (judgeEntry (now (a .msg))) (a .message) (a .byte) (a .value) (judging (a .t)) (c .if1 .taken), omega arith)
+byte-of-requires : tie.Need-byte-of-requires
+byte-of-requires c κs = search needs
 
-judge-byte-requires : tie.Need-judge-byte-requires
-judge-byte-requires c κs = search needs
+returns : tie.Need-returns
+returns c =
+    let start = c .before .before .before .before in
+    let a = start .args in
+    let m = judgeEntry (now (a .msg)) in (
+      byte-given m (a .message) (a .count) (now (a .bits)) (a .byte) _ (judging (a .t)) _ (omega arith) (omega arith) (c .before .byte-of .ensures) (byte-clear m (a .message) (a .byte) _ (judging (a .t)) (c .if1 .taken)),
+      omega arith,
+    )
+
+judge-bits-requires : tie.Need-judge-bits-requires
+judge-bits-requires c κs = search needs
 
 returns-2 : tie.Need-returns-2
-returns-2 c = search needs
+returns-2 c =
+    let read = c .before .before in
+    let start = read .before .before .before in
+    let a = start .args in (
+      byte-given (judgeEntry (now (a .msg))) (a .message) (a .count) (now (a .bits)) (a .byte) _ (judging (a .t)) _ (omega arith) (omega arith) (read .byte-of .ensures) (c .judge-bits .ensures .0),
+      omega (arith, c .judge-bits .ensures .1),
+    )
 
 pub judge-next-spec : {M : Type 1} → statement M
-judge-next-spec = tie.close (tie.spec returns judge-byte-requires returns-2)
+judge-next-spec = tie.close (tie.spec byte-of-requires returns judge-bits-requires returns-2)
