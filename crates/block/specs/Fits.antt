@@ -97,5 +97,5 @@ module _ (message count : ℕ) (bits : List ℕ) where
       ap (λ (m : ℕ). left message count bits m (8 * (byte - 1))) n
       ∙ left-add 8 (allPlaces - 8 * byte) (8 * (byte - 1))
       ∙ ap₂ (λ (x y : ℕ). x + y)
-        (left-eight (byte - 1) value (ltb (byte - 1) count) refl v ∙ ap (λ (y : ℕ). bitsTake message y 8 0 value) b)
-        (ap (λ (m : ℕ). left message count bits (allPlaces - 8 * byte) m) k)
+      (left-eight (byte - 1) value (ltb (byte - 1) count) refl v ∙ ap (λ (y : ℕ). bitsTake message y 8 0 value) b)
+      (ap (λ (m : ℕ). left message count bits (allPlaces - 8 * byte) m) k)
