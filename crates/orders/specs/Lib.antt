@@ -1,4 +1,5 @@
 pub mod Shapes
+pub mod Rests
 pub mod Orders
 pub mod OrderLaws
 pub mod RoundTrip

@@ -60,17 +60,3 @@ fixedGood message f =
     (cond (eqb message 0x39) (cancelOrderGood f)
     (cond (eqb message 0x25) (acknowledgmentGood f)
     (executionGood f)))
-
--- where the identifier that every fixed part has stands in it: at 0 in the member's messages, at 8, after TransactionTime, in the venue's
-unfoldable pub nameAt : ℕ → ℕ
-nameAt message = cond (eqb message 0x38) 0 (cond (eqb message 0x39) 0 8)
-
--- what follows the identifier in New Order, and in Order Execution
-abbrev pub newOrderRest : List ℕ → Bool
-newOrderRest f = agreesFilledOf Alphanumeric (take 1 (drop 20 f)) && (leb 1 (numberAt 4 21 f) && leb (numberAt 4 21 f) 999999)
-
-abbrev pub executionRest : List ℕ → Bool
-executionRest f =
-    agreesOf Alphanumeric (take 1 (drop 52 f))
-    && (agreesOf Alphanumeric (take 1 (drop 53 f))
-    && agreesOf Alphanumeric (take 4 (drop 54 f)))

@@ -1,5 +1,6 @@
 -- `orders::fixed_good` meets its contract: every fixed part is its identifier and, in two types, more to test. Assumes nothing.
-use Rattle.orders.specs.Shapes.{countAt, nameAt, newOrderGood, cancelOrderGood, acknowledgmentGood, executionGood, newOrderRest, executionRest, fixedGood}
+use Rattle.orders.specs.Shapes.{countAt, newOrderGood, cancelOrderGood, acknowledgmentGood, executionGood, fixedGood}
+use Rattle.orders.specs.Rests.{nameAt, newOrderRest, executionRest}
 use Rattle.kinds.specs.declared.Kind.the-variants.{Identifier}
 use Rattle.kinds.specs.Kinds.{agreesFilledOf}
 use mathlib.Core.Path.{_≡_, refl, sym, ap, ap₂, _∙_}

@@ -1,5 +1,5 @@
 -- `orders::name_at` meets its contract. Assumes nothing.
-use Rattle.orders.specs.Shapes.{nameAt}
+use Rattle.orders.specs.Rests.{nameAt}
 use borrow.Author.Tests.{ne-eqb}
 use Rattle.orders.proofs.name_at.Statement.{statement}
 use Rattle.orders.proofs.name_at.Tie as tie
