@@ -4,21 +4,21 @@ ghost use Prim.Native.Nat.{_+_, _*_, _-_, _%_, _≤_};
 ghost use lib.Dec.{eqb};
 ghost use lib.ListN.{length};
 ghost use Rattle.dictionary.specs.Dictionary.{entryOf};
+ghost use Rattle.block.specs.Slots.{takes, sum};
+ghost use Rattle.block.specs.Places.{slotsOf};
 ghost use Rattle.block.specs.Walk.{pick, inByte, giveField, giveEntry};
+ghost use Rattle.block.specs.Fits.{bitTakes, bitsTake, left};
 ghost use Rattle.block_write.specs.State.{giving, giveWalk};
 ghost use Rattle.block.specs.Sizes.{allPlaces, layoutSize};
 use dictionary::Entry;
 
-// One field of a layout to a place of the message: where the next one goes.
+// One field of a layout to a place of the message, which has room for it: where the next one goes.
 fn give_field(width: u8, place: u8, layout: &[u8], out: &mut [u8], at: usize) -> usize
-    requires { ⌜ (place + width ≤ length (now layout)) × (place + width ≤ layoutSize) × (at ≤ length (now out)) ⌝ }
-    ensures { λ r. ⌜ (giving r (now (out .exit)) ≡ giveField (now (layout .entry)) width place (giving at (now (out .entry)))) × (r ≤ length (now (out .entry))) ⌝ }
+    requires { ⌜ (place + width ≤ length (now layout)) × (place + width ≤ layoutSize) × (at + width ≤ length (now out)) ⌝ }
+    ensures { λ r. ⌜ (giving r (now (out .exit)) ≡ giveField (now (layout .entry)) width place (giving at (now (out .entry)))) × (r ≡ at + width) ⌝ }
 {
     let w = width as usize;
     let p = place as usize;
-    if out.len() - at < w {
-        return at;
-    }
     let end = p + w;
     let next = at + w;
     block::move_field(&layout[p..end], &mut out[at..]);
@@ -35,8 +35,8 @@ fn give_bit(
     out: &mut [u8],
     at: usize,
 ) -> usize
-    requires { ⌜ (length (now layout) ≡ layoutSize) × (at ≤ length (now out)) ⌝ }
-    ensures { λ r. ⌜ (giving r (now (out .exit)) ≡ pick (eqb (x % 2) 1) (giveEntry (now (layout .entry)) (entryOf message byte bit) (giving at (now (out .entry)))) (giving at (now (out .entry)))) × (r ≤ length (now (out .entry))) ⌝ }
+    requires { ⌜ (length (now layout) ≡ layoutSize) × (at + bitTakes (eqb (x % 2) 1) (entryOf message byte bit) ≤ length (now out)) ⌝ }
+    ensures { λ r. ⌜ (giving r (now (out .exit)) ≡ pick (eqb (x % 2) 1) (giveEntry (now (layout .entry)) (entryOf message byte bit) (giving at (now (out .entry)))) (giving at (now (out .entry)))) × (r ≡ at + bitTakes (eqb (x % 2) 1) (entryOf message byte bit)) ⌝ }
 {
     if x % 2 == 1 {
         let e = dictionary::entry_of(message, byte, bit);
@@ -63,8 +63,8 @@ fn give_bits(
     out: &mut [u8],
     start: usize,
 ) -> usize
-    requires { ⌜ (length (now layout) ≡ layoutSize) × (byte ≤ 15) × (end ≡ 8 * byte) × (start ≤ length (now out)) ⌝ }
-    ensures { λ r. ⌜ (giving r (now (out .exit)) ≡ inByte (giveEntry (now (layout .entry))) message byte value (giving start (now (out .entry)))) × (r ≤ length (now (out .entry))) ⌝ }
+    requires { ⌜ (length (now layout) ≡ layoutSize) × (byte ≤ 15) × (end ≡ 8 * byte) × (start + bitsTake message byte 8 0 value ≤ length (now out)) ⌝ }
+    ensures { λ r. ⌜ (giving r (now (out .exit)) ≡ inByte (giveEntry (now (layout .entry))) message byte value (giving start (now (out .entry)))) × (r ≡ start + bitsTake message byte 8 0 value) ⌝ }
 {
     let n = end + 8 - 8 * byte;
     let mut x = value;
@@ -80,8 +80,8 @@ fn give_bits(
 
 // The same of any byte: its places follow from it.
 fn give_any(message: u8, byte: u8, value: u8, layout: &[u8], out: &mut [u8], at: usize) -> usize
-    requires { ⌜ (length (now layout) ≡ layoutSize) × (byte ≤ 15) × (at ≤ length (now out)) ⌝ }
-    ensures { λ r. ⌜ (giving r (now (out .exit)) ≡ inByte (giveEntry (now (layout .entry))) message byte value (giving at (now (out .entry)))) × (r ≤ length (now (out .entry))) ⌝ }
+    requires { ⌜ (length (now layout) ≡ layoutSize) × (byte ≤ 15) × (at + bitsTake message byte 8 0 value ≤ length (now out)) ⌝ }
+    ensures { λ r. ⌜ (giving r (now (out .exit)) ≡ inByte (giveEntry (now (layout .entry))) message byte value (giving at (now (out .entry)))) × (r ≡ at + bitsTake message byte 8 0 value) ⌝ }
 {
     give_bits(message, byte, 8 * byte, value, layout, out, at)
 }
@@ -97,8 +97,8 @@ fn give_next(
     out: &mut [u8],
     at: usize,
 ) -> usize
-    requires { ⌜ (length (now layout) ≡ layoutSize) × (count ≤ length (now bits)) × (count ≤ 15) × (1 ≤ byte) × (byte ≤ 15) × (end ≡ 8 * byte) × (at ≤ length (now out)) ⌝ }
-    ensures { λ r. ⌜ (giveWalk message count (now (bits .entry)) (now (layout .entry)) (allPlaces - 8 * byte) (8 * byte) (giving r (now (out .exit))) ≡ giveWalk message count (now (bits .entry)) (now (layout .entry)) (allPlaces - 8 * (byte - 1)) (8 * (byte - 1)) (giving at (now (out .entry)))) × (r ≤ length (now (out .entry))) ⌝ }
+    requires { ⌜ (length (now layout) ≡ layoutSize) × (count ≤ length (now bits)) × (count ≤ 15) × (1 ≤ byte) × (byte ≤ 15) × (end ≡ 8 * byte) × (at + left message count (now bits) (allPlaces - 8 * (byte - 1)) (8 * (byte - 1)) ≤ length (now out)) ⌝ }
+    ensures { λ r. ⌜ (giveWalk message count (now (bits .entry)) (now (layout .entry)) (allPlaces - 8 * byte) (8 * byte) (giving r (now (out .exit))) ≡ giveWalk message count (now (bits .entry)) (now (layout .entry)) (allPlaces - 8 * (byte - 1)) (8 * (byte - 1)) (giving at (now (out .entry)))) × (r + left message count (now (bits .entry)) (allPlaces - 8 * byte) (8 * byte) ≤ length (now (out .entry))) ⌝ }
 {
     let value = block::byte_of(bits, count, byte);
     if value == 0 {
@@ -110,7 +110,7 @@ fn give_next(
 // New Order: the bytes that it lists, one after another. There the compiler knows message and byte and folds the dictionary away; a byte that is
 // not listed gives nothing.
 fn new_order_bytes(bits: &[u8], count: u8, layout: &[u8], out: &mut [u8], start: usize) -> usize
-    requires { ⌜ (length (now layout) ≡ layoutSize) × (count ≤ length (now bits)) × (count ≤ 15) × (start ≤ length (now out)) ⌝ }
+    requires { ⌜ (length (now layout) ≡ layoutSize) × (count ≤ length (now bits)) × (count ≤ 15) × (start + left 0x38 count (now bits) allPlaces 0 ≤ length (now out)) ⌝ }
     ensures { λ r. ⌜ giving r (now (out .exit)) ≡ giveWalk 0x38 count (now (bits .entry)) (now (layout .entry)) allPlaces 0 (giving start (now (out .entry))) ⌝ }
 {
     let a = give_next(0x38, 1, 8, bits, count, layout, out, start);
@@ -122,7 +122,7 @@ fn new_order_bytes(bits: &[u8], count: u8, layout: &[u8], out: &mut [u8], start:
 
 // The same of Cancel Order.
 fn cancel_order_bytes(bits: &[u8], count: u8, layout: &[u8], out: &mut [u8], start: usize) -> usize
-    requires { ⌜ (length (now layout) ≡ layoutSize) × (count ≤ length (now bits)) × (count ≤ 15) × (start ≤ length (now out)) ⌝ }
+    requires { ⌜ (length (now layout) ≡ layoutSize) × (count ≤ length (now bits)) × (count ≤ 15) × (start + left 0x39 count (now bits) allPlaces 0 ≤ length (now out)) ⌝ }
     ensures { λ r. ⌜ giving r (now (out .exit)) ≡ giveWalk 0x39 count (now (bits .entry)) (now (layout .entry)) allPlaces 0 (giving start (now (out .entry))) ⌝ }
 {
     give_next(0x39, 1, 8, bits, count, layout, out, start)
@@ -136,7 +136,7 @@ fn acknowledgment_bytes(
     out: &mut [u8],
     start: usize,
 ) -> usize
-    requires { ⌜ (length (now layout) ≡ layoutSize) × (count ≤ length (now bits)) × (count ≤ 15) × (start ≤ length (now out)) ⌝ }
+    requires { ⌜ (length (now layout) ≡ layoutSize) × (count ≤ length (now bits)) × (count ≤ 15) × (start + left 0x25 count (now bits) allPlaces 0 ≤ length (now out)) ⌝ }
     ensures { λ r. ⌜ giving r (now (out .exit)) ≡ giveWalk 0x25 count (now (bits .entry)) (now (layout .entry)) allPlaces 0 (giving start (now (out .entry))) ⌝ }
 {
     let a = give_next(0x25, 1, 8, bits, count, layout, out, start);
@@ -147,7 +147,7 @@ fn acknowledgment_bytes(
 
 // The same of Order Execution.
 fn execution_bytes(bits: &[u8], count: u8, layout: &[u8], out: &mut [u8], start: usize) -> usize
-    requires { ⌜ (length (now layout) ≡ layoutSize) × (count ≤ length (now bits)) × (count ≤ 15) × (start ≤ length (now out)) ⌝ }
+    requires { ⌜ (length (now layout) ≡ layoutSize) × (count ≤ length (now bits)) × (count ≤ 15) × (start + left 0x2C count (now bits) allPlaces 0 ≤ length (now out)) ⌝ }
     ensures { λ r. ⌜ giving r (now (out .exit)) ≡ giveWalk 0x2C count (now (bits .entry)) (now (layout .entry)) allPlaces 0 (giving start (now (out .entry))) ⌝ }
 {
     let a = give_next(0x2C, 1, 8, bits, count, layout, out, start);
@@ -164,7 +164,7 @@ fn give_loop(
     out: &mut [u8],
     start: usize,
 ) -> usize
-    requires { ⌜ (length (now layout) ≡ layoutSize) × (count ≤ length (now bits)) × (count ≤ 15) × (start ≤ length (now out)) ⌝ }
+    requires { ⌜ (length (now layout) ≡ layoutSize) × (count ≤ length (now bits)) × (count ≤ 15) × (start + left message count (now bits) allPlaces 0 ≤ length (now out)) ⌝ }
     ensures { λ r. ⌜ giving r (now (out .exit)) ≡ giveWalk message count (now (bits .entry)) (now (layout .entry)) allPlaces 0 (giving start (now (out .entry))) ⌝ }
 {
     let mut j: u8 = 0;
@@ -177,7 +177,7 @@ fn give_loop(
     at
 }
 
-// All fields that the first `count` bitfield bytes select, from a place of the message on.
+// All fields that the first `count` bitfield bytes select, from a place of the message on; it has room for them.
 pub fn give_all(
     message: u8,
     bits: &[u8],
@@ -186,7 +186,7 @@ pub fn give_all(
     out: &mut [u8],
     start: usize,
 ) -> usize
-    requires { ⌜ (length (now layout) ≡ layoutSize) × (count ≤ length (now bits)) × (count ≤ 15) × (start ≤ length (now out)) ⌝ }
+    requires { ⌜ (length (now layout) ≡ layoutSize) × (count ≤ length (now bits)) × (count ≤ 15) × (start + sum takes (slotsOf message count (now bits)) ≤ length (now out)) ⌝ }
     ensures { λ r. ⌜ giving r (now (out .exit)) ≡ giveWalk message count (now (bits .entry)) (now (layout .entry)) allPlaces 0 (giving start (now (out .entry))) ⌝ }
 {
     if count == 0 {

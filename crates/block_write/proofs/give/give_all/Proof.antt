@@ -5,6 +5,7 @@ use denote.Ref.{now}
 use Rattle.block.specs.Walk.{giveEntry}
 use Rattle.block.specs.Loops.{bytes-end}
 use Rattle.block_write.specs.State.{giving}
+use Rattle.block_write.proofs.Given.{left-of}
 use borrow.Author.Needs.{needs}
 use Rattle.block_write.proofs.give.give_all.Statement.{statement}
 use Rattle.block_write.proofs.give.give_all.Tie as tie
@@ -15,16 +16,24 @@ returns c =
     bytes-end (giveEntry (now (a .layout))) (a .message) (a .count) (now (a .bits)) 0 (giving (a .start) (now (a .out))) _ (omega arith) refl
 
 new-order-bytes-requires : tie.Need-new-order-bytes-requires
-new-order-bytes-requires c κs = search needs
+new-order-bytes-requires c κs =
+    let a = c .before .before .before .before .before .before .args in
+    omega (arith, left-of (a .count) (now (a .bits)) (c .before .match .keys1))
 
 cancel-order-bytes-requires : tie.Need-cancel-order-bytes-requires
-cancel-order-bytes-requires c κs = search needs
+cancel-order-bytes-requires c κs =
+    let a = c .before .before .before .before .before .before .args in
+    omega (arith, left-of (a .count) (now (a .bits)) (c .before .match .keys2))
 
 acknowledgment-bytes-requires : tie.Need-acknowledgment-bytes-requires
-acknowledgment-bytes-requires c κs = search needs
+acknowledgment-bytes-requires c κs =
+    let a = c .before .before .before .before .before .before .args in
+    omega (arith, left-of (a .count) (now (a .bits)) (c .before .match .keys3))
 
 execution-bytes-requires : tie.Need-execution-bytes-requires
-execution-bytes-requires c κs = search needs
+execution-bytes-requires c κs =
+    let a = c .before .before .before .before .before .before .args in
+    omega (arith, left-of (a .count) (now (a .bits)) (c .before .match .keys4))
 
 give-loop-requires : tie.Need-give-loop-requires
 give-loop-requires c κs = search needs

@@ -5,10 +5,12 @@ use native.Mathlib.Omega.{arith}
 use borrow.Author.Tests.{eq-eqb, ne-eqb}
 use borrow.Author.Needs.{needs}
 use denote.Ref.{now}
+use Rattle.dictionary.specs.Dictionary.{entryOf}
 use Rattle.block.specs.Dictionaries.{field-fits}
 use Rattle.block.specs.Loops.{bit-set, bit-unset}
 use Rattle.block.specs.Walk.{giveEntry}
 use Rattle.block_write.specs.State.{giving}
+use Rattle.block_write.proofs.Given.{set-takes, unset-takes}
 use Rattle.block_write.proofs.give.give_bit.Statement.{statement}
 use Rattle.block_write.proofs.give.give_bit.Tie as tie
 
@@ -25,15 +27,19 @@ give-field-requires : tie.Need-give-field-requires
 give-field-requires c κs =
     let known = c .before .before in
     let looked = known .before .before in
-    let fits = field-fits _ _ _ (sym (known .e .given .1) ∙ looked .entry-of .ensures) in
-    (omega (arith, fits), omega (arith, fits), looked .before .before .before .before .pre .1)
+    let here = sym (known .e .given .1) ∙ looked .entry-of .ensures in
+    let fits = field-fits _ _ _ here in
+    let room = set-takes _ _ (eq-eqb _ _ (looked .before .if1 .taken)) here in
+    (omega (arith, fits), omega (arith, fits), omega (arith, room))
 
 returns : tie.Need-returns
 unfolding giveEntry
 returns c =
     let looked = c .before .before in
     let a = looked .before .before .before .before .args in
-    (bit-set (giveEntry (now (a .layout))) _ _ (giving (a .at) (now (a .out))) (eq-eqb _ _ (looked .before .if1 .taken)) (sym (c .enum-told .given .1) ∙ looked .entry-of .ensures) refl, looked .before .before .before .before .pre .1)
+    let set = eq-eqb _ _ (looked .before .if1 .taken) in
+    let here = sym (c .enum-told .given .1) ∙ looked .entry-of .ensures in
+    (bit-set (giveEntry (now (a .layout))) _ _ (giving (a .at) (now (a .out))) set here refl, omega (arith, set-takes _ _ set here))
 
 same-length : tie.Need-same-length
 same-length c = search needs
@@ -45,12 +51,15 @@ returns-2 c =
     let known = given .before .before .before in
     let looked = known .before .before in
     let a = looked .before .before .before .before .args in
-    (bit-set (giveEntry (now (a .layout))) _ _ (giving (a .at) (now (a .out))) (eq-eqb _ _ (looked .before .if1 .taken)) (sym (known .e .given .1) ∙ looked .entry-of .ensures) (given .give-field .ensures .0), given .give-field .ensures .1)
+    let set = eq-eqb _ _ (looked .before .if1 .taken) in
+    let here = sym (known .e .given .1) ∙ looked .entry-of .ensures in
+    (bit-set (giveEntry (now (a .layout))) _ _ (giving (a .at) (now (a .out))) set here (given .give-field .ensures .0), omega (arith, set-takes _ _ set here, given .give-field .ensures .1))
 
 returns-3 : tie.Need-returns-3
 returns-3 c =
     let a = c .before .before .before .args in
-    (bit-unset (giveEntry (now (a .layout))) _ _ (giving (a .at) (now (a .out))) (ne-eqb _ _ (c .if1 .left)), c .before .before .before .pre .1)
+    let unset = ne-eqb _ _ (c .if1 .left) in
+    (bit-unset (giveEntry (now (a .layout))) _ _ (giving (a .at) (now (a .out))) unset, omega (arith, unset-takes _ (entryOf (a .message) (a .byte) (a .bit)) unset))
 
 pub give-bit-spec : {M : Type 1} → statement M
 give-bit-spec =

@@ -1,22 +1,14 @@
--- `block_write::give::give_field` meets its contract: where the message has no room for the field, nothing changes; else it is the part of the layout
--- that `move_field` puts into the lent tail of the message. Assumes nothing.
+-- `block_write::give::give_field` meets its contract: the field is the part of the layout that `move_field` puts into the lent tail of the message.
+-- Assumes nothing.
+use mathlib.Core.Path.{refl}
 use native.Mathlib.Omega.{arith}
 use denote.Ref.{now}
 use Rattle.numbers.proofs.Tail.{lent-patched}
 use Rattle.block_write.specs.State.{giving}
-use Rattle.block_write.proofs.One.{given-is, kept-is}
+use Rattle.block_write.proofs.One.{given-is}
 use borrow.Author.Needs.{needs}
 use Rattle.block_write.proofs.give.give_field.Statement.{statement}
 use Rattle.block_write.proofs.give.give_field.Tie as tie
-
-sub-if1 : tie.Need-sub-if1
-sub-if1 c = search needs
-
-returns : tie.Need-returns
-returns c =
-    let start = c .before .before .before in
-    let a = start .args in
-    (kept-is (now (a .layout)) (a .width) (a .place) (giving (a .at) (now (a .out))) (omega arith), start .pre .2)
 
 add-end : tie.Need-add-end
 add-end c = search needs
@@ -48,22 +40,20 @@ move-field-requires c κs = search needs
 same-length : tie.Need-same-length
 same-length c = search needs
 
-returns-2 : tie.Need-returns-2
-returns-2 c =
+returns : tie.Need-returns
+returns c =
     let moved = c .before .before in
-    let start = moved .before .before .before .before .before .before in
+    let start = moved .before .before .before .before .before in
     let a = start .args in (
       given-is (now (a .layout)) (a .width) (a .place) (giving (a .at) (now (a .out))) (omega arith)
           (lent-patched (now (a .out)) (a .at) _ (omega arith) (moved .move-field .ensures)),
-      omega arith,
+      refl,
     )
 
 pub give-field-spec : {M : Type 1} → statement M
 give-field-spec =
     tie.close
     (tie.spec
-    sub-if1
-    returns
     add-end
     add-next
     sub-move-field
@@ -74,4 +64,4 @@ give-field-spec =
     part-move-field-end-2
     move-field-requires
     same-length
-    returns-2)
+    returns)

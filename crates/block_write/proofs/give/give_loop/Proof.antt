@@ -1,13 +1,15 @@
 -- `block_write::give::give_loop` meets its contract. The loop's invariant: the message keeps its length, and the walk over the places of the other bytes,
--- from the state reached, ends as the walk over all 120. The measure is the count of bytes that are left. Assumes nothing.
+-- from the state reached, ends as the walk over all 120; what they select fits. The measure is the count of bytes that are left. Assumes nothing.
 use mathlib.Core.Path.{_≡_, refl, _∙_}
-use Prim.Native.Nat.{_*_, _-_, _≤_}
+use Prim.Native.Nat.{_+_, _*_, _-_, _≤_}
 use native.Mathlib.Omega.{arith}
 use lib.ListN.{length}
 use denote.Ref.{now}
 use Rattle.block.specs.Walk.{giveEntry}
 use Rattle.block.specs.Loops.{byte-turn, bytes-end}
+use Rattle.block.specs.Fits.{left}
 use Rattle.block_write.specs.State.{giving, giveWalk}
+use Rattle.block_write.proofs.Given.{left-turn}
 use borrow.Author.Needs.{needs}
 use Rattle.block_write.proofs.give.give_loop.Statement.{statement}
 use Rattle.block_write.proofs.give.give_loop.Tie as tie
@@ -17,7 +19,7 @@ abbrev Inv-loop : tie.InvT-loop
 Inv-loop message bits count layout out₀ start j₀ at₀ out j at =
     (j ≤ count)
     × (length out ≡ length out₀)
-    × (at ≤ length out₀)
+    × (at + left message count bits (allPlaces - 8 * j) (8 * j) ≤ length out₀)
     × (giveWalk message count bits layout (allPlaces - 8 * j) (8 * j) (giving at out) ≡ giveWalk message count bits layout allPlaces 0 (giving start out₀))
 
 abbrev μ-loop : tie.MeasureT-loop
@@ -36,7 +38,13 @@ add-j : tie.Need-add-j Inv-loop μ-loop
 add-j c = search needs
 
 give-any-requires : tie.Need-give-any-requires Inv-loop μ-loop
-give-any-requires c κs = search needs
+give-any-requires c κs =
+    let in-loop = c .before .before in
+    let at-loop = in-loop .before in
+    let start = at-loop .before .before .before .before in
+    let a = start .args in
+    let inv = at-loop .loop .inv in
+    (start .pre .0, omega arith, omega (arith, inv .1, inv .2, left-turn (a .message) (a .count) (now (a .bits)) (at-loop .loop .j) _ (in-loop .loop-test .taken) (start .pre .2) refl))
 
 loop-less : tie.Need-loop-less Inv-loop μ-loop
 loop-less c = search needs
@@ -51,7 +59,7 @@ loop-again c =
     let inv = at-loop .loop .inv in (
       omega arith,
       given .give-any .kept .1 .1 .1 .1 .0 ∙ inv .1,
-      omega (arith, given .give-any .ensures .1, inv .1),
+      omega (arith, given .give-any .ensures .1, inv .2, left-turn (a .message) (a .count) (now (a .bits)) (at-loop .loop .j) _ (in-loop .loop-test .taken) (start .pre .2) refl),
       byte-turn (giveEntry (now (a .layout))) (a .message) (a .count) (now (a .bits)) (at-loop .loop .j) _ (giving (at-loop .loop .at) (at-loop .loop .out)) _ _ (in-loop .loop-test .taken) (start .pre .2) refl (given .give-any .ensures .0) (inv .3),
     )
 

@@ -1,5 +1,8 @@
--- `block_write::give::give_next` meets its contract: a byte that is not there or has no set bit leaves the state. Assumes nothing.
+-- `block_write::give::give_next` meets its contract: a byte that is not there or has no set bit leaves the state. What is left to give is the byte's
+-- and then the others'. Assumes nothing.
+use native.Mathlib.Omega.{arith}
 use Rattle.block.specs.Loops.{byte-clear, byte-given}
+use Rattle.block.specs.Fits.{left-byte}
 use Rattle.block.specs.Walk.{giveEntry}
 use Rattle.block_write.specs.State.{giving}
 use denote.Ref.{now}
@@ -18,11 +21,15 @@ returns c =
     let st = giving (a .at) (now (a .out)) in (
       byte-given (giveEntry (now (a .layout))) (a .message) (a .count) (now (a .bits)) (a .byte) _ st st (start .pre .3) (start .pre .2) (told .byte-of .ensures)
           (byte-clear (giveEntry (now (a .layout))) (a .message) (a .byte) _ st (c .if1 .taken)),
-      start .pre .6,
+      omega (arith, start .pre .6, left-byte (a .message) (a .count) (now (a .bits)) (a .byte) _ (start .pre .3) (start .pre .4) (told .byte-of .ensures)),
     )
 
 give-bits-requires : tie.Need-give-bits-requires
-give-bits-requires c κs = search needs
+give-bits-requires c κs =
+    let told = c .before .before in
+    let start = told .before .before .before .before in
+    let a = start .args in
+    (start .pre .0, start .pre .4, start .pre .5, omega (arith, start .pre .6, left-byte (a .message) (a .count) (now (a .bits)) (a .byte) _ (start .pre .3) (start .pre .4) (told .byte-of .ensures)))
 
 same-length : tie.Need-same-length
 same-length c = search needs
@@ -35,7 +42,7 @@ returns-2 c =
     let a = start .args in (
       byte-given (giveEntry (now (a .layout))) (a .message) (a .count) (now (a .bits)) (a .byte) _ (giving (a .at) (now (a .out))) _ (start .pre .3) (start .pre .2) (told .byte-of .ensures)
           (given .give-bits .ensures .0),
-      given .give-bits .ensures .1,
+      omega (arith, start .pre .6, given .give-bits .ensures .1, left-byte (a .message) (a .count) (now (a .bits)) (a .byte) _ (start .pre .3) (start .pre .4) (told .byte-of .ensures)),
     )
 
 pub give-next-spec : {M : Type 1} → statement M
