@@ -1,10 +1,10 @@
 -- One field looked at and one given, on plain values. Assumes nothing.
 use mathlib.Core.Path.{_≡_, ap, ap₂, _∙_}
 use mathlib.Core.List.{List}
-use Prim.Native.Nat.{ℕ, _+_, _-_, _≤_, _<_}
+use Prim.Native.Nat.{ℕ, _+_, _-_, _≤_}
 use native.Mathlib.Omega.{arith}
 use lib.ListN.{length, take, drop}
-use borrow.Author.Tests.{le-leb, lt-leb}
+use borrow.Author.Tests.{le-leb}
 use Rattle.kinds.specs.declared.Kind.{Kind}
 use Rattle.kinds.specs.Kinds.{agreesOf}
 use Rattle.numbers.specs.Numbers.{patched}
@@ -36,7 +36,3 @@ module _ (v : List ℕ) (w p : ℕ) where
   given-is st {l} h e =
       rw (le-leb (st .at + w) (length (st .buffer)) h)
       (ap (λ (b : List ℕ). record { at = st .at + w; buffer = b }) (e ∙ ap (patched (st .buffer) (st .at)) part-is))
-
-  -- not given, where it has none
-  pub kept-is : (st : Giving) → length (st .buffer) < st .at + w → st ≡ giveField v w p st
-  kept-is st h = rw (lt-leb (st .at + w) (length (st .buffer)) h)
