@@ -65,6 +65,9 @@ pub fn copy_few(from: &[u8], to: &mut [u8])
     ensures { λ _. ⌜ now (to .exit) ≡ patched (now (to .entry)) 0 (now (from .entry)) ⌝ }
 {
     let n = from.len();
+    if n == 0 {
+        return;
+    }
     if 8 <= n {
         both_ends(8, from, to);
         return;

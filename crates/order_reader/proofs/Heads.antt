@@ -1,64 +1,56 @@
--- The head of a message: its refusals by the tests that the code makes, and what a good head says of the places of the message.
+-- The head of a message: its refusals by its type, and what a good head says of the places of the message.
 -- Assumes nothing.
-use mathlib.Core.Path.{_≡_, sym, ap, ap₂, _∙_}
-use mathlib.Core.Bool.{Bool, true, false, cond, not, _||_, or-true}
+use mathlib.Core.Path.{_≡_, sym, ap, _∙_}
+use mathlib.Core.Bool.{Bool, true, false, cond, not, _||_}
 use mathlib.Core.List.{List}
-use Prim.Native.Nat.{ℕ, _+_, _≤_, _<_}
+use Prim.Native.Nat.{ℕ, _+_, _≤_}
 use native.Mathlib.Omega.{arith}
 use lib.Dec.{leb, ltb}
 use lib.ListN.{length, getD}
-use borrow.Author.Tests.{not-true, not-false, le-leb, lt-leb, ltb-false}
-use Rattle.refusals.specs.Names.{unknownType, badUnit, wrongTotal}
+use borrow.Author.Tests.{ltb-false, ne-eqb}
+use Rattle.refusals.specs.Names.{unknownType, badUnit}
 use Rattle.wire.specs.Header.{typeOf, unitOf}
 use Rattle.wire.specs.FrameLaws.{passed}
 use Rattle.orders.specs.Shapes.{ofMember, ofVenue, countAt, mostOf, unitGood}
 use Rattle.orders.specs.Orders.{headRefusal, countOf}
 use Rattle.orders.specs.OrderLaws.{count-bounds, most-bound}
-use Rattle.order_reader.specs.Stages.{countRefusal}
+use Rattle.order_reader.specs.Stages.{countRefusal, typeHead}
 use Rattle.block.specs.Sizes.{fixedEnd}
 
--- ---- the refusals by their tests
+-- ---- the refusals by the type
 
--- a type is known by either test, and unknown where both fail
-pub of-the-member : (message : ℕ) (a : Bool) → a ≡ ofMember message → not a ≡ false → (ofMember message || ofVenue message) ≡ true
-of-the-member message a e h = rw (sym e ∙ not-false a h)
+-- by whether the type is known, and the refusals of a message of it
+abbrev headBy : Bool → ℕ → ℕ
+headBy known rest = cond (not known) unknownType rest
 
-pub of-the-venue : (message : ℕ) (b : Bool) → b ≡ ofVenue message → not b ≡ false → (ofMember message || ofVenue message) ≡ true
-of-the-venue message b e h = rw (sym e ∙ not-false b h, or-true (ofMember message))
+module _ (m : List ℕ) (message : ℕ) (e : message ≡ typeOf m) where
+  head-is : headBy (ofMember message || ofVenue message) (typeHead message (countAt message) (mostOf message) m) ≡ headRefusal m
+  unfolding headRefusal typeHead countRefusal
+  head-is = ap (λ (x : ℕ). headBy (ofMember x || ofVenue x) (typeHead x (countAt x) (mostOf x) m)) e
 
-pub of-neither : (message : ℕ) (a b : Bool) → a ≡ ofMember message → b ≡ ofVenue message → not a ≡ true → not b ≡ true → (ofMember message || ofVenue message) ≡ false
-of-neither message a b e f h k = rw (sym e ∙ not-true a h, sym f ∙ not-true b k)
+  pub known-type : (kind : ℕ) → message ≡ kind → (ofMember kind || ofVenue kind) ≡ true → typeHead kind (countAt kind) (mostOf kind) m ≡ headRefusal m
+  known-type kind f known =
+      ap (λ (b : Bool). headBy b (typeHead kind (countAt kind) (mostOf kind) m)) (sym known)
+      ∙ ap (λ (x : ℕ). headBy (ofMember x || ofVenue x) (typeHead x (countAt x) (mostOf x) m)) (sym f)
+      ∙ head-is
 
--- by whether the type is known, whether the unit is good, whether the message ends before its count byte, and the refusal of the count
-abbrev headBy : Bool → Bool → Bool → ℕ → ℕ
-headBy known unit short rest = cond (not known) unknownType (cond (not unit) badUnit (cond short wrongTotal rest))
+  pub unknown-type : (message ≡ 0x38 → ⊥) → (message ≡ 0x39 → ⊥) → (message ≡ 0x25 → ⊥) → (message ≡ 0x2C → ⊥) → unknownType ≡ headRefusal m
+  unknown-type a b c d =
+      let none : (ofMember message || ofVenue message) ≡ false = rw (ne-eqb message 0x38 a, ne-eqb message 0x39 b, ne-eqb message 0x25 c, ne-eqb message 0x2C d) in
+      ap (λ (b : Bool). headBy b (typeHead message (countAt message) (mostOf message) m)) (sym none) ∙ head-is
 
-module _ (m : List ℕ) (message unit : ℕ) (e : message ≡ typeOf m) (f : unit ≡ unitOf m) where
-  head-is : headBy (ofMember message || ofVenue message) (unitGood message unit) (leb (length m) (countAt message)) (countRefusal message (countAt message) m) ≡ headRefusal m
-  unfolding headRefusal countRefusal
-  head-is = ap₂ (λ (x u : ℕ). headBy (ofMember x || ofVenue x) (unitGood x u) (leb (length m) (countAt x)) (countRefusal x (countAt x) m)) e f
+-- ---- those of a message of a type, by its unit
 
-  pub unknown-type : (ofMember message || ofVenue message) ≡ false → unknownType ≡ headRefusal m
-  unknown-type h =
-      ap (λ (b : Bool). headBy b (unitGood message unit) (leb (length m) (countAt message)) (countRefusal message (countAt message) m)) (sym h) ∙ head-is
+module _ (m : List ℕ) (message unit at most : ℕ) (f : unit ≡ unitOf m) (u : Bool) (g : u ≡ unitGood message unit) where
+  by-unit : cond (not u) badUnit (countRefusal at most m) ≡ typeHead message at most m
+  unfolding typeHead
+  by-unit = ap (λ (v : Bool). cond (not v) badUnit (countRefusal at most m)) (g ∙ ap (unitGood message) f)
 
-  module _ (known : (ofMember message || ofVenue message) ≡ true) (u : Bool) (g : u ≡ unitGood message unit) where
-    known-is : headBy true u (leb (length m) (countAt message)) (countRefusal message (countAt message) m) ≡ headRefusal m
-    known-is = ap₂ (λ (b v : Bool). headBy b v (leb (length m) (countAt message)) (countRefusal message (countAt message) m)) (sym known) g ∙ head-is
+  pub bad-unit : not u ≡ true → badUnit ≡ typeHead message at most m
+  bad-unit h = ap (λ (b : Bool). cond b badUnit (countRefusal at most m)) (sym h) ∙ by-unit
 
-    pub bad-unit : not u ≡ true → badUnit ≡ headRefusal m
-    bad-unit h = ap (λ (v : Bool). headBy true v (leb (length m) (countAt message)) (countRefusal message (countAt message) m)) (sym (not-true u h)) ∙ known-is
-
-    module _ (h : not u ≡ false) (at : ℕ) (there : at ≡ countAt message) where
-      counted : cond (leb (length m) at) wrongTotal (countRefusal message at m) ≡ headRefusal m
-      counted =
-          ap₂ (λ (v : Bool) (i : ℕ). headBy true v (leb (length m) i) (countRefusal message i m)) (sym (not-false u h)) there ∙ known-is
-
-      pub no-count : length m ≤ at → wrongTotal ≡ headRefusal m
-      no-count l = ap (λ (b : Bool). cond b wrongTotal (countRefusal message at m)) (sym (le-leb (length m) at l)) ∙ counted
-
-      pub by-count : at < length m → countRefusal message at m ≡ headRefusal m
-      by-count l = ap (λ (b : Bool). cond b wrongTotal (countRefusal message at m)) (sym (lt-leb (length m) at l)) ∙ counted
+  pub good-unit : not u ≡ false → countRefusal at most m ≡ typeHead message at most m
+  good-unit h = ap (λ (b : Bool). cond b badUnit (countRefusal at most m)) (sym h) ∙ by-unit
 
 -- ---- a good head
 

@@ -2,25 +2,30 @@
 use Prim.Native.Nat.{ℕ, _+_, _-_}
 use mathlib.Core.Bool.{cond, not, _&&_}
 use mathlib.Core.List.{List, _∷_, _++_}
-use lib.Dec.{ltb, eqb}
+use lib.Dec.{leb, ltb, eqb}
 use lib.ListN.{length, getD, take, drop}
 use Rattle.numbers.specs.Numbers.{bytesOf, patched}
-use Rattle.refusals.specs.Names.{wrongTotal, tooManyBitfields, unlistedBit, notSelected, badValue}
+use Rattle.refusals.specs.Names.{badUnit, wrongTotal, tooManyBitfields, unlistedBit, notSelected, badValue}
 use Rattle.wire.specs.Header.{typeOf, unitOf, numberOf}
 use Rattle.block.specs.Places.{hasRequired}
 use Rattle.block_judge.specs.declared.Judged.{Judged}
-use Rattle.orders.specs.Shapes.{countAt, mostOf, fixedGood}
+use Rattle.orders.specs.Shapes.{countAt, unitGood, fixedGood}
 use Rattle.block.specs.Slots.{zeros}
 use Rattle.orders.specs.Orders.{readRefusal, recordOf}
 use Rattle.order_records.specs.Records.{recordBytes}
 use Rattle.block.specs.Sizes.{fixedEnd}
 
--- 7; 6 if the bitfields do not fit, where the count byte stands at `at`
+-- 6 if the message ends before its count byte is whole; 7; 6 if the bitfields do not fit, where the count byte stands at `at` and says at most `most`
 unfoldable pub countRefusal : ℕ → ℕ → List ℕ → ℕ
-countRefusal message at m =
-    cond (ltb (mostOf message) (getD m at 0)) tooManyBitfields
+countRefusal at most m =
+    cond (leb (length m) at) wrongTotal
+    (cond (ltb most (getD m at 0)) tooManyBitfields
     (cond (ltb (length m) (at + 1 + getD m at 0)) wrongTotal
-    0)
+    0))
+
+-- 5, and then these, of a message of a type
+unfoldable pub typeHead : ℕ → ℕ → ℕ → List ℕ → ℕ
+typeHead message at most m = cond (not (unitGood message (unitOf m))) badUnit (countRefusal at most m)
 
 -- 8, 9, 6, 10 by what was taken of an optional block of `have` bytes
 unfoldable pub judgedOf : ℕ → ℕ → List ℕ → List ℕ → Judged → ℕ → ℕ

@@ -1,7 +1,7 @@
 // The reader of a message with bitfields: from a whole message to its record, or the number of the refusal.
 ghost use mathlib.Core.Path.{_≡_};
 ghost use mathlib.Core.List.{_∷_, _++_};
-ghost use Prim.Native.Nat.{_+_, _-_, _≤_, _<_};
+ghost use Prim.Native.Nat.{_+_, _-_, _≤_};
 ghost use lib.ListN.{length, take, drop};
 ghost use Rattle.numbers.specs.Numbers.{patched};
 ghost use Rattle.wire.specs.Header.{typeOf};
@@ -9,36 +9,43 @@ ghost use Rattle.block.specs.Slots.{zeros, takes, sum};
 ghost use Rattle.block.specs.Places.{slotsOf};
 ghost use Rattle.orders.specs.Shapes.{countAt};
 ghost use Rattle.orders.specs.Orders.{headRefusal, blockRefusal, layoutOf, readRefusal};
-ghost use Rattle.order_reader.specs.Stages.{countRefusal, judgedOf, frontBytes, thereBytes, readRecord};
+ghost use Rattle.order_reader.specs.Stages.{countRefusal, typeHead, judgedOf, frontBytes, thereBytes, readRecord};
 ghost use Rattle.block.specs.Sizes.{fixedEnd, fixedSize, layoutSize, recordSize};
 use block_judge::Judged;
 
-// 4; 5; 6 if the message ends before its count byte is whole; 7; 6 if the bitfields do not fit.
-fn head_refusal(m: &[u8], message: u8, at: usize) -> u8
-    requires { ⌜ (message ≡ typeOf (now m)) × (at ≡ countAt message) ⌝ }
+// 4; 5; 6 if the message ends before its count byte is whole; 7; 6 if the bitfields do not fit. Each type's numbers are literals.
+fn head_refusal(m: &[u8], message: u8) -> u8
+    requires { ⌜ message ≡ typeOf (now m) ⌝ }
     ensures { λ r. ⌜ r ≡ headRefusal (now (m .entry)) ⌝ }
 {
-    if !orders::of_member(message) {
-        if !orders::of_venue(message) {
-            return refusals::UNKNOWN_TYPE;
-        }
+    match message {
+        0x38 => type_head(m, 0x38, 35, 10),
+        0x39 => type_head(m, 0x39, 30, 2),
+        0x25 => type_head(m, 0x25, 47, 15),
+        0x2C => type_head(m, 0x2C, 69, 15),
+        _ => refusals::UNKNOWN_TYPE,
     }
+}
+
+// The refusals after 4 of a message of a type, whose count stands at a place and which has at most so many bitfields.
+fn type_head(m: &[u8], message: u8, at: usize, most: u8) -> u8
+    ensures { λ r. ⌜ r ≡ typeHead message at most (now (m .entry)) ⌝ }
+{
     if !orders::unit_good(message, wire::header::unit_of(m)) {
         return refusals::BAD_UNIT;
     }
+    count_refusal(m, at, most)
+}
+
+// Those after 5.
+fn count_refusal(m: &[u8], at: usize, most: u8) -> u8
+    ensures { λ r. ⌜ r ≡ countRefusal at most (now (m .entry)) ⌝ }
+{
     if m.len() <= at {
         return refusals::WRONG_TOTAL;
     }
-    count_refusal(m, message, at)
-}
-
-// The last two of them.
-fn count_refusal(m: &[u8], message: u8, at: usize) -> u8
-    requires { ⌜ at < length (now m) ⌝ }
-    ensures { λ r. ⌜ r ≡ countRefusal message at (now (m .entry)) ⌝ }
-{
     let count = m[at];
-    if orders::most_of(message) < count {
+    if most < count {
         return refusals::TOO_MANY_BITFIELDS;
     }
     if m.len() - at - 1 < (count as usize) {
@@ -95,7 +102,7 @@ pub fn order_refusal(m: &[u8]) -> u8
 {
     let message = wire::header::type_of(m);
     let at = orders::count_at(message);
-    let refusal = head_refusal(m, message, at);
+    let refusal = head_refusal(m, message);
     if refusal != 0 {
         return refusal;
     }

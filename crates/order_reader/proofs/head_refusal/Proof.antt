@@ -1,89 +1,65 @@
--- `order_reader::head_refusal` meets its contract: each return is the branch of the definition that the tests choose. The type is known by the
--- one test or the other where the code goes on. Assumes nothing.
-use Rattle.order_reader.proofs.Heads.{of-the-member, of-the-venue, of-neither, unknown-type, bad-unit, no-count, by-count}
-use Rattle.orders.specs.Shapes.{ofMember, ofVenue}
+-- `order_reader::head_refusal` meets its contract: each arm is the branch of the definition that its type chooses, with the numbers
+-- that the definition computes for the type. Assumes nothing.
+use Rattle.order_reader.proofs.Heads.{known-type, unknown-type}
+use Rattle.orders.specs.Shapes.{countAt, mostOf}
 use denote.Ref.{now}
-use mathlib.Core.Path.{_≡_, refl, _∙_}
-use mathlib.Core.Logic.{⊎-elim}
-use mathlib.Core.Bool.{true, _||_}
+use mathlib.Core.Path.{refl, _∙_}
 use borrow.Author.Needs.{needs}
 use Rattle.order_reader.proofs.head_refusal.Statement.{statement}
 use Rattle.order_reader.proofs.head_refusal.Tie as tie
 
-of-member-requires : tie.Need-of-member-requires
-of-member-requires c κs = search needs
+type-head-requires : tie.Need-type-head-requires
+type-head-requires c κs = search needs
 
-of-venue-requires : tie.Need-of-venue-requires
-of-venue-requires c κs = search needs
+type-head-requires-2 : tie.Need-type-head-requires-2
+type-head-requires-2 c κs = search needs
+
+type-head-requires-3 : tie.Need-type-head-requires-3
+type-head-requires-3 c κs = search needs
+
+type-head-requires-4 : tie.Need-type-head-requires-4
+type-head-requires-4 c κs = search needs
 
 returns : tie.Need-returns
+unfolding countAt mostOf
 returns c =
-    let venue = c .before in
-    let member = venue .before .before in
-    let start = member .before .before in
-    let a = start .args in
-    unknown-type (now (a .m)) (a .message) _ (start .pre .0) refl
-    (of-neither (a .message) (member .of-member .result) (venue .of-venue .result) (member .of-member .ensures) (venue .of-venue .ensures) (venue .before .if1 .taken) (c .if2 .taken))
-
-unit-of-requires : tie.Need-unit-of-requires
-unit-of-requires c κs = search needs
-
-unit-good-requires : tie.Need-unit-good-requires
-unit-good-requires c κs = search needs
+    let start = c .before .before .before in
+    c .type-head .ensures ∙ known-type (now (start .args .m)) (start .args .message) (start .pre) 0x38 (c .before .match .keys1) refl
 
 returns-2 : tie.Need-returns-2
+unfolding countAt mostOf
 returns-2 c =
-    let good = c .before in
-    let unit = good .before in
-    let head = unit .before in
-    let member = head .before in
-    let start = member .before .before in
-    let a = start .args in
-    let known : (ofMember (a .message) || ofVenue (a .message)) ≡ true =
-    ⊎-elim (λ w. of-the-venue (a .message) (w .1 .result) (w .1 .ensures) (w .2 .left)) (λ w. of-the-member (a .message) (member .of-member .result) (member .of-member .ensures) (w .left)) (head .if1 .came) in
-    bad-unit (now (a .m)) (a .message) (unit .unit-of .result) (start .pre .0) (unit .unit-of .ensures) known (good .unit-good .result) (good .unit-good .ensures)
-    (c .if3 .taken)
+    let start = c .before .before .before in
+    c .type-head2 .ensures ∙ known-type (now (start .args .m)) (start .args .message) (start .pre) 0x39 (c .before .match .keys2) refl
 
 returns-3 : tie.Need-returns-3
+unfolding countAt mostOf
 returns-3 c =
-    let good = c .before .before in
-    let unit = good .before in
-    let head = unit .before in
-    let member = head .before in
-    let start = member .before .before in
-    let a = start .args in
-    let known : (ofMember (a .message) || ofVenue (a .message)) ≡ true =
-    ⊎-elim (λ w. of-the-venue (a .message) (w .1 .result) (w .1 .ensures) (w .2 .left)) (λ w. of-the-member (a .message) (member .of-member .result) (member .of-member .ensures) (w .left)) (head .if1 .came) in
-    no-count (now (a .m)) (a .message) (unit .unit-of .result) (start .pre .0) (unit .unit-of .ensures) known (good .unit-good .result) (good .unit-good .ensures)
-    (c .before .if3 .left) (a .at) (start .pre .1) (c .if4 .taken)
-
-count-refusal-requires : tie.Need-count-refusal-requires
-count-refusal-requires c κs = search needs
+    let start = c .before .before .before in
+    c .type-head3 .ensures ∙ known-type (now (start .args .m)) (start .args .message) (start .pre) 0x25 (c .before .match .keys3) refl
 
 returns-4 : tie.Need-returns-4
+unfolding countAt mostOf
 returns-4 c =
-    let good = c .before .before .before in
-    let unit = good .before in
-    let head = unit .before in
-    let member = head .before in
-    let start = member .before .before in
-    let a = start .args in
-    let known : (ofMember (a .message) || ofVenue (a .message)) ≡ true =
-    ⊎-elim (λ w. of-the-venue (a .message) (w .1 .result) (w .1 .ensures) (w .2 .left)) (λ w. of-the-member (a .message) (member .of-member .result) (member .of-member .ensures) (w .left)) (head .if1 .came) in
-    c .count-refusal .ensures
-    ∙ by-count (now (a .m)) (a .message) (unit .unit-of .result) (start .pre .0) (unit .unit-of .ensures) known (good .unit-good .result) (good .unit-good .ensures)
-    (c .before .before .if3 .left) (a .at) (start .pre .1) (c .before .if4 .left)
+    let start = c .before .before .before in
+    c .type-head4 .ensures ∙ known-type (now (start .args .m)) (start .args .message) (start .pre) 0x2C (c .before .match .keys4) refl
+
+returns-5 : tie.Need-returns-5
+returns-5 c =
+    let start = c .before .before in
+    let others = c .match .rest in
+    unknown-type (now (start .args .m)) (start .args .message) (start .pre) (others .0 .0 .0 .1) (others .0 .0 .1) (others .0 .1) (others .1)
 
 pub head-refusal-spec : {M : Type 1} → statement M
 head-refusal-spec =
     tie.close
     (tie.spec
-    of-member-requires
-    of-venue-requires
+    type-head-requires
+    type-head-requires-2
+    type-head-requires-3
+    type-head-requires-4
     returns
-    unit-of-requires
-    unit-good-requires
     returns-2
     returns-3
-    count-refusal-requires
-    returns-4)
+    returns-4
+    returns-5)

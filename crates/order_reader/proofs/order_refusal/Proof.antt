@@ -15,7 +15,7 @@ count-at-requires : tie.Need-count-at-requires
 count-at-requires c κs = search needs
 
 head-refusal-requires : tie.Need-head-refusal-requires
-head-refusal-requires c κs = (c .before .type-of .ensures, c .count-at .ensures)
+head-refusal-requires c κs = c .before .type-of .ensures
 
 returns : tie.Need-returns
 returns c =
