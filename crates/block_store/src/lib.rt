@@ -1,28 +1,26 @@
 // Reading the optional block: a walk over the set bits that stores each field of a message in a record's full layout.
 ghost use mathlib.Core.Path.{_≡_};
 ghost use Prim.Native.Nat.{_+_, _*_, _-_, _%_, _≤_};
-ghost use lib.Dec.{eqb, leb};
+ghost use lib.Dec.{eqb};
 ghost use lib.ListN.{length, take};
 ghost use Rattle.numbers.specs.Numbers.{patched};
 ghost use Rattle.dictionary.specs.Dictionary.{entryOf};
+ghost use Rattle.block.specs.Slots.{sum, takes};
+ghost use Rattle.block.specs.Places.{slotsOf};
 ghost use Rattle.block.specs.Walk.{pick, inByte, storeEntry};
+ghost use Rattle.block.specs.Fits.{bitTakes, bitsTake, left};
 ghost use Rattle.block_store.specs.State.{storing, storeWalk};
 ghost use Rattle.block.specs.Sizes.{allPlaces, layoutSize};
 use dictionary::Entry;
 
-// The field reader: one field, which is the front of the tail of the message that is handed on, into its place of the layout. How many bytes it
-// took: none where the tail is too short.
-fn store_field(width: u8, place: u8, tail: &[u8], layout: &mut [u8]) -> usize
-    requires { ⌜ (place + width ≤ length (now layout)) × (place + width ≤ layoutSize) ⌝ }
-    ensures { λ r. ⌜ (r ≡ pick (leb width (length (now (tail .entry)))) width 0) × (now (layout .exit) ≡ pick (leb width (length (now (tail .entry)))) (patched (now (layout .entry)) place (take width (now (tail .entry)))) (now (layout .entry))) ⌝ }
+// The field reader: one field, which is the front of the tail of the message that is handed on, into its place of the layout.
+fn store_field(width: u8, place: u8, tail: &[u8], layout: &mut [u8])
+    requires { ⌜ (place + width ≤ length (now layout)) × (place + width ≤ layoutSize) × (width ≤ length (now tail)) ⌝ }
+    ensures { λ _. ⌜ now (layout .exit) ≡ patched (now (layout .entry)) place (take width (now (tail .entry))) ⌝ }
 {
     let w = width as usize;
     let p = place as usize;
-    if tail.len() < w {
-        return 0;
-    }
     block::move_field(&tail[0..w], &mut layout[p..]);
-    w
 }
 
 // One bit, the lowest of x: its field if it is set.
@@ -35,8 +33,8 @@ fn store_bit(
     at: usize,
     layout: &mut [u8],
 ) -> usize
-    requires { ⌜ (length (now layout) ≡ layoutSize) × (at ≤ length (now msg)) ⌝ }
-    ensures { λ r. ⌜ (storing r (now (layout .exit)) ≡ pick (eqb (x % 2) 1) (storeEntry (now (msg .entry)) (entryOf message byte bit) (storing at (now (layout .entry)))) (storing at (now (layout .entry)))) × (r ≤ length (now (msg .entry))) ⌝ }
+    requires { ⌜ (length (now layout) ≡ layoutSize) × (at + bitTakes (eqb (x % 2) 1) (entryOf message byte bit) ≤ length (now msg)) ⌝ }
+    ensures { λ r. ⌜ (storing r (now (layout .exit)) ≡ pick (eqb (x % 2) 1) (storeEntry (now (msg .entry)) (entryOf message byte bit) (storing at (now (layout .entry)))) (storing at (now (layout .entry)))) × (r ≡ at + bitTakes (eqb (x % 2) 1) (entryOf message byte bit)) ⌝ }
 {
     if x % 2 == 1 {
         let e = dictionary::entry_of(message, byte, bit);
@@ -46,7 +44,10 @@ fn store_bit(
                 width,
                 kind: _,
                 place,
-            } => at + store_field(width, place, &msg[at..], layout),
+            } => {
+                store_field(width, place, &msg[at..], layout);
+                at + (width as usize)
+            }
         }
     } else {
         at
@@ -63,8 +64,8 @@ fn store_bits(
     start: usize,
     layout: &mut [u8],
 ) -> usize
-    requires { ⌜ (length (now layout) ≡ layoutSize) × (byte ≤ 15) × (end ≡ 8 * byte) × (start ≤ length (now msg)) ⌝ }
-    ensures { λ r. ⌜ (storing r (now (layout .exit)) ≡ inByte (storeEntry (now (msg .entry))) message byte value (storing start (now (layout .entry)))) × (r ≤ length (now (msg .entry))) ⌝ }
+    requires { ⌜ (length (now layout) ≡ layoutSize) × (byte ≤ 15) × (end ≡ 8 * byte) × (start + bitsTake message byte 8 0 value ≤ length (now msg)) ⌝ }
+    ensures { λ r. ⌜ (storing r (now (layout .exit)) ≡ inByte (storeEntry (now (msg .entry))) message byte value (storing start (now (layout .entry)))) × (r ≡ start + bitsTake message byte 8 0 value) ⌝ }
 {
     let n = end + 8 - 8 * byte;
     let mut x = value;
@@ -80,8 +81,8 @@ fn store_bits(
 
 // The same of any byte: its places follow from it.
 fn store_any(message: u8, byte: u8, value: u8, msg: &[u8], start: usize, layout: &mut [u8]) -> usize
-    requires { ⌜ (length (now layout) ≡ layoutSize) × (byte ≤ 15) × (start ≤ length (now msg)) ⌝ }
-    ensures { λ r. ⌜ (storing r (now (layout .exit)) ≡ inByte (storeEntry (now (msg .entry))) message byte value (storing start (now (layout .entry)))) × (r ≤ length (now (msg .entry))) ⌝ }
+    requires { ⌜ (length (now layout) ≡ layoutSize) × (byte ≤ 15) × (start + bitsTake message byte 8 0 value ≤ length (now msg)) ⌝ }
+    ensures { λ r. ⌜ (storing r (now (layout .exit)) ≡ inByte (storeEntry (now (msg .entry))) message byte value (storing start (now (layout .entry)))) × (r ≡ start + bitsTake message byte 8 0 value) ⌝ }
 {
     store_bits(message, byte, 8 * byte, value, msg, start, layout)
 }
@@ -97,8 +98,8 @@ fn store_next(
     at: usize,
     layout: &mut [u8],
 ) -> usize
-    requires { ⌜ (length (now layout) ≡ layoutSize) × (length (now bits) ≡ count) × (count ≤ 15) × (1 ≤ byte) × (byte ≤ 15) × (end ≡ 8 * byte) × (at ≤ length (now msg)) ⌝ }
-    ensures { λ r. ⌜ (storeWalk message count (now (bits .entry)) (now (msg .entry)) (allPlaces - 8 * byte) (8 * byte) (storing r (now (layout .exit))) ≡ storeWalk message count (now (bits .entry)) (now (msg .entry)) (allPlaces - 8 * (byte - 1)) (8 * (byte - 1)) (storing at (now (layout .entry)))) × (r ≤ length (now (msg .entry))) ⌝ }
+    requires { ⌜ (length (now layout) ≡ layoutSize) × (length (now bits) ≡ count) × (count ≤ 15) × (1 ≤ byte) × (byte ≤ 15) × (end ≡ 8 * byte) × (at + left message count (now bits) (allPlaces - 8 * (byte - 1)) (8 * (byte - 1)) ≤ length (now msg)) ⌝ }
+    ensures { λ r. ⌜ (storeWalk message count (now (bits .entry)) (now (msg .entry)) (allPlaces - 8 * byte) (8 * byte) (storing r (now (layout .exit))) ≡ storeWalk message count (now (bits .entry)) (now (msg .entry)) (allPlaces - 8 * (byte - 1)) (8 * (byte - 1)) (storing at (now (layout .entry)))) × (r + left message count (now (bits .entry)) (allPlaces - 8 * byte) (8 * byte) ≤ length (now (msg .entry))) ⌝ }
 {
     let value = block::byte_of(bits, count, byte);
     if value == 0 {
@@ -110,7 +111,7 @@ fn store_next(
 // The bitfield bytes that a New Order lists, one after the other: the compiler knows message and byte, and folds loop and dictionary away. The other
 // bytes store nothing.
 fn new_order_bytes(bits: &[u8], count: u8, msg: &[u8], layout: &mut [u8]) -> usize
-    requires { ⌜ (length (now layout) ≡ layoutSize) × (length (now bits) ≡ count) × (count ≤ 15) ⌝ }
+    requires { ⌜ (length (now layout) ≡ layoutSize) × (length (now bits) ≡ count) × (count ≤ 15) × (left 0x38 count (now bits) allPlaces 0 ≤ length (now msg)) ⌝ }
     ensures { λ r. ⌜ storing r (now (layout .exit)) ≡ storeWalk 0x38 count (now (bits .entry)) (now (msg .entry)) allPlaces 0 (storing 0 (now (layout .entry))) ⌝ }
 {
     let a = store_next(0x38, 1, 8, bits, count, msg, 0, layout);
@@ -122,7 +123,7 @@ fn new_order_bytes(bits: &[u8], count: u8, msg: &[u8], layout: &mut [u8]) -> usi
 
 // The same of a Cancel Order.
 fn cancel_order_bytes(bits: &[u8], count: u8, msg: &[u8], layout: &mut [u8]) -> usize
-    requires { ⌜ (length (now layout) ≡ layoutSize) × (length (now bits) ≡ count) × (count ≤ 15) ⌝ }
+    requires { ⌜ (length (now layout) ≡ layoutSize) × (length (now bits) ≡ count) × (count ≤ 15) × (left 0x39 count (now bits) allPlaces 0 ≤ length (now msg)) ⌝ }
     ensures { λ r. ⌜ storing r (now (layout .exit)) ≡ storeWalk 0x39 count (now (bits .entry)) (now (msg .entry)) allPlaces 0 (storing 0 (now (layout .entry))) ⌝ }
 {
     store_next(0x39, 1, 8, bits, count, msg, 0, layout)
@@ -130,7 +131,7 @@ fn cancel_order_bytes(bits: &[u8], count: u8, msg: &[u8], layout: &mut [u8]) -> 
 
 // The same of an Order Acknowledgment.
 fn acknowledgment_bytes(bits: &[u8], count: u8, msg: &[u8], layout: &mut [u8]) -> usize
-    requires { ⌜ (length (now layout) ≡ layoutSize) × (length (now bits) ≡ count) × (count ≤ 15) ⌝ }
+    requires { ⌜ (length (now layout) ≡ layoutSize) × (length (now bits) ≡ count) × (count ≤ 15) × (left 0x25 count (now bits) allPlaces 0 ≤ length (now msg)) ⌝ }
     ensures { λ r. ⌜ storing r (now (layout .exit)) ≡ storeWalk 0x25 count (now (bits .entry)) (now (msg .entry)) allPlaces 0 (storing 0 (now (layout .entry))) ⌝ }
 {
     let a = store_next(0x25, 1, 8, bits, count, msg, 0, layout);
@@ -141,7 +142,7 @@ fn acknowledgment_bytes(bits: &[u8], count: u8, msg: &[u8], layout: &mut [u8]) -
 
 // The same of an Order Execution.
 fn execution_bytes(bits: &[u8], count: u8, msg: &[u8], layout: &mut [u8]) -> usize
-    requires { ⌜ (length (now layout) ≡ layoutSize) × (length (now bits) ≡ count) × (count ≤ 15) ⌝ }
+    requires { ⌜ (length (now layout) ≡ layoutSize) × (length (now bits) ≡ count) × (count ≤ 15) × (left 0x2C count (now bits) allPlaces 0 ≤ length (now msg)) ⌝ }
     ensures { λ r. ⌜ storing r (now (layout .exit)) ≡ storeWalk 0x2C count (now (bits .entry)) (now (msg .entry)) allPlaces 0 (storing 0 (now (layout .entry))) ⌝ }
 {
     let a = store_next(0x2C, 1, 8, bits, count, msg, 0, layout);
@@ -151,7 +152,7 @@ fn execution_bytes(bits: &[u8], count: u8, msg: &[u8], layout: &mut [u8]) -> usi
 
 // All bitfield bytes of any message.
 fn store_loop(message: u8, bits: &[u8], count: u8, msg: &[u8], layout: &mut [u8]) -> usize
-    requires { ⌜ (length (now layout) ≡ layoutSize) × (length (now bits) ≡ count) × (count ≤ 15) ⌝ }
+    requires { ⌜ (length (now layout) ≡ layoutSize) × (length (now bits) ≡ count) × (count ≤ 15) × (left message count (now bits) allPlaces 0 ≤ length (now msg)) ⌝ }
     ensures { λ r. ⌜ storing r (now (layout .exit)) ≡ storeWalk message count (now (bits .entry)) (now (msg .entry)) allPlaces 0 (storing 0 (now (layout .entry))) ⌝ }
 {
     let mut j: u8 = 0;
@@ -166,7 +167,7 @@ fn store_loop(message: u8, bits: &[u8], count: u8, msg: &[u8], layout: &mut [u8]
 
 // All fields that the bitfield bytes select, into a layout: how far the message is stored.
 pub fn store_all(message: u8, bits: &[u8], count: u8, msg: &[u8], layout: &mut [u8]) -> usize
-    requires { ⌜ (length (now layout) ≡ layoutSize) × (length (now bits) ≡ count) × (count ≤ 15) ⌝ }
+    requires { ⌜ (length (now layout) ≡ layoutSize) × (length (now bits) ≡ count) × (count ≤ 15) × (sum takes (slotsOf message count (now bits)) ≤ length (now msg)) ⌝ }
     ensures { λ r. ⌜ storing r (now (layout .exit)) ≡ storeWalk message count (now (bits .entry)) (now (msg .entry)) allPlaces 0 (storing 0 (now (layout .entry))) ⌝ }
 {
     if count == 0 {

@@ -1,10 +1,12 @@
 -- `block_store::acknowledgment_bytes` meets its contract: what is left to walk after a byte ends as what was left before it.
 -- Byte 4 and those after 5 have no listed bit. Assumes nothing.
 use mathlib.Core.Path.{refl, _∙_}
+use native.Mathlib.Omega.{arith}
 use Rattle.dictionary.specs.Dictionary.{entryOf}
 use Rattle.block.specs.Places.{entryAt}
 use Rattle.block.specs.Loops.{unlisted}
 use Rattle.block_store.proofs.Unlisted.{listed-after, none-listed}
+use Rattle.block_store.proofs.Passed.{fits-after}
 use borrow.Author.Needs.{needs}
 use Rattle.block_store.proofs.acknowledgment_bytes.Statement.{statement}
 use Rattle.block_store.proofs.acknowledgment_bytes.Tie as tie
@@ -19,7 +21,7 @@ store-next-requires-3 : tie.Need-store-next-requires-3
 store-next-requires-3 c κs = search needs
 
 store-next-requires-4 : tie.Need-store-next-requires-4
-store-next-requires-4 c κs = search needs
+store-next-requires-4 c κs = let put = c .before .before .before .store-next3 in omega (arith, fits-after 0x25 _ _ 8 88 24 (put .result) (put .ensures .1))
 
 same-length : tie.Need-same-length
 same-length c = search needs

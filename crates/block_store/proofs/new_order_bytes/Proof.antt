@@ -1,10 +1,12 @@
 -- `block_store::new_order_bytes` meets its contract: what is left to walk after a byte ends as what was left before it.
 -- Bytes 4, 5, 7, 8, 9 and those after 10 have no listed bit. Assumes nothing.
 use mathlib.Core.Path.{refl, _∙_}
+use native.Mathlib.Omega.{arith}
 use Rattle.dictionary.specs.Dictionary.{entryOf}
 use Rattle.block.specs.Places.{entryAt}
 use Rattle.block.specs.Loops.{unlisted}
 use Rattle.block_store.proofs.Unlisted.{listed-after, none-listed}
+use Rattle.block_store.proofs.Passed.{fits-after}
 use borrow.Author.Needs.{needs}
 use Rattle.block_store.proofs.new_order_bytes.Statement.{statement}
 use Rattle.block_store.proofs.new_order_bytes.Tie as tie
@@ -19,10 +21,16 @@ store-next-requires-3 : tie.Need-store-next-requires-3
 store-next-requires-3 c κs = search needs
 
 store-next-requires-4 : tie.Need-store-next-requires-4
-store-next-requires-4 c κs = search needs
+store-next-requires-4 c κs = let put = c .before .before .before .store-next3 in omega (arith, fits-after 0x38 _ _ 16 80 24 (put .result) (put .ensures .1))
 
 store-next-requires-5 : tie.Need-store-next-requires-5
-store-next-requires-5 c κs = search needs
+store-next-requires-5 c κs =
+    omega (
+      arith,
+      c .before .before .before .before .before .before .before .before .before .before .before .before .before .before .before .before .before .before .before .before .pre,
+      c .before .before .before .before .before .before .before .before .before .before .before .before .before .before .before .store-next .kept .1 .1 .1 .1 .1 .1 .1 .0,
+      fits-after 0x38 _ _ 24 48 48 (c .before .before .before .store-next4 .result) (c .before .before .before .store-next4 .ensures .1),
+    )
 
 same-length : tie.Need-same-length
 same-length c = search needs

@@ -1,9 +1,12 @@
 -- `block_store::store_all` meets its contract: no byte stores nothing, and the message of each arm is the one that its bytes are of. Assumes nothing.
-use mathlib.Core.Path.{refl}
+use mathlib.Core.Path.{refl, ap}
+use Prim.Native.Nat.{ℕ}
 use native.Mathlib.Omega.{arith}
 use denote.Ref.{now}
 use Rattle.block.specs.Walk.{storeEntry}
 use Rattle.block.specs.Loops.{bytes-end}
+use Rattle.block.specs.Fits.{left}
+use Rattle.block.specs.Sizes.{allPlaces}
 use Rattle.block_store.specs.State.{storing}
 use borrow.Author.Needs.{needs}
 use Rattle.block_store.proofs.store_all.Statement.{statement}
@@ -15,16 +18,24 @@ returns c =
     bytes-end (storeEntry (now (a .msg))) (a .message) (a .count) (now (a .bits)) 0 (storing 0 (now (a .layout))) _ (omega arith) refl
 
 new-order-bytes-requires : tie.Need-new-order-bytes-requires
-new-order-bytes-requires c κs = search needs
+new-order-bytes-requires c κs =
+    let a = c .before .before .before .before .before .before .args in
+    omega (arith, ap (λ (n : ℕ). left n (a .count) (now (a .bits)) allPlaces 0) (c .before .match .keys1))
 
 cancel-order-bytes-requires : tie.Need-cancel-order-bytes-requires
-cancel-order-bytes-requires c κs = search needs
+cancel-order-bytes-requires c κs =
+    let a = c .before .before .before .before .before .before .args in
+    omega (arith, ap (λ (n : ℕ). left n (a .count) (now (a .bits)) allPlaces 0) (c .before .match .keys2))
 
 acknowledgment-bytes-requires : tie.Need-acknowledgment-bytes-requires
-acknowledgment-bytes-requires c κs = search needs
+acknowledgment-bytes-requires c κs =
+    let a = c .before .before .before .before .before .before .args in
+    omega (arith, ap (λ (n : ℕ). left n (a .count) (now (a .bits)) allPlaces 0) (c .before .match .keys3))
 
 execution-bytes-requires : tie.Need-execution-bytes-requires
-execution-bytes-requires c κs = search needs
+execution-bytes-requires c κs =
+    let a = c .before .before .before .before .before .before .args in
+    omega (arith, ap (λ (n : ℕ). left n (a .count) (now (a .bits)) allPlaces 0) (c .before .match .keys4))
 
 store-loop-requires : tie.Need-store-loop-requires
 store-loop-requires c κs = search needs

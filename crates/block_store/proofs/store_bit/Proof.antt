@@ -1,14 +1,15 @@
 -- `block_store::store_bit` meets its contract: a bit that is not set changes nothing, and for one that is set the dictionary's entry is known in each
--- arm. A listed field lies within the layout. Assumes nothing.
+-- arm. A listed field lies within the layout, and the message has its bytes. Assumes nothing.
 use mathlib.Core.Path.{refl, sym, _∙_}
 use native.Mathlib.Omega.{arith}
 use borrow.Author.Tests.{eq-eqb, ne-eqb}
 use denote.Ref.{now}
+use Rattle.dictionary.specs.Dictionary.{entryOf}
 use Rattle.block.specs.Dictionaries.{field-fits}
 use Rattle.block.specs.Loops.{bit-set, bit-unset}
 use Rattle.block.specs.Walk.{storeEntry}
 use Rattle.block_store.specs.State.{storing}
-use Rattle.block_store.proofs.One.{tail-stored}
+use Rattle.block_store.proofs.One.{set-takes, unset-takes, tail-has, tail-stored}
 use borrow.Author.Needs.{needs}
 use Rattle.block_store.proofs.store_bit.Statement.{statement}
 use Rattle.block_store.proofs.store_bit.Tie as tie
@@ -35,23 +36,25 @@ store-field-requires : tie.Need-store-field-requires
 store-field-requires c κs =
     let known = c .before .before .before in
     let looked = known .before .before in
-    let fits = field-fits _ _ _ (sym (known .e .given .1) ∙ looked .entry-of .ensures) in
-    (omega (arith, fits), omega (arith, fits))
+    let a = looked .before .before .before .before .args in
+    let here = sym (known .e .given .1) ∙ looked .entry-of .ensures in
+    let fits = field-fits _ _ _ here in
+    (omega (arith, fits), omega (arith, fits), tail-has (now (a .msg)) _ (a .at) (omega (arith, set-takes _ _ (eq-eqb _ _ (looked .before .if1 .taken)) here)))
+
+cast-result : tie.Need-cast-result
+cast-result c = search needs
 
 add-result : tie.Need-add-result
-add-result c =
-    let put = c .before .before in
-    let start = put .before .before .before .before .before .before .before .before .before .before in
-    let a = start .args in
-    omega (arith, tail-stored (now (a .msg)) _ _ (a .at) (now (a .layout)) (start .pre .1) (put .store-field .ensures) .1)
+add-result c = search needs
 
 returns : tie.Need-returns
 unfolding storeEntry
 returns c =
     let looked = c .before .before in
-    let start = looked .before .before .before .before in
-    let a = start .args in
-    (bit-set (storeEntry (now (a .msg))) _ _ (storing (a .at) (now (a .layout))) (eq-eqb _ _ (looked .before .if1 .taken)) (sym (c .enum-told .given .1) ∙ looked .entry-of .ensures) refl, start .pre .1)
+    let a = looked .before .before .before .before .args in
+    let set = eq-eqb _ _ (looked .before .if1 .taken) in
+    let here = sym (c .enum-told .given .1) ∙ looked .entry-of .ensures in
+    (bit-set (storeEntry (now (a .msg))) _ _ (storing (a .at) (now (a .layout))) set here refl, omega (arith, set-takes _ _ set here))
 
 same-length : tie.Need-same-length
 same-length c = search needs
@@ -62,16 +65,20 @@ returns-2 c =
     let put = c .before .before in
     let known = put .before .before .before .before in
     let looked = known .before .before in
-    let start = looked .before .before .before .before in
-    let a = start .args in
-    let t = tail-stored (now (a .msg)) _ _ (a .at) (now (a .layout)) (start .pre .1) (put .store-field .ensures) in
-    (bit-set (storeEntry (now (a .msg))) _ _ (storing (a .at) (now (a .layout))) (eq-eqb _ _ (looked .before .if1 .taken)) (sym (known .e .given .1) ∙ looked .entry-of .ensures) (t .0), t .1)
+    let a = looked .before .before .before .before .args in
+    let set = eq-eqb _ _ (looked .before .if1 .taken) in
+    let here = sym (known .e .given .1) ∙ looked .entry-of .ensures in
+    let takes = set-takes _ _ set here in (
+      bit-set (storeEntry (now (a .msg))) _ _ (storing (a .at) (now (a .layout))) set here
+          (tail-stored (now (a .msg)) _ (a .at) (omega (arith, takes)) _ (now (a .layout)) (put .store-field .ensures)),
+      omega (arith, takes),
+    )
 
 returns-3 : tie.Need-returns-3
 returns-3 c =
-    let start = c .before .before .before in
-    let a = start .args in
-    (bit-unset (storeEntry (now (a .msg))) _ _ (storing (a .at) (now (a .layout))) (ne-eqb _ _ (c .if1 .left)), start .pre .1)
+    let a = c .before .before .before .args in
+    let unset = ne-eqb _ _ (c .if1 .left) in
+    (bit-unset (storeEntry (now (a .msg))) _ _ (storing (a .at) (now (a .layout))) unset, omega (arith, unset-takes _ (entryOf (a .message) (a .byte) (a .bit)) unset))
 
 pub store-bit-spec : {M : Type 1} → statement M
 store-bit-spec =
@@ -84,6 +91,7 @@ store-bit-spec =
     part-store-field-start
     part-store-field-end
     store-field-requires
+    cast-result
     add-result
     returns
     same-length

@@ -1,19 +1,14 @@
--- `block_store::store_field` meets its contract: where the tail is too short for the field, nothing changes; else its front is what `move_field` puts
--- into the lent tail of the layout. Assumes nothing.
-use mathlib.Core.Path.{_≡_, refl, ap, _∙_}
+-- `block_store::store_field` meets its contract: the tail's front is what `move_field` puts into the lent tail of the layout. Assumes nothing.
+use mathlib.Core.Path.{_≡_, ap, _∙_}
 use Prim.Native.Nat.{ℕ, _-_}
 use native.Mathlib.Omega.{arith}
-use lib.ListN.{length, take}
-use borrow.Author.Tests.{le-leb, lt-leb}
+use lib.ListN.{take}
 use denote.Ref.{now}
 use Rattle.numbers.specs.Numbers.{patched}
 use Rattle.numbers.proofs.Tail.{lent-patched}
 use borrow.Author.Needs.{needs}
 use Rattle.block_store.proofs.store_field.Statement.{statement}
 use Rattle.block_store.proofs.store_field.Tie as tie
-
-returns : tie.Need-returns
-returns c = let a = c .before .before .before .args in rw (lt-leb (a .width) (length (now (a .tail))) (c .if1 .taken)) (refl, refl)
 
 sub-move-field : tie.Need-sub-move-field
 sub-move-field c = search needs
@@ -39,19 +34,17 @@ move-field-requires c κs = search needs
 same-length : tie.Need-same-length
 same-length c = search needs
 
-returns-2 : tie.Need-returns-2
-returns-2 c =
+returns : tie.Need-returns
+returns c =
     let moved = c .before .before in
-    let a = moved .before .before .before .before .before .before .args in
+    let a = moved .before .before .before .before .before .args in
     let n : a .width - 0 ≡ a .width = omega arith in
-    rw (le-leb (a .width) (length (now (a .tail))) (omega arith))
-    (refl, lent-patched (now (a .layout)) (a .place) _ (omega arith) (moved .move-field .ensures) ∙ ap (λ (i : ℕ). patched (now (a .layout)) (a .place) (take i (now (a .tail)))) n)
+    lent-patched (now (a .layout)) (a .place) _ (omega arith) (moved .move-field .ensures) ∙ ap (λ (i : ℕ). patched (now (a .layout)) (a .place) (take i (now (a .tail)))) n
 
 pub store-field-spec : {M : Type 1} → statement M
 store-field-spec =
     tie.close
     (tie.spec
-    returns
     sub-move-field
     part-move-field-start
     part-move-field-end
@@ -60,4 +53,4 @@ store-field-spec =
     part-move-field-end-2
     move-field-requires
     same-length
-    returns-2)
+    returns)

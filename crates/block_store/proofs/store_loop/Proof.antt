@@ -1,13 +1,15 @@
--- `block_store::store_loop` meets its contract. The loop's invariant: the layout keeps its length, and the walk over the places of the other bytes, from
--- the state reached, ends as the walk over all 120. The measure is the count of bytes that are left. Assumes nothing.
+-- `block_store::store_loop` meets its contract. The loop's invariant: the layout keeps its length, the message has what the other bytes take, and the
+-- walk over their places, from the state reached, ends as the walk over all 120. The measure is the count of bytes that are left. Assumes nothing.
 use mathlib.Core.Path.{_≡_, refl, _∙_}
-use Prim.Native.Nat.{_*_, _-_, _≤_}
+use Prim.Native.Nat.{_+_, _*_, _-_, _≤_}
 use native.Mathlib.Omega.{arith}
 use lib.ListN.{length}
 use denote.Ref.{now}
 use Rattle.block.specs.Walk.{storeEntry}
 use Rattle.block.specs.Loops.{byte-turn, bytes-end}
+use Rattle.block.specs.Fits.{left}
 use Rattle.block_store.specs.State.{storing, storeWalk}
+use Rattle.block_store.proofs.Passed.{left-turn}
 use borrow.Author.Needs.{needs}
 use Rattle.block_store.proofs.store_loop.Statement.{statement}
 use Rattle.block_store.proofs.store_loop.Tie as tie
@@ -17,7 +19,7 @@ abbrev Inv-loop : tie.InvT-loop
 Inv-loop message bits count msg layout₀ j₀ at₀ layout j at =
     (j ≤ count)
     × (length layout ≡ length layout₀)
-    × (at ≤ length msg)
+    × (at + left message count bits (allPlaces - 8 * j) (8 * j) ≤ length msg)
     × (storeWalk message count bits msg (allPlaces - 8 * j) (8 * j) (storing at layout) ≡ storeWalk message count bits msg allPlaces 0 (storing 0 layout₀))
 
 abbrev μ-loop : tie.MeasureT-loop
@@ -36,7 +38,12 @@ add-j : tie.Need-add-j Inv-loop μ-loop
 add-j c = search needs
 
 store-any-requires : tie.Need-store-any-requires Inv-loop μ-loop
-store-any-requires c κs = search needs
+store-any-requires c κs =
+    let in-loop = c .before .before in
+    let at-loop = in-loop .before in
+    let start = at-loop .before .before .before .before in
+    let a = start .args in
+    omega (arith, at-loop .loop .inv, left-turn (a .message) (a .count) (now (a .bits)) (at-loop .loop .j) _ (in-loop .loop-test .taken) (start .pre .2) refl)
 
 loop-less : tie.Need-loop-less Inv-loop μ-loop
 loop-less c = search needs
@@ -51,7 +58,7 @@ loop-again c =
     let inv = at-loop .loop .inv in (
       omega arith,
       put .store-any .kept .1 .1 .1 .1 .1 .0 ∙ inv .1,
-      put .store-any .ensures .1,
+      omega (arith, put .store-any .ensures .1, left-turn (a .message) (a .count) (now (a .bits)) (at-loop .loop .j) _ (in-loop .loop-test .taken) (start .pre .2) refl),
       byte-turn (storeEntry (now (a .msg))) (a .message) (a .count) (now (a .bits)) (at-loop .loop .j) _ (storing (at-loop .loop .at) (at-loop .loop .layout)) _ _
           (in-loop .loop-test .taken) (start .pre .2) refl (put .store-any .ensures .0) (inv .3),
     )

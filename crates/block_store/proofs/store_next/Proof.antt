@@ -1,7 +1,10 @@
--- `block_store::store_next` meets its contract: a byte that is not there or without a set bit leaves the state. Assumes nothing.
+-- `block_store::store_next` meets its contract: a byte that is not there or without a set bit leaves the state, and what is left to pass are the byte's
+-- fields and those of the bytes after it. Assumes nothing.
+use native.Mathlib.Omega.{arith}
 use denote.Ref.{now}
 use Rattle.block.specs.Walk.{storeEntry}
 use Rattle.block.specs.Loops.{byte-clear, byte-given}
+use Rattle.block.specs.Fits.{left-byte}
 use Rattle.block_store.specs.State.{storing}
 use borrow.Author.Needs.{needs}
 use Rattle.block_store.proofs.store_next.Statement.{statement}
@@ -18,11 +21,15 @@ returns c =
     let st = storing (a .at) (now (a .layout)) in (
       byte-given (storeEntry (now (a .msg))) (a .message) (a .count) (now (a .bits)) (a .byte) _ st st (start .pre .3) (start .pre .2) (got .byte-of .ensures)
           (byte-clear (storeEntry (now (a .msg))) (a .message) (a .byte) _ st (c .if1 .taken)),
-      start .pre .6,
+      omega (arith, left-byte (a .message) (a .count) (now (a .bits)) (a .byte) _ (start .pre .3) (start .pre .4) (got .byte-of .ensures)),
     )
 
 store-bits-requires : tie.Need-store-bits-requires
-store-bits-requires c κs = search needs
+store-bits-requires c κs =
+    let got = c .before .before in
+    let start = got .before .before .before .before in
+    let a = start .args in
+    omega (arith, left-byte (a .message) (a .count) (now (a .bits)) (a .byte) _ (start .pre .3) (start .pre .4) (got .byte-of .ensures))
 
 same-length : tie.Need-same-length
 same-length c = search needs
@@ -35,7 +42,7 @@ returns-2 c =
     let a = start .args in (
       byte-given (storeEntry (now (a .msg))) (a .message) (a .count) (now (a .bits)) (a .byte) _ (storing (a .at) (now (a .layout))) _ (start .pre .3) (start .pre .2) (got .byte-of .ensures)
           (put .store-bits .ensures .0),
-      put .store-bits .ensures .1,
+      omega (arith, put .store-bits .ensures .1, left-byte (a .message) (a .count) (now (a .bits)) (a .byte) _ (start .pre .3) (start .pre .4) (got .byte-of .ensures)),
     )
 
 pub store-next-spec : {M : Type 1} → statement M
