@@ -1,14 +1,11 @@
 -- What the fields take that are still to be passed, at the end of a byte and after places that are passed over. Assumes nothing.
-use mathlib.Core.Path.{_≡_, sym, ap, _∙_}
+use mathlib.Core.Path.{_≡_, ap}
 use mathlib.Core.List.{List}
-use Prim.Native.Nat.{ℕ, zero, suc, _+_, _*_, _-_, _≤_, _<_}
+use Prim.Native.Nat.{ℕ, zero, suc, _+_, _-_, _≤_}
 use native.Mathlib.Nat.{add-zero, zero-add}
 use native.Mathlib.Omega.{arith}
-use lib.ListN.{getD}
-use borrow.Author.Tests.{lt-ltb}
 use Rattle.block.specs.Places.{slotsFrom}
-use Rattle.block.specs.Fits.{bitsTake, left, left-byte}
-use Rattle.block.specs.Sizes.{allPlaces}
+use Rattle.block.specs.Fits.{bitsTake, left}
 
 -- after a byte's last bit it takes no more
 pub take-end : (message byte i x : ℕ) → 8 ≤ i → bitsTake message byte (8 - i) i x ≡ 0
@@ -31,11 +28,3 @@ module _ (message count : ℕ) (bits : List ℕ) where
   -- so they fit where all fit
   pub fits-after : (n i k at : ℕ) {room : ℕ} → at + left message count bits (n + i) k ≤ room → at + left message count bits i (k + n) ≤ room
   fits-after n i k at h = omega (arith, left-after n i k)
-
-  -- a byte's, and then those of the bytes after it
-  pub left-turn : (j value : ℕ) → j < count → count ≤ 15 → value ≡ getD bits j 0
-      → left message count bits (allPlaces - 8 * j) (8 * j) ≡ bitsTake message (j + 1) 8 0 value + left message count bits (allPlaces - 8 * (j + 1)) (8 * (j + 1))
-  left-turn j value h l v =
-      let e : j + 1 - 1 ≡ j = omega arith in
-      ap (λ (i : ℕ). left message count bits (allPlaces - 8 * i) (8 * i)) (sym e)
-      ∙ left-byte message count bits (j + 1) value (omega arith) (omega arith) (v ∙ rw (e, lt-ltb j count h))

@@ -79,14 +79,6 @@ fn store_bits(
     at
 }
 
-// The same of any byte: its places follow from it.
-fn store_any(message: u8, byte: u8, value: u8, msg: &[u8], start: usize, layout: &mut [u8]) -> usize
-    requires { ⌜ (length (now layout) ≡ layoutSize) × (byte ≤ 15) × (start + bitsTake message byte 8 0 value ≤ length (now msg)) ⌝ }
-    ensures { λ r. ⌜ (storing r (now (layout .exit)) ≡ inByte (storeEntry (now (msg .entry))) message byte value (storing start (now (layout .entry)))) × (r ≡ start + bitsTake message byte 8 0 value) ⌝ }
-{
-    store_bits(message, byte, 8 * byte, value, msg, start, layout)
-}
-
 // One bitfield byte: its fields if it is there and not zero.
 fn store_next(
     message: u8,
@@ -150,22 +142,7 @@ fn execution_bytes(bits: &[u8], count: u8, msg: &[u8], layout: &mut [u8]) -> usi
     store_next(0x2C, 3, 24, bits, count, msg, b, layout)
 }
 
-// All bitfield bytes of any message.
-fn store_loop(message: u8, bits: &[u8], count: u8, msg: &[u8], layout: &mut [u8]) -> usize
-    requires { ⌜ (length (now layout) ≡ layoutSize) × (length (now bits) ≡ count) × (count ≤ 15) × (left message count (now bits) allPlaces 0 ≤ length (now msg)) ⌝ }
-    ensures { λ r. ⌜ storing r (now (layout .exit)) ≡ storeWalk message count (now (bits .entry)) (now (msg .entry)) allPlaces 0 (storing 0 (now (layout .entry))) ⌝ }
-{
-    let mut j: u8 = 0;
-    let mut at: usize = 0;
-    while j < count {
-        let value = bits[j as usize];
-        j += 1;
-        at = store_any(message, j, value, msg, at, layout);
-    }
-    at
-}
-
-// All fields that the bitfield bytes select, into a layout: how far the message is stored.
+// All fields that the bitfield bytes select, into a layout: how far the message is stored. A message of another type lists no field.
 pub fn store_all(message: u8, bits: &[u8], count: u8, msg: &[u8], layout: &mut [u8]) -> usize
     requires { ⌜ (length (now layout) ≡ layoutSize) × (length (now bits) ≡ count) × (count ≤ 15) × (sum takes (slotsOf message count (now bits)) ≤ length (now msg)) ⌝ }
     ensures { λ r. ⌜ storing r (now (layout .exit)) ≡ storeWalk message count (now (bits .entry)) (now (msg .entry)) allPlaces 0 (storing 0 (now (layout .entry))) ⌝ }
@@ -178,6 +155,6 @@ pub fn store_all(message: u8, bits: &[u8], count: u8, msg: &[u8], layout: &mut [
         0x39 => cancel_order_bytes(bits, count, msg, layout),
         0x25 => acknowledgment_bytes(bits, count, msg, layout),
         0x2C => execution_bytes(bits, count, msg, layout),
-        _ => store_loop(message, bits, count, msg, layout),
+        _ => 0,
     }
 }
