@@ -12,7 +12,7 @@ use lib.ListN.{getD}
 use borrow.Author.Tests.{ltb-true, ltb-false}
 use Rattle.dictionary.specs.declared.Entry.{Entry}
 use Rattle.dictionary.specs.Dictionary.{entryOf}
-use Rattle.block.specs.Slots.{Slot, slot, widthOf, takes, sum}
+use Rattle.block.specs.Slots.{slot, widthOf, takes, sum}
 use Rattle.block.specs.Places.{selectedAt, entryAt, slotsFrom}
 use Rattle.block.specs.Walk.{pick}
 use Rattle.block.specs.Loops.{halved, entry-here, selected-here, past}

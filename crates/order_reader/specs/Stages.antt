@@ -6,7 +6,7 @@ use lib.Dec.{leb, ltb, eqb}
 use lib.ListN.{length, getD, take, drop}
 use Rattle.numbers.specs.Numbers.{bytesOf, patched}
 use Rattle.refusals.specs.Names.{badUnit, wrongTotal, tooManyBitfields, unlistedBit, notSelected, badValue}
-use Rattle.wire.specs.Header.{typeOf, unitOf, numberOf}
+use Rattle.wire.specs.Header.{unitOf, numberOf}
 use Rattle.block.specs.Places.{hasRequired}
 use Rattle.block_judge.specs.declared.Judged.{Judged}
 use Rattle.orders.specs.Shapes.{countAt, unitGood, fixedGood}
