@@ -1,7 +1,7 @@
 -- Which bytes the plain kinds allow, as the sums of a lane tell them: computed for the 128 bytes below 128. None from 128 on is allowed, and NUL is not.
 -- Assumes nothing.
 use mathlib.Core.Path.{_≡_, refl, sym, subst}
-use mathlib.Core.Bool.{Bool, true, false, cond, not, _&&_, _||_, and-false, and-eq-true-iff}
+use mathlib.Core.Bool.{Bool, true, false, not, _&&_, _||_, and-false, and-eq-true-iff}
 use mathlib.Core.Logic.{⊎-elim}
 use Prim.Native.Nat.{ℕ, zero, suc, _+_, _≤_, _<_}
 use native.Mathlib.Nat.{le-of-suc-le-suc, eq-or-lt-of-le}
@@ -9,7 +9,7 @@ use native.Mathlib.Omega.{arith}
 use lib.Bits.{bitOr, bitXor}
 use lib.Dec.{leb}
 use borrow.Author.Tests.{lt-leb}
-use Rattle.kinds.specs.declared.Kind.the-variants.{Letters, Alphanumeric, Text, Identifier}
+use Rattle.kinds.specs.declared.Kind.the-variants.{Alphanumeric, Text}
 use Rattle.kinds.specs.declared.Plain.{Plain}
 use Rattle.kinds.specs.declared.Plain.the-variants.{OfA, OfN, OfT}
 use Rattle.kinds.specs.Kinds.{within, letter, allowed}
@@ -85,25 +85,3 @@ pub high-no-character : (q : Plain) (b : ℕ) → 128 ≤ b → allowed (kindOf 
 high-no-character OfA b h = rw (beyond 65 90 b (omega arith) h, beyond 97 122 b (omega arith) h)
 high-no-character OfN b h = rw (beyond 48 57 b (omega arith) h, beyond 65 90 b (omega arith) h, beyond 97 122 b (omega arith) h)
 high-no-character OfT b h = beyond 32 126 b (omega arith) h
-
--- ---- how many characters each kind of text has, of the 256 bytes
-
-count : ℕ → (ℕ → Bool) → ℕ
-count zero t = 0
-count (suc n) t = cond (t n) 1 0 + count n t
-
-letters-52 : count 256 (allowed Letters) ≡ 52
-unfolding count
-letters-52 = refl
-
-alphanumeric-62 : count 256 (allowed Alphanumeric) ≡ 62
-unfolding count
-alphanumeric-62 = refl
-
-text-95 : count 256 (allowed Text) ≡ 95
-unfolding count
-text-95 = refl
-
-identifier-89 : count 256 (allowed Identifier) ≡ 89
-unfolding count
-identifier-89 = refl

@@ -18,9 +18,25 @@ letter b = within 65 90 b || within 97 122 b
 abbrev pub digit : ℕ → Bool
 digit b = within 48 57 b
 
--- comma, semicolon, pipe, @ and double quote
+-- the five characters that 01 excepts, by name, each with its byte
+abbrev pub comma : ℕ
+comma = 44
+
+abbrev pub semicolon : ℕ
+semicolon = 59
+
+abbrev pub pipe : ℕ
+pipe = 124
+
+abbrev pub atSign : ℕ
+atSign = 64
+
+abbrev pub doubleQuote : ℕ
+doubleQuote = 34
+
+-- 01, Wire basics: comma, semicolon, pipe, @ and double quote
 abbrev pub excepted : ℕ → Bool
-excepted b = eqb b 44 || (eqb b 59 || (eqb b 124 || (eqb b 64 || eqb b 34)))
+excepted b = eqb b comma || eqb b semicolon || eqb b pipe || eqb b atSign || eqb b doubleQuote
 
 -- 01, Wire basics: A is letters, N letters and digits, T the bytes 32 to 126; the identifiers use the bytes 33 to 126 except five;
 -- B and P take any value.
@@ -28,7 +44,7 @@ abbrev pub allowed : Kind → ℕ → Bool
 allowed Letters b = letter b
 allowed Alphanumeric b = digit b || letter b
 allowed Text b = within 32 126 b
-allowed Identifier b = not (excepted b) && within 33 126 b
+allowed Identifier b = within 33 126 b && not (excepted b)
 allowed Binary b = true
 allowed Price b = true
 

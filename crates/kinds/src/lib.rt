@@ -7,7 +7,7 @@ ghost use lib.Bits.{bitXor};
 ghost use lib.Dec.{eqb};
 ghost use lib.ListN.{length, take};
 ghost use Rattle.numbers.specs.Numbers.{bytesOf};
-ghost use Rattle.kinds.specs.Kinds.{within, letter, allowed, allNul, allAllowed, follows, agreesText, agreesOf, agreesFilledOf};
+ghost use Rattle.kinds.specs.Kinds.{within, letter, excepted, allowed, allNul, allAllowed, follows, agreesText, agreesOf, agreesFilledOf};
 ghost use Rattle.kinds.specs.Words.{kindOf, Low, Marks};
 
 // A field's kind: document 01's A, N, T, the characters of ClOrdID and OrigClOrdID, B and P.
@@ -51,16 +51,24 @@ fn is_letter(b: u8) -> bool
     is_within(97, 122, b)
 }
 
-// A character of ClOrdID or OrigClOrdID: one of 33 to 126, and none of five.
+// Whether a byte is one of the five characters that ClOrdID and OrigClOrdID do not use: comma, semicolon, pipe, @ and double quote. All five tests are
+// made, as in `both`.
+fn is_excepted(b: u8) -> bool
+    ensures { λ r. ⌜ r ≡ excepted b ⌝ }
+{
+    let comma = b == b',';
+    let semicolon = b == b';';
+    let pipe = b == b'|';
+    let at_sign = b == b'@';
+    let double_quote = b == b'"';
+    comma | semicolon | pipe | at_sign | double_quote
+}
+
+// Whether a byte is a character of ClOrdID or OrigClOrdID: the bytes 33 to 126 except five.
 fn is_identifier(b: u8) -> bool
     ensures { λ r. ⌜ r ≡ allowed Kind.Identifier b ⌝ }
 {
-    let a = is_within(33, 126, b);
-    let c = both(b != b',', a);
-    let d = both(b != b';', c);
-    let e = both(b != b'|', d);
-    let f = both(b != b'@', e);
-    both(b != b'"', f)
+    both(is_within(33, 126, b), !is_excepted(b))
 }
 
 // Whether a field of a kind may hold a byte that is not NUL.

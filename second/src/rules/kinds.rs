@@ -1,5 +1,4 @@
-//! The kinds of fields (document 01, "Wire basics"); the characters of identifiers are those of
-//! document 002.
+//! The kinds of fields and the characters of identifiers (document 01, "Wire basics").
 
 #[derive(Clone, Copy, Debug, PartialEq, Eq)]
 pub enum Kind {
@@ -50,10 +49,20 @@ impl Kind {
             Kind::Letters => byte.is_ascii_alphabetic(),
             Kind::LettersAndDigits => byte.is_ascii_alphanumeric(),
             Kind::Text => (32..=126).contains(&byte),
-            Kind::Identifier => (33..=126).contains(&byte) && !b",;|@\"".contains(&byte),
+            Kind::Identifier => (33..=126).contains(&byte) && !excepted(byte),
             Kind::Binary | Kind::Price => true,
         }
     }
+}
+
+/// The five exceptions from the bytes of identifiers, in the order of document 01.
+fn excepted(byte: u8) -> bool {
+    let comma = byte == b',';
+    let semicolon = byte == b';';
+    let pipe = byte == b'|';
+    let at = byte == b'@';
+    let double_quote = byte == b'"';
+    comma || semicolon || pipe || at || double_quote
 }
 
 /// A field is blank when it holds no byte but NUL.
@@ -94,6 +103,18 @@ mod tests {
         assert_eq!(taken(Kind::LettersAndDigits), 62);
         assert_eq!(taken(Kind::Text), 95);
         assert_eq!(taken(Kind::Identifier), 94 - 5);
+    }
+
+    /// The runs of bytes between the exceptions, by their numbers in ASCII.
+    #[test]
+    fn bytes_of_identifiers() {
+        let runs = [33..=33, 35..=43, 45..=58, 60..=63, 65..=123, 125..=126];
+        let listed: Vec<u8> = runs.into_iter().flatten().collect();
+        let found: Vec<u8> = (0..=255)
+            .filter(|byte| Kind::Identifier.takes(*byte))
+            .collect();
+        assert_eq!(listed.len(), 89);
+        assert_eq!(found, listed);
     }
 
     #[test]
