@@ -18,19 +18,23 @@ letter b = within 65 90 b || within 97 122 b
 abbrev pub digit : ℕ → Bool
 digit b = within 48 57 b
 
--- the five characters that 01 excepts, by name, each with its byte
+-- the five characters that 01 excepts, each with its byte: the comma `,`
 abbrev pub comma : ℕ
 comma = 44
 
+-- the semicolon `;`
 abbrev pub semicolon : ℕ
 semicolon = 59
 
+-- the pipe `|`
 abbrev pub pipe : ℕ
 pipe = 124
 
+-- the at sign `@`
 abbrev pub atSign : ℕ
 atSign = 64
 
+-- the double quote `"`
 abbrev pub doubleQuote : ℕ
 doubleQuote = 34
 
@@ -38,7 +42,7 @@ doubleQuote = 34
 abbrev pub excepted : ℕ → Bool
 excepted b = eqb b comma || eqb b semicolon || eqb b pipe || eqb b atSign || eqb b doubleQuote
 
--- 01, Wire basics: A is letters, N letters and digits, T the bytes 32 to 126; the identifiers use the bytes 33 to 126 except five;
+-- 01, Wire basics: A is letters, N letters and digits, T the bytes 32 to 126; the identifiers use the bytes 33 to 126 except these five;
 -- B and P take any value.
 abbrev pub allowed : Kind → ℕ → Bool
 allowed Letters b = letter b

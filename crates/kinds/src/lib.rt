@@ -64,7 +64,7 @@ fn is_excepted(b: u8) -> bool
     comma | semicolon | pipe | at_sign | double_quote
 }
 
-// Whether a byte is a character of ClOrdID or OrigClOrdID: the bytes 33 to 126 except five.
+// Whether a byte is a character of ClOrdID or OrigClOrdID: the bytes 33 to 126 except those five.
 fn is_identifier(b: u8) -> bool
     ensures { λ r. ⌜ r ≡ allowed Kind.Identifier b ⌝ }
 {
