@@ -24,7 +24,7 @@ static void tell(const char *name, const char *call_and_side, uint64_t number) {
 /* ---- messages */
 
 static void count_call(const struct workload *w, const char *call_and_side, counted *function, const struct arguments *arguments) {
-    uint8_t refusal;
+    uint32_t refusal;
     uint64_t instructions = count(function, arguments, &refusal);
     if (refusal != 0)
         differ(w, "a counted call is refused");
@@ -54,7 +54,7 @@ static void count_bits(const struct bits *of) {
 static uint64_t count_restart(counted *restart, size_t len) {
     static uint8_t state[STATE];
     const struct arguments arguments = {DATE, book, len, state, STATE};
-    uint8_t refusal;
+    uint32_t refusal;
     uint64_t instructions = count(restart, &arguments, &refusal);
     if (refusal != 0)
         books_differ("a counted call is refused");

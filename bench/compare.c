@@ -6,15 +6,15 @@
 
 #include <string.h>
 
-enum { TYPE_AT = 4 };
+enum { TYPE_AT = 4, NO_TEXT = 0x07 };
 
-typedef uint8_t call(uint8_t direction, const uint8_t *from, size_t from_len, uint8_t *to, size_t to_len);
+typedef uint32_t call(uint8_t direction, const uint8_t *from, size_t from_len, uint8_t *to, size_t to_len);
 
-uint8_t proved_read(uint8_t direction, const uint8_t *bytes, size_t len, uint8_t *record, size_t record_len) {
+uint32_t proved_read(uint8_t direction, const uint8_t *bytes, size_t len, uint8_t *record, size_t record_len) {
     return boe_read(direction, bytes, len, (struct boe_record *)record, record_len);
 }
 
-uint8_t proved_write(uint8_t direction, const uint8_t *record, size_t record_len, uint8_t *out, size_t out_len) {
+uint32_t proved_write(uint8_t direction, const uint8_t *record, size_t record_len, uint8_t *out, size_t out_len) {
     return boe_write(direction, (const struct boe_record *)record, record_len, out, out_len);
 }
 
@@ -27,18 +27,16 @@ void differ(const struct workload *w, const char *what) {
     end(1);
 }
 
-/* Asks both sides and compares the refusals and all bytes of the two buffers. */
-static uint8_t ask(const struct workload *w, const char *what, call *proved, call *baseline, uint8_t direction,
-                   const uint8_t *from, size_t from_len, size_t to_len) {
+/* Asks both sides and compares the refusals, their places and all bytes of the two buffers. */
+static void ask(const struct workload *w, const char *what, call *proved, call *baseline, uint8_t direction,
+                const uint8_t *from, size_t from_len, size_t to_len) {
     uint8_t one[LONGEST], other[LONGEST];
     memset(one, FILLING, sizeof one);
     memset(other, FILLING, sizeof other);
-    uint8_t refusal = proved(direction, from, from_len, one, to_len);
-    if (refusal != baseline(direction, from, from_len, other, to_len))
+    if (proved(direction, from, from_len, one, to_len) != baseline(direction, from, from_len, other, to_len))
         differ(w, what);
     if (memcmp(one, other, sizeof one) != 0)
         differ(w, what);
-    return refusal;
 }
 
 void compare_good(struct workload *w) {
@@ -70,6 +68,20 @@ static int is_session(uint8_t direction, uint8_t type) {
     return type == 0x24 || type == 0x08 || type == 0x09 || type == 0x13;
 }
 
+/* Each two of the first bytes replaced by one that no text has: of two bad fields the first is told. */
+static void ask_pairs(const struct workload *w, const char *what, call *proved, call *baseline,
+                      const uint8_t *from, size_t from_len, size_t first) {
+    uint8_t bytes[LONGEST];
+    memcpy(bytes, from, from_len);
+    for (size_t one = 0; one < first; one++)
+        for (size_t other = one + 1; other < first; other++) {
+            bytes[one] = bytes[other] = NO_TEXT;
+            ask(w, what, proved, baseline, w->direction, bytes, from_len, LONGEST);
+            bytes[one] = from[one];
+            bytes[other] = from[other];
+        }
+}
+
 void compare_damaged(const struct workload *w) {
     uint8_t bytes[LONGEST];
     memcpy(bytes, w->message, w->total);
@@ -91,6 +103,7 @@ void compare_damaged(const struct workload *w) {
         }
         bytes[at] = kept;
     }
+    ask_pairs(w, "the readers differ on two damages", proved_read, base_read, w->message, w->total, w->total);
 
     memcpy(bytes, w->record, RECORD);
     for (size_t len = 0; len <= RECORD; len++)
@@ -107,4 +120,5 @@ void compare_damaged(const struct workload *w) {
         }
         bytes[at] = kept;
     }
+    ask_pairs(w, "the writers differ on two damages", proved_write, base_write, w->record, RECORD, BOE_ORDER_RECORD_LEN);
 }

@@ -5,8 +5,8 @@
 #include "messages.h"
 
 /* The proved reader and writer with a record as plain bytes, as the baseline's are called. */
-uint8_t proved_read(uint8_t direction, const uint8_t *bytes, size_t len, uint8_t *record, size_t record_len);
-uint8_t proved_write(uint8_t direction, const uint8_t *record, size_t record_len, uint8_t *out, size_t out_len);
+uint32_t proved_read(uint8_t direction, const uint8_t *bytes, size_t len, uint8_t *record, size_t record_len);
+uint32_t proved_write(uint8_t direction, const uint8_t *record, size_t record_len, uint8_t *out, size_t out_len);
 
 /* Says what differs, and ends. */
 void differ(const struct workload *w, const char *what);
@@ -15,8 +15,8 @@ void differ(const struct workload *w, const char *what);
  * in the buffer stays there. Its record is made. */
 void compare_good(struct workload *w);
 
-/* The same refusals: every cut, every direction, every byte with each of its other values; but no session message, which the plain C
- * does not know. */
+/* The same refusals and places: every cut, every direction, every byte with each of its other values, and each two bytes; but no session
+ * message, which the plain C does not know. */
 void compare_damaged(const struct workload *w);
 
 #endif

@@ -44,7 +44,7 @@ uint64_t nanoseconds(void) {
 }
 
 /* Makes a call with the trap flag set. `nothing` is a call that returns at once. */
-uint8_t stepped(counted *function, const struct arguments *arguments);
+uint32_t stepped(counted *function, const struct arguments *arguments);
 counted nothing;
 void back_from_signal(void);
 
@@ -98,14 +98,14 @@ void count_traps(void) {
     }
 }
 
-static uint64_t steps_of(counted *function, const struct arguments *arguments, uint8_t *refusal) {
+static uint64_t steps_of(counted *function, const struct arguments *arguments, uint32_t *refusal) {
     steps = 0;
     *refusal = stepped(function, arguments);
     return steps;
 }
 
-uint64_t count(counted *function, const struct arguments *arguments, uint8_t *refusal) {
-    uint8_t none;
+uint64_t count(counted *function, const struct arguments *arguments, uint32_t *refusal) {
+    uint32_t none;
     uint64_t least = steps_of(nothing, arguments, &none);
     uint64_t all = steps_of(function, arguments, refusal);
     if (least < 7 || all <= least) {

@@ -27,6 +27,6 @@ uint64_t nanoseconds(void);
 void count_traps(void);
 
 /* The instructions of a call: its five arguments, the call itself and all to the return. */
-uint64_t count(counted *function, const struct arguments *arguments, uint8_t *refusal);
+uint64_t count(counted *function, const struct arguments *arguments, uint32_t *refusal);
 
 #endif

@@ -11,7 +11,7 @@
 enum { ROUNDS = 300, CALLS = 2000, BOOK = 1 << 20, ROWS = 2 * WORKLOADS + 2, SIDES = 2 };
 
 /* Any of the timed calls, as struct arguments has its arguments. */
-typedef uint8_t timed(uint64_t first, const uint8_t *from, uint64_t from_len, uint8_t *to, uint64_t to_len);
+typedef uint32_t timed(uint64_t first, const uint8_t *from, uint64_t from_len, uint8_t *to, uint64_t to_len);
 #define TIMED(function) ((timed *)(counted *)function)
 
 struct row {
@@ -41,9 +41,9 @@ static void add_message_rows(struct row *at, struct workload *w) {
 static uint8_t unmarked[BOOK], appended[BOOK];
 
 /* Opens a book for the date and appends to it each message of an unmarked one. */
-static uint8_t append_all(uint64_t date, const uint8_t *bytes, uint64_t len, uint8_t *to, uint64_t to_len) {
+static uint32_t append_all(uint64_t date, const uint8_t *bytes, uint64_t len, uint8_t *to, uint64_t to_len) {
     struct boe_state *state = (struct boe_state *)to;
-    uint8_t refusals = boe_book_open((uint32_t)date, appended, BOOK, state, to_len);
+    uint32_t refusals = boe_book_open((uint32_t)date, appended, BOOK, state, to_len);
     for (size_t at = BOE_MARK_BYTES, total; at < len; at += total) {
         total = 2u + bytes[at + 2] + 256u * bytes[at + 3];
         refusals |= boe_book_append(bytes + at, total, appended, BOOK, state, to_len);
@@ -73,7 +73,7 @@ static void add_book_rows(struct row *at) {
 
 static uint64_t time_round(const struct row *row, timed *function) {
     const struct arguments *a = &row->arguments;
-    uint8_t refusals = 0;
+    uint32_t refusals = 0;
     memset(a->to, FILLING, a->to_len);
     uint64_t start = nanoseconds();
     for (size_t i = 0; i < row->calls; i++)

@@ -10,7 +10,7 @@
  * has it; and at the session's end one line more: the book's messages, its length, and how many messages were refused, in all and by number.
  * Standard error tells what is wrong. */
 #define _XOPEN_SOURCE 700
-#include "boe.h"
+#include "places.h"
 
 #include <errno.h>
 #include <fcntl.h>
@@ -22,8 +22,8 @@
 #include <sys/stat.h>
 #include <unistd.h>
 
-/* The exit status: 0 where the venue has logged us out; the refusal that leaves nothing to do today with this book or date (13, 17, 18, 19);
- * or one of these. After LOG_IN_AGAIN the book is good, and the program is to be started again, with a new line and its login. */
+/* The exit status: 0 where the venue has logged us out; the number of the refusal that leaves nothing to do today with this book or date (13,
+ * 17, 18, 19); or one of these. After LOG_IN_AGAIN the book is good, and the program is to be started again, with a new line and its login. */
 enum { SYSTEM_FAILED = 100, WRONG_USAGE = 101, LOG_IN_AGAIN = 102, LOGIN_REJECTED = 103 };
 
 /* What stands in the place of an exit status while the session goes on. */
@@ -240,17 +240,20 @@ static unsigned receive(const uint8_t *message, size_t length, int *status) {
     }
 }
 
-/* What is done about a refusal. A 14 is a message that is sent again, and passed over. Any other is told with its bytes, which the venue will
- * ask for. After 1 and 2 the next message's start is not known, after 15 the replay of a new login brings what is missing: the line is
- * broken. After 13 every later message of the unit is a gap, and no login helps. */
+/* What is done about a refusal, by its number. A 14 is a message that is sent again, and passed over. Any other is told in words, with the
+ * message's bytes, which the venue will ask for. After 1 and 2 the next message's start is not known, after 15 the replay of a new login brings
+ * what is missing: the line is broken. After 13 every later message of the unit is a gap, and no login helps. */
 static void judge(unsigned refusal, const uint8_t *bytes, size_t length, int *status) {
-    refused[refusal]++;
-    if (refusal == BOE_ALREADY_TAKEN) return;
-    fprintf(stderr, "gateway: refused: %u: ", refusal);
+    unsigned number = BOE_NUMBER(refusal);
+    refused[number]++;
+    if (number == BOE_ALREADY_TAKEN) return;
+    fprintf(stderr, "gateway: refused: ");
+    print_refused(stderr, refusal, bytes);
+    fprintf(stderr, ": ");
     for (size_t i = 0; i < length; i++) fprintf(stderr, "%02X", bytes[i]);
     fprintf(stderr, "\n");
-    if (refusal == BOE_BAD_START || refusal == BOE_BAD_LENGTH || refusal == BOE_GAP) *status = LOG_IN_AGAIN;
-    if (refusal == BOE_NO_ROOM) *status = BOE_NO_ROOM;
+    if (number == BOE_BAD_START || number == BOE_BAD_LENGTH || number == BOE_GAP) *status = LOG_IN_AGAIN;
+    if (number == BOE_NO_ROOM) *status = BOE_NO_ROOM;
 }
 
 /* Works off the whole messages of what is held of the line, until one ends the session, and answers how many bytes they were. */
@@ -321,10 +324,10 @@ static int run(uint32_t date, const char *path, const char *login) {
     if (login && lstat(login, &there) == 0) fail_as(login, "there already, and not written over; a line is read with <");
     open_file(path, true);
     unsigned refusal = take_up(date, path);
-    if (refusal) return (int)refusal;
+    if (refusal) return (int)BOE_NUMBER(refusal);
     hand_on(0);
     if (login) refusal = send_login(login);
-    int status = refusal ? (int)refusal : follow();
+    int status = refusal ? (int)BOE_NUMBER(refusal) : follow();
     close_book();
     report();
     return status;
@@ -345,16 +348,16 @@ int main(int argc, char **argv) {
     } else {
         /* what is no day is told before there is a file: a restart on no bytes is 19, or 22 */
         uint32_t date = (uint32_t)strtoul(words[0], NULL, 10);
-        status = boe_restart(date, book, 0, &state, sizeof state);
+        status = (int)BOE_NUMBER(boe_restart(date, book, 0, &state, sizeof state));
         if (status == BOE_NO_FIRST_MARK && messages) {
             open_file(words[1], false);
-            status = boe_restart(date, book, load(), &state, sizeof state);
+            status = (int)BOE_NUMBER(boe_restart(date, book, load(), &state, sizeof state));
             if (status == 0) write_messages();
         } else if (status == BOE_NO_FIRST_MARK) {
             status = run(date, words[1], words[2]);
         }
     }
     if (fflush(stdout) != 0 || ferror(stdout)) fail("standard output");
-    if (status > 0 && status <= BOE_REFUSALS) fprintf(stderr, "gateway: ended by refusal %d\n", status);
+    if (status > 0 && status <= BOE_REFUSALS) fprintf(stderr, "gateway: ended by refusal %d %s\n", status, refusal_name((uint32_t)status));
     return status;
 }

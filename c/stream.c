@@ -46,7 +46,7 @@ static void fill(uint8_t *place, unsigned len, char kind) {
 static size_t written(const struct boe_record *record, uint8_t *out) {
     unsigned refusal = boe_write(BOE_FROM_VENUE, record, sizeof *record, out, LONGEST);
     if (refusal) {
-        fprintf(stderr, "stream: a record of type %02X is refused: %u\n", record->bytes[BOE_RECORD_TYPE_AT], refusal);
+        fprintf(stderr, "stream: a record of type %02X is refused: %u at %u\n", record->bytes[BOE_RECORD_TYPE_AT], BOE_NUMBER(refusal), BOE_PLACE(refusal));
         exit(1);
     }
     return boe_frame_length(out, LONGEST);

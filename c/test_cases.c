@@ -162,7 +162,7 @@ static void messages(void) {
     check(boe_write(BOE_FROM_MEMBER, &record, sizeof record, out, sizeof out) == BOE_NOT_ZERO, "a field that is not selected");
     record.bytes[BOE_NEW_ORDER_STOP_PX_AT] = 0;
     record.bytes[BOE_RECORD_BITFIELDS_AT + BOE_NEW_ORDER_SYMBOL_BYTE - 1] &= (uint8_t)~BOE_NEW_ORDER_SYMBOL_BIT;
-    check(boe_write(BOE_FROM_MEMBER, &record, sizeof record, out, sizeof out) == BOE_NOT_SELECTED, "Symbol is required");
+    check(boe_write(BOE_FROM_MEMBER, &record, sizeof record, out, sizeof out) == refused_at(BOE_NOT_SELECTED, 38), "Symbol is required");
 }
 
 /* The body of a session message stands in its record as on the wire, with zeros after it. */
@@ -196,7 +196,7 @@ static void logins(void) {
     record.bytes[BOE_LOGIN_REQUEST_GROUPS_AT + BOE_UNITS_GROUP_FLAG_AT] = 2;
     check(boe_write(BOE_FROM_MEMBER, &record, sizeof record, out, sizeof out) == BOE_BAD_GROUP, "flag 2");
     record.bytes[BOE_LOGIN_REQUEST_PASSWORD_AT] = ' ';
-    check(boe_write(BOE_FROM_MEMBER, &record, sizeof record, out, sizeof out) == BOE_BAD_VALUE, "10 comes before 11");
+    check(boe_write(BOE_FROM_MEMBER, &record, sizeof record, out, sizeof out) == refused_at(BOE_BAD_VALUE, 18), "10 comes before 11");
     record.bytes[BOE_RECORD_NUMBER_AT] = 1;
     check(boe_write(BOE_FROM_MEMBER, &record, sizeof record, out, sizeof out) == BOE_BAD_UNIT, "5 comes before 10");
     check(boe_read(BOE_FROM_MEMBER, login, sizeof login, &record, sizeof record) == 0, "000's login");
@@ -246,7 +246,7 @@ static void header_alone(uint8_t direction, const uint8_t *message) {
     memcpy(bytes, message, 10);
     bytes[2] = 9;
     bytes[10] = 0;
-    check(boe_read(direction, bytes, sizeof bytes, &record, sizeof record) == BOE_WRONG_TOTAL, "a byte more");
+    check(boe_read(direction, bytes, sizeof bytes, &record, sizeof record) == refused_at(BOE_WRONG_TOTAL, 11), "a byte more");
     bytes[5] = 1;
     check(boe_read(direction, bytes, sizeof bytes, &record, sizeof record) == BOE_BAD_UNIT, "5 comes before 6");
 }
@@ -322,6 +322,156 @@ static void books(void) {
     check(same_bytes(buffer, held, sizeof buffer) && same_bytes(state, kept, sizeof state), "changed nothing");
 }
 
+/* ---- refusals with a place */
+
+/* An example with a byte changed, at a place of the message or of its record, and its refusal. */
+struct damage {
+    uint8_t direction;
+    const uint8_t *message;
+    size_t len, at;
+    uint8_t byte;
+    enum boe_refusal number;
+    unsigned place;
+    const char *what;
+};
+#define OF_MEMBER(message, ...) {BOE_FROM_MEMBER, message, sizeof message, __VA_ARGS__}
+#define OF_VENUE(message, ...) {BOE_FROM_VENUE, message, sizeof message, __VA_ARGS__}
+
+static const struct damage messages_damaged[] = {
+    OF_MEMBER(new_order, 60, 0x07, BOE_BAD_VALUE, 60, "Account's first byte"),
+    OF_MEMBER(new_order, 63, 0x07, BOE_BAD_VALUE, 60, "a later byte of Account"),
+    OF_MEMBER(new_order, 75, 'X', BOE_BAD_VALUE, 60, "Account's last byte, after NULs"),
+    OF_MEMBER(new_order, 47, '-', BOE_BAD_VALUE, 47, "Symbol"),
+    OF_MEMBER(new_order, 10, 0, BOE_BAD_VALUE, 10, "ClOrdID"),
+    OF_MEMBER(new_order, 30, 0, BOE_BAD_VALUE, 30, "Side"),
+    OF_MEMBER(new_order, 34, 1, BOE_BAD_VALUE, 31, "OrderQty"),
+    OF_MEMBER(new_order, 2, 0x49, BOE_WRONG_TOTAL, 75, "a length less by one"),
+    OF_MEMBER(new_order, 2, 0x4B, BOE_WRONG_TOTAL, 77, "a length more by one"),
+    OF_MEMBER(new_order, 2, 18, BOE_WRONG_TOTAL, 20, "no count byte"),
+    OF_MEMBER(new_order, 2, 36, BOE_WRONG_TOTAL, 38, "two bitfields of three"),
+    OF_MEMBER(new_order, 35, 0x0B, BOE_TOO_MANY_BITFIELDS, 35, "the count"),
+    OF_MEMBER(new_order, 37, 0xC9, BOE_UNLISTED_BIT, 37, "the second bitfield"),
+    OF_MEMBER(new_order, 37, 0xC0, BOE_NOT_SELECTED, 38, "no Symbol"),
+    OF_MEMBER(new_order, 36, 0, BOE_NOT_SELECTED, 38, "neither Price nor OrdType"),
+    OF_MEMBER(new_order, 35, 0, BOE_NOT_SELECTED, 35, "no bitfields"),
+    OF_MEMBER(cancel_order, 10, 0, BOE_BAD_VALUE, 10, "OrigClOrdID"),
+    OF_MEMBER(cancel_order, 32, '0', BOE_BAD_VALUE, 32, "ClearingFirm"),
+    OF_MEMBER(cancel_order, 30, 3, BOE_TOO_MANY_BITFIELDS, 30, "the count"),
+    OF_MEMBER(cancel_order, 31, 3, BOE_UNLISTED_BIT, 31, "the only bitfield"),
+    OF_VENUE(acknowledgment, 18, 0, BOE_BAD_VALUE, 18, "ClOrdID"),
+    OF_VENUE(acknowledgment, 79, '!', BOE_BAD_VALUE, 76, "the last field"),
+    OF_VENUE(acknowledgment, 47, 16, BOE_TOO_MANY_BITFIELDS, 47, "the count"),
+    OF_VENUE(acknowledgment, 50, 0x08, BOE_UNLISTED_BIT, 50, "the third bitfield"),
+    OF_VENUE(acknowledgment, 2, 0x4F, BOE_WRONG_TOTAL, 81, "a length more by one"),
+    OF_VENUE(execution, 62, ' ', BOE_BAD_VALUE, 62, "BaseLiquidityIndicator"),
+    OF_VENUE(execution, 63, '-', BOE_BAD_VALUE, 63, "SubLiquidityIndicator"),
+    OF_VENUE(execution, 66, 0, BOE_BAD_VALUE, 64, "ContraBroker"),
+    OF_VENUE(execution, 73, ' ', BOE_BAD_VALUE, 73, "ClearingFirm"),
+    OF_MEMBER(options_login, 10, ' ', BOE_BAD_VALUE, 10, "SessionSubID"),
+    OF_MEMBER(options_login, 14, '-', BOE_BAD_VALUE, 14, "Username"),
+    OF_MEMBER(options_login, 20, ' ', BOE_BAD_VALUE, 18, "Password"),
+    OF_MEMBER(options_login, 2, 0x3E, BOE_WRONG_TOTAL, 64, "a length more by one"),
+    OF_VENUE(login_response, 10, 0x07, BOE_BAD_VALUE, 10, "its status"),
+    OF_VENUE(login_response, 70, 'X', BOE_BAD_VALUE, 11, "its text"),
+    OF_VENUE(logout, 10, 0x07, BOE_BAD_VALUE, 10, "its reason"),
+    OF_VENUE(logout, 11, 0, BOE_BAD_VALUE, 11, "its text"),
+    OF_VENUE(replay_complete, 2, 9, BOE_WRONG_TOTAL, 11, "a length more by one"),
+};
+
+static const struct damage records_damaged[] = {
+    OF_MEMBER(new_order, BOE_NEW_ORDER_SYMBOL_AT, 0x2D, BOE_BAD_VALUE, 47, "Symbol, where it would stand"),
+    OF_MEMBER(new_order, BOE_NEW_ORDER_ACCOUNT_AT + 3, 0x07, BOE_BAD_VALUE, 60, "Account"),
+    OF_MEMBER(new_order, BOE_NEW_ORDER_CL_ORD_ID_AT, 0, BOE_BAD_VALUE, 10, "ClOrdID"),
+    OF_MEMBER(new_order, BOE_NEW_ORDER_SIDE_AT, 0, BOE_BAD_VALUE, 30, "Side"),
+    OF_MEMBER(new_order, BOE_NEW_ORDER_ORDER_QTY_AT + 3, 1, BOE_BAD_VALUE, 31, "OrderQty"),
+    OF_MEMBER(new_order, BOE_RECORD_COUNT_AT, 11, BOE_TOO_MANY_BITFIELDS, 35, "the count"),
+    OF_MEMBER(new_order, BOE_RECORD_COUNT_AT, 0, BOE_NOT_SELECTED, 35, "no bitfields"),
+    OF_MEMBER(new_order, BOE_RECORD_BITFIELDS_AT + 1, 0xC9, BOE_UNLISTED_BIT, 37, "the second bitfield"),
+    OF_MEMBER(new_order, BOE_RECORD_BITFIELDS_AT + 1, 0xC0, BOE_NOT_SELECTED, 38, "no Symbol"),
+    OF_MEMBER(cancel_order, BOE_CANCEL_ORDER_CLEARING_FIRM_AT, '0', BOE_BAD_VALUE, 32, "ClearingFirm"),
+    OF_VENUE(acknowledgment, BOE_ACKNOWLEDGMENT_CL_ORD_ID_AT, 0, BOE_BAD_VALUE, 18, "ClOrdID"),
+    OF_VENUE(acknowledgment, BOE_ACKNOWLEDGMENT_ACCOUNT_AT, 0x07, BOE_BAD_VALUE, 60, "Account"),
+    OF_VENUE(execution, BOE_EXECUTION_CONTRA_BROKER_AT, ' ', BOE_BAD_VALUE, 64, "ContraBroker"),
+    OF_VENUE(execution, BOE_EXECUTION_CLEARING_FIRM_AT, ' ', BOE_BAD_VALUE, 73, "ClearingFirm"),
+    OF_MEMBER(login, BOE_LOGIN_REQUEST_USERNAME_AT, '-', BOE_BAD_VALUE, 14, "Username"),
+    OF_VENUE(login_response, BOE_LOGIN_RESPONSE_TEXT_AT + 59, 'X', BOE_BAD_VALUE, 11, "its text"),
+    OF_VENUE(logout, BOE_LOGOUT_REASON_AT, 0x07, BOE_BAD_VALUE, 10, "its reason"),
+};
+
+/* A refusal in one number, taken apart, and as a caller of old keeps it. */
+static void check_refusal(uint32_t refusal, const struct damage *d) {
+    check(refusal == refused_at(d->number, d->place), d->what);
+    check(BOE_NUMBER(refusal) == d->number && BOE_PLACE(refusal) == d->place, "its number and its place");
+    check((uint8_t)refusal == d->number, "a caller of old has the number");
+}
+
+/* The message of a damage, and a byte after it. */
+static void damage_message(const struct damage *d, uint8_t *bytes) {
+    memcpy(bytes, d->message, d->len);
+    bytes[d->len] = 0;
+    bytes[d->at] = d->byte;
+}
+
+static void refused_reading(const struct damage *d) {
+    uint8_t bytes[600], record[BOE_RECORD_LEN + 3];
+    struct boe_record *lent = (struct boe_record *)record;
+    damage_message(d, bytes);
+    memset(record, 0x5A, sizeof record);
+    check_refusal(boe_read(d->direction, bytes, d->len + 1, lent, sizeof record), d);
+    check(all_are(record, sizeof record, 0x5A), "a refusal with a place stored nothing");
+    check_refusal(boe_read(d->direction, bytes, d->len + 1, lent, 0), d);
+    check(all_are(record, sizeof record, 0x5A), "nor where there is no room");
+}
+
+static void refused_writing(const struct damage *d) {
+    struct boe_record record;
+    uint8_t out[600];
+    memset(out, 0x5A, sizeof out);
+    check(boe_read(d->direction, d->message, d->len, &record, sizeof record) == 0, "an example");
+    record.bytes[d->at] = d->byte;
+    check_refusal(boe_write(d->direction, &record, record_len(d->message[4]), out, sizeof out), d);
+    check(all_are(out, sizeof out, 0x5A), "a refusal with a place stored nothing");
+    check_refusal(boe_write(d->direction, &record, sizeof record, out, 0), d);
+    check(all_are(out, sizeof out, 0x5A), "nor where there is no room");
+}
+
+/* Appending tells the place in the message, not in the book; a restart from a book that has such a message tells none. */
+static void refused_appending(const struct damage *d) {
+    enum { DATE = 20250819, ROOM = 200 };
+    uint8_t bytes[600], buffer[ROOM], held[ROOM];
+    struct boe_state state, kept;
+    memset(buffer, 0x5A, sizeof buffer);
+    check(boe_book_open(DATE, buffer, sizeof buffer, &state, sizeof state) == 0, "a book is opened");
+    damage_message(d, bytes);
+    memcpy(held, buffer, sizeof buffer);
+    kept = state;
+    check_refusal(boe_book_append(bytes, d->len + 1, buffer, sizeof buffer, &state, sizeof state), d);
+    check(memcmp(buffer, held, sizeof buffer) == 0 && memcmp(&state, &kept, sizeof state) == 0, "a refusal with a place changed nothing");
+    memcpy(buffer + BOE_MARK_BYTES, bytes, d->len + 1);
+    check(boe_restart(DATE, buffer, BOE_MARK_BYTES + d->len + 1, &state, sizeof state) == BOE_BAD_BOOK, "18 has no place");
+    check(memcmp(&state, &kept, sizeof state) == 0, "and changed nothing");
+}
+
+static void places(void) {
+    struct boe_record record;
+    uint8_t bytes[sizeof new_order];
+    for (size_t i = 0; i < sizeof messages_damaged / sizeof *messages_damaged; i++) {
+        const struct damage *d = &messages_damaged[i];
+        refused_reading(d);
+        if (d->message == acknowledgment || d->message == execution) refused_appending(d);
+    }
+    for (size_t i = 0; i < sizeof records_damaged / sizeof *records_damaged; i++) refused_writing(&records_damaged[i]);
+
+    memcpy(bytes, new_order, sizeof new_order);
+    bytes[60] = 0x07;
+    check(boe_read(BOE_FROM_MEMBER, bytes, sizeof bytes, &record, sizeof record) == 15370, "a bad Account is 10 + 256 * 60");
+    bytes[30] = 0;
+    check(boe_read(BOE_FROM_MEMBER, bytes, sizeof bytes, &record, sizeof record) == refused_at(BOE_BAD_VALUE, 30), "Side comes before it");
+    bytes[2] = 34;
+    bytes[35] = 0;
+    check(boe_read(BOE_FROM_MEMBER, bytes, 36, &record, sizeof record) == refused_at(BOE_NOT_SELECTED, 35), "a message that ends with its count");
+}
+
 /* A group of all units and a group of 15 bitfields for each message type: what a login has at most. Answers their bytes. */
 static size_t most_groups(uint8_t *at) {
     uint8_t *group = at;
@@ -377,5 +527,6 @@ void hand_made_cases(void) {
     header_alone(BOE_FROM_VENUE, server_heartbeat);
     header_alone(BOE_FROM_VENUE, replay_complete);
     books();
+    places();
     most();
 }

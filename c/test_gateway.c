@@ -48,6 +48,8 @@ int all_are(const uint8_t *bytes, size_t len, uint8_t byte) {
     return 1;
 }
 
+uint32_t refused_at(enum boe_refusal number, unsigned place) { return number + 256u * place; }
+
 int main(int argc, char **argv) {
     if (argc != 3) {
         fprintf(stderr, "usage: test_gateway QUESTIONS ANSWERS\n");

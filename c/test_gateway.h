@@ -16,6 +16,8 @@ uint32_t entry(const uint8_t *table, unsigned unit);
 /* The bytes of the record of a type. */
 size_t record_len(uint8_t type);
 int all_are(const uint8_t *bytes, size_t len, uint8_t byte);
+/* What a call answers that refuses with a number and a place. */
+uint32_t refused_at(enum boe_refusal number, unsigned place);
 
 /* test_cases.c */
 void hand_made_cases(void);

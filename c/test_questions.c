@@ -35,8 +35,15 @@ static void tohex(const uint8_t *bytes, long n, char *out) {
     *out = 0;
 }
 
+/* A refusal as the answers have it: its number, and after an @ its place where it has one. The text stays until the next is made. */
+static const char *told(uint32_t refusal) {
+    static char text[24];
+    sprintf(text, BOE_PLACE(refusal) ? "%u@%u" : "%u", BOE_NUMBER(refusal), BOE_PLACE(refusal));
+    return text;
+}
+
 /* A book restarted for a date, in a buffer with `room` bytes FF after it. */
-static unsigned restarted(const char *date, const uint8_t *book, size_t n, struct boe_state *state, uint8_t *buffer, size_t room) {
+static uint32_t restarted(const char *date, const uint8_t *book, size_t n, struct boe_state *state, uint8_t *buffer, size_t room) {
     memcpy(buffer, book, n);
     memset(buffer + n, 0xFF, room);
     memset(state, 0x5A, sizeof *state);
@@ -53,16 +60,16 @@ static int book_answer(const char *call, const char *date, const char *book, con
     if (n < 0 || (size_t)n + room > MOST_BYTES) return 0;
     size_t end = (size_t)n + room;
     if (strcmp(call, "open") == 0 && !third) {
-        unsigned refusal = boe_book_open((uint32_t)strtoul(date, NULL, 10), bytes, (size_t)n, &state, sizeof state);
+        uint32_t refusal = boe_book_open((uint32_t)strtoul(date, NULL, 10), bytes, (size_t)n, &state, sizeof state);
         tohex(bytes, n, hex);
-        sprintf(out, "%u %s", refusal, hex);
+        sprintf(out, "%s %s", told(refusal), hex);
         return 1;
     }
     if (strcmp(call, "restart") == 0 && !third) {
-        unsigned refusal = restarted(date, bytes, (size_t)n, &state, buffer, 0);
+        uint32_t refusal = restarted(date, bytes, (size_t)n, &state, buffer, 0);
         tohex(state.bytes + BOE_STATE_TABLE_AT, BOE_TABLE_BYTES, hex);
         if (refusal)
-            sprintf(out, all_are(state.bytes, sizeof state, 0x5A) ? "%u" : "a refused restart has stored: %u", refusal);
+            sprintf(out, all_are(state.bytes, sizeof state, 0x5A) ? "%s" : "a refused restart has stored: %s", told(refusal));
         else
             sprintf(out, "0 %lu %lu %lu %s", (unsigned long)number_at(state.bytes + BOE_STATE_LENGTH_AT), (unsigned long)number_at(state.bytes + BOE_STATE_LAST_MARK_AT),
                     (unsigned long)number_at(state.bytes + BOE_STATE_MESSAGES_AT), hex);
@@ -71,19 +78,19 @@ static int book_answer(const char *call, const char *date, const char *book, con
     if (strcmp(call, "append") == 0 && fourth) {
         long k = unhex(fourth, given);
         if (k < 0) return 0;
-        unsigned refusal = restarted(date, bytes, (size_t)n, &state, buffer, room);
-        if (refusal) return sprintf(out, "%u", refusal);
+        uint32_t refusal = restarted(date, bytes, (size_t)n, &state, buffer, room);
+        if (refusal) return sprintf(out, "%s", told(refusal));
         refusal = boe_book_append(given, (size_t)k, buffer, end, &state, sizeof state);
         tohex(buffer, (long)end, hex);
-        sprintf(out, "0 %u %lu %s", refusal, (unsigned long)number_at(state.bytes + BOE_STATE_LENGTH_AT), hex);
+        sprintf(out, "0 %s %lu %s", told(refusal), (unsigned long)number_at(state.bytes + BOE_STATE_LENGTH_AT), hex);
         return 1;
     }
     if (strcmp(call, "close") == 0 && third && !fourth) {
-        unsigned refusal = restarted(date, bytes, (size_t)n, &state, buffer, room);
-        if (refusal) return sprintf(out, "%u", refusal);
+        uint32_t refusal = restarted(date, bytes, (size_t)n, &state, buffer, room);
+        if (refusal) return sprintf(out, "%s", told(refusal));
         refusal = boe_book_close(buffer, end, &state, sizeof state);
         tohex(buffer, (long)end, hex);
-        sprintf(out, "%u %lu %s", refusal, (unsigned long)number_at(state.bytes + BOE_STATE_LENGTH_AT), hex);
+        sprintf(out, "%s %lu %s", told(refusal), (unsigned long)number_at(state.bytes + BOE_STATE_LENGTH_AT), hex);
         return 1;
     }
     return 0;
@@ -101,19 +108,19 @@ static int answer(char *question, char *out) {
         long n = unhex(first, bytes);
         if (n < 0 || second) return 0;
         size_t total = boe_frame_length(bytes, (size_t)n);
-        unsigned refusal = boe_frame_refusal(bytes, (size_t)n);
+        uint32_t refusal = boe_frame_refusal(bytes, (size_t)n);
         if (refusal == 0)
             sprintf(out, "0 %zu %u %u %lu", total, bytes[4], bytes[5], (unsigned long)number_at(bytes + 6));
         else
-            sprintf(out, total == 0 ? "%u" : "a refused message has a length: %u", refusal);
+            sprintf(out, total == 0 ? "%s" : "a refused message has a length: %s", told(refusal));
         return 1;
     }
     if (strcmp(call, "step") == 0 && second && third && !fourth) {
         long n = unhex(first, bytes);
         if (n < 0) return 0;
-        unsigned refusal = boe_table_step((uint8_t)atoi(second), (uint32_t)strtoul(third, NULL, 10), bytes, (size_t)n);
+        uint32_t refusal = boe_table_step((uint8_t)atoi(second), (uint32_t)strtoul(third, NULL, 10), bytes, (size_t)n);
         tohex(bytes, n, hex);
-        sprintf(out, "%u %s", refusal, hex);
+        sprintf(out, "%s %s", told(refusal), hex);
         return 1;
     }
     if (strcmp(call, "read") == 0 && second && !third) {
@@ -121,12 +128,12 @@ static int answer(char *question, char *out) {
         long n = unhex(second, bytes);
         if (n < 0) return 0;
         memset(record, 0x5A, sizeof record);
-        unsigned refusal = boe_read((uint8_t)atoi(first), bytes, (size_t)n, (struct boe_record *)record, sizeof record);
+        uint32_t refusal = boe_read((uint8_t)atoi(first), bytes, (size_t)n, (struct boe_record *)record, sizeof record);
         size_t own = refusal ? 0 : record_len(record[BOE_RECORD_TYPE_AT]);
         if (!all_are(record + own, sizeof record - own, 0x5A)) {
-            sprintf(out, "bytes past the record have changed: %u", refusal);
+            sprintf(out, "bytes past the record have changed: %s", told(refusal));
         } else if (refusal) {
-            sprintf(out, "%u", refusal);
+            sprintf(out, "%s", told(refusal));
         } else {
             tohex(record, (long)own, hex);
             sprintf(out, "0 %s", hex);
@@ -139,10 +146,10 @@ static int answer(char *question, char *out) {
         uint8_t direction = (uint8_t)atoi(first);
         long k = unhex(second, given), n = unhex(third, bytes);
         if (k < 0 || n < 0) return 0;
-        unsigned refusal = writes ? boe_write(direction, (struct boe_record *)given, (size_t)k, bytes, (size_t)n)
+        uint32_t refusal = writes ? boe_write(direction, (struct boe_record *)given, (size_t)k, bytes, (size_t)n)
                                   : boe_read(direction, given, (size_t)k, (struct boe_record *)bytes, (size_t)n);
         tohex(bytes, n, hex);
-        sprintf(out, "%u %s", refusal, hex);
+        sprintf(out, "%s %s", told(refusal), hex);
         return 1;
     }
     return 0;
@@ -150,7 +157,7 @@ static int answer(char *question, char *out) {
 
 void stored_questions(FILE *questions, FILE *answers) {
     static char question[LONGEST], expected[LONGEST + 8], got[LONGEST + 8];
-    unsigned long line = 0, asked = 0;
+    unsigned long line = 0, asked = 0, placed = 0;
     while (fgets(question, sizeof question, questions)) {
         line++;
         if (!fgets(expected, sizeof expected, answers)) {
@@ -161,8 +168,10 @@ void stored_questions(FILE *questions, FILE *answers) {
         expected[strcspn(expected, "\n")] = 0;
         if (strcmp(expected, "?") == 0 || !answer(question, got)) continue;
         asked++;
+        placed += strchr(expected, '@') != NULL;
         check_answer(line, expected, got);
     }
     check(fgets(expected, sizeof expected, answers) == NULL, "more answers than questions");
     check(asked > 45000, "the stored questions were asked, those on the day book too");
+    check(placed > 4000, "and those whose refusal has a place");
 }

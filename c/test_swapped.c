@@ -2,9 +2,9 @@
  * stand in their places. */
 #include "boe.h"
 
-uint8_t call(const uint8_t *bytes, uint8_t *buffer, struct boe_record *record, struct boe_state *state);
+uint32_t call(const uint8_t *bytes, uint8_t *buffer, struct boe_record *record, struct boe_state *state);
 
-uint8_t call(const uint8_t *bytes, uint8_t *buffer, struct boe_record *record, struct boe_state *state) {
+uint32_t call(const uint8_t *bytes, uint8_t *buffer, struct boe_record *record, struct boe_state *state) {
     (void)bytes, (void)buffer, (void)record, (void)state;
 #if SWAPPED == 0
     return boe_table_step(1, 1, buffer, 1) || boe_read(0, bytes, 1, record, sizeof *record) || boe_write(0, record, sizeof *record, buffer, 1) ||

@@ -77,6 +77,16 @@ static void must(int holds, const char *what) {
     abort();
 }
 
+/* A refusal as a word of the answer: its number, and after an @ its place where it has one. 6 to 10 alone have one, 6 the end of the message
+ * and the others a byte of it after its header; the total is the message's, or 0 where the call has none. */
+static void refused(uint32_t refusal, size_t total) {
+    uint32_t code = BOE_NUMBER(refusal), place = BOE_PLACE(refusal);
+    char told[24];
+    word(&proved, told, (size_t)sprintf(told, place ? "%u@%u" : "%u", code, place));
+    if (code < BOE_WRONG_TOTAL || code > BOE_BAD_VALUE) must(place == 0, "a place of a number that has none");
+    else must(place >= 10 && (code == BOE_WRONG_TOTAL ? place == total : place < total), "a place that is not in the message");
+}
+
 /* ---- the buffers */
 
 /* A buffer that ends where a page starts that may not be touched, with what it and the bytes before it held when it was lent. */
@@ -143,11 +153,11 @@ static size_t room_by(uint8_t choice, size_t enough) { return choice < 192 ? eno
 
 static void try_frame(const uint8_t *data, size_t n) {
     lend(&bytes, data, n);
-    unsigned refusal = boe_frame_refusal(bytes.at, n);
+    uint32_t refusal = boe_frame_refusal(bytes.at, n);
     size_t total = boe_frame_length(bytes.at, n);
     name(&question, "frame");
     hex(&question, data, n);
-    number(&proved, refusal);
+    refused(refusal, 0);
     must(stayed(&bytes), "framing has stored");
     must((total == 0) == (refusal != 0) && total <= n, "the length of a whole message alone");
     if (refusal == 0) {
@@ -161,12 +171,12 @@ static void try_frame(const uint8_t *data, size_t n) {
 
 static void try_step(uint8_t unit, uint32_t value, const uint8_t *data, size_t n) {
     lend(&bytes, data, n);
-    unsigned refusal = boe_table_step(unit, value, bytes.at, n);
+    uint32_t refusal = boe_table_step(unit, value, bytes.at, n);
     name(&question, "step");
     hex(&question, data, n);
     number(&question, unit);
     number(&question, value);
-    number(&proved, refusal);
+    refused(refusal, 0);
     hex(&proved, bytes.at, n);
     must(stayed_from(&bytes, refusal ? 0 : BOE_TABLE_BYTES), "a step has stored past its table, or a refused one at all");
     ask();
@@ -180,19 +190,19 @@ static size_t record_len(uint8_t type) {
 static void try_read(uint8_t direction, uint8_t choice, const uint8_t *data, size_t n) {
     lend(&bytes, data, n);
     lend_filled(&record, FILL, BOE_RECORD_LEN + 1);
-    unsigned refusal = boe_read(direction, bytes.at, n, record_in(&record), record.len);
+    uint32_t refusal = boe_read(direction, bytes.at, n, record_in(&record), record.len);
     size_t own = refusal ? 0 : record_len(record.at[BOE_RECORD_TYPE_AT]);
     name(&question, "read");
     number(&question, direction);
     hex(&question, data, n);
-    number(&proved, refusal);
+    refused(refusal, boe_frame_length(bytes.at, n));
     if (refusal == 0) hex(&proved, record.at, own);
     must(stayed(&bytes), "reading has stored into the message");
     must(stayed_from(&record, own), "reading has stored past the record");
 
     /* the same with another buffer, which may be too short */
     lend_filled(&other, (uint8_t)~FILL, room_by(choice, BOE_RECORD_LEN));
-    unsigned again = boe_read(direction, bytes.at, n, record_in(&other), other.len);
+    uint32_t again = boe_read(direction, bytes.at, n, record_in(&other), other.len);
     if (other.len < own) {
         must(again == BOE_NO_ROOM && stayed(&other), "13 for a short record, and nothing stored");
     } else {
@@ -231,9 +241,9 @@ static void try_write(uint8_t direction, uint8_t form, uint16_t out_len, const u
     number(&question, direction);
     hex(&question, record.at, record.len);
     hex(&question, out.at, out.len);
-    unsigned refusal = boe_write(direction, record_in(&record), record.len, out.at, out.len);
+    uint32_t refusal = boe_write(direction, record_in(&record), record.len, out.at, out.len);
     size_t total = refusal ? 0 : 2u + out.at[2] + 256u * out.at[3];
-    number(&proved, refusal);
+    refused(refusal, BOE_WRITTEN_MOST_BYTES);
     hex(&proved, out.at, out.len);
     must(stayed(&record), "writing has stored into the record");
     must(stayed_from(&out, total), "writing has stored past its message");
@@ -261,11 +271,11 @@ static void must_be_state_of(uint32_t date, const uint8_t *book, size_t length) 
 static void try_open(uint8_t choice, uint32_t date, const uint8_t *data, size_t n) {
     lend(&out, data, n);
     lend_filled(&state, FILL, BOE_STATE_BYTES + 1);
-    unsigned refusal = boe_book_open(date, out.at, n, state_in(&state), state.len);
+    uint32_t refusal = boe_book_open(date, out.at, n, state_in(&state), state.len);
     name(&question, "open");
     number(&question, date);
     hex(&question, data, n);
-    number(&proved, refusal);
+    refused(refusal, 0);
     hex(&proved, out.at, n);
     must(stayed_from(&out, refusal ? 0 : BOE_MARK_BYTES), "opening has stored past the mark");
     must(stayed_from(&state, refusal ? 0 : BOE_STATE_BYTES), "opening has stored past the state");
@@ -274,7 +284,7 @@ static void try_open(uint8_t choice, uint32_t date, const uint8_t *data, size_t 
     /* with another state's buffer, which may be too short */
     lend(&out, data, n);
     lend_filled(&other, FILL, room_by(choice, BOE_STATE_BYTES));
-    unsigned again = boe_book_open(date, out.at, n, state_in(&other), other.len);
+    uint32_t again = boe_book_open(date, out.at, n, state_in(&other), other.len);
     if (other.len < BOE_STATE_BYTES && refusal == 0)
         must(again == BOE_NO_ROOM && stayed(&out) && stayed(&other), "13 for a short state, and nothing stored");
     else
@@ -285,11 +295,11 @@ static void try_open(uint8_t choice, uint32_t date, const uint8_t *data, size_t 
 static void try_restart(uint8_t choice, uint32_t date, const uint8_t *data, size_t n) {
     lend(&bytes, data, n);
     lend_filled(&state, FILL, BOE_STATE_BYTES + 1);
-    unsigned refusal = boe_restart(date, bytes.at, n, state_in(&state), state.len);
+    uint32_t refusal = boe_restart(date, bytes.at, n, state_in(&state), state.len);
     name(&question, "restart");
     number(&question, date);
     hex(&question, data, n);
-    number(&proved, refusal);
+    refused(refusal, 0);
     must(stayed(&bytes), "restart has stored into the book");
     must(stayed_from(&state, refusal ? 0 : BOE_STATE_BYTES), "restart has stored past the state, or a refused one at all");
     if (refusal == 0) {
@@ -302,7 +312,7 @@ static void try_restart(uint8_t choice, uint32_t date, const uint8_t *data, size
     }
 
     lend_filled(&other, FILL, room_by(choice, BOE_STATE_BYTES));
-    unsigned again = boe_restart(date, bytes.at, n, state_in(&other), other.len);
+    uint32_t again = boe_restart(date, bytes.at, n, state_in(&other), other.len);
     if (other.len < BOE_STATE_BYTES && refusal == 0)
         must(again == BOE_NO_ROOM && stayed(&other), "13 for a short state, and nothing stored");
     else
@@ -311,12 +321,12 @@ static void try_restart(uint8_t choice, uint32_t date, const uint8_t *data, size
 }
 
 /* Restarts from a book that stands in the front of a buffer, with some bytes FF after it. */
-static unsigned restarted(uint32_t date, const uint8_t *book, size_t n, size_t after) {
+static uint32_t restarted(uint32_t date, const uint8_t *book, size_t n, size_t after) {
     lend_filled(&out, 0xFF, n + after);
     if (n > 0) memcpy(out.at, book, n);
     memcpy(out.was, out.at, out.len);
     lend_filled(&state, FILL, BOE_STATE_BYTES + 1);
-    unsigned refusal = boe_restart(date, out.at, n, state_in(&state), state.len);
+    uint32_t refusal = boe_restart(date, out.at, n, state_in(&state), state.len);
     must(stayed(&out), "restart has stored into the book");
     memcpy(state.was, state.at, state.len);
     return refusal;
@@ -329,14 +339,14 @@ static void try_append(uint32_t date, uint16_t after, const uint8_t *message, si
     hex(&question, book, n);
     number(&question, after);
     hex(&question, message, k);
-    unsigned refusal = restarted(date, book, n, after);
-    number(&proved, refusal);
+    uint32_t refusal = restarted(date, book, n, after);
+    refused(refusal, 0);
     if (refusal == 0) {
         size_t at = number_at(state.at + BOE_STATE_LENGTH_AT);
         lend(&bytes, message, k);
         refusal = boe_book_append(bytes.at, k, out.at, out.len, state_in(&state), state.len);
         size_t length = number_at(state.at + BOE_STATE_LENGTH_AT);
-        number(&proved, refusal);
+        refused(refusal, boe_frame_length(bytes.at, k));
         number(&proved, length);
         hex(&proved, out.at, out.len);
         must(stayed(&bytes), "appending has stored into the message");
@@ -353,12 +363,12 @@ static void try_close(uint32_t date, uint16_t after, const uint8_t *book, size_t
     number(&question, date);
     hex(&question, book, n);
     number(&question, after);
-    unsigned refusal = restarted(date, book, n, after);
+    uint32_t refusal = restarted(date, book, n, after);
     if (refusal != 0) {
-        number(&proved, refusal);
+        refused(refusal, 0);
     } else {
         size_t at = number_at(state.at + BOE_STATE_LENGTH_AT);
-        number(&proved, boe_book_close(out.at, out.len, state_in(&state), state.len));
+        refused(boe_book_close(out.at, out.len, state_in(&state), state.len), 0);
         size_t length = number_at(state.at + BOE_STATE_LENGTH_AT);
         number(&proved, length);
         hex(&proved, out.at, out.len);
@@ -436,8 +446,8 @@ static void try_append_on(uint8_t choice, uint16_t out_len, const uint8_t *data,
     }
     int booked = k < 5 || message[4] == BOE_ACKNOWLEDGMENT || message[4] == BOE_EXECUTION;
     if (booked) ask_state();
-    unsigned refusal = boe_book_append(bytes.at, k, out.at, out.len, state_in(&state), state.len);
-    size_t length = number_at(state.at + BOE_STATE_LENGTH_AT), total = refusal ? 0 : boe_frame_length(bytes.at, k);
+    uint32_t refusal = boe_book_append(bytes.at, k, out.at, out.len, state_in(&state), state.len);
+    size_t length = number_at(state.at + BOE_STATE_LENGTH_AT), total = boe_frame_length(bytes.at, k);
     must(stayed(&bytes), "appending has stored into the message");
     must(stayed_from(&state, refusal ? 0 : BOE_STATE_BYTES), "appending has stored past the state, or a refused one at all");
     must(stayed_from(&out, refusal ? 0 : length), "appending has stored past its message, or a refused one at all");
@@ -445,7 +455,7 @@ static void try_append_on(uint8_t choice, uint16_t out_len, const uint8_t *data,
         name(&question, "m-get");
         hex(&question, message, k);
         number(&question, out.len);
-        number(&proved, refusal);
+        refused(refusal, total);
         member_words(3);
         if (refusal == 0) {
             must(length <= out.len && total <= length && memcmp(out.at, out.was, length - total) == 0, "appending has stored elsewhere");
@@ -458,7 +468,7 @@ static void try_append_on(uint8_t choice, uint16_t out_len, const uint8_t *data,
         number(&question, 0);
         hex(&question, message, k);
         number(&proved, 0);
-        number(&proved, refusal);
+        refused(refusal, total);
         number(&proved, sizeof mark);
         hex(&proved, mark, sizeof mark);
     }
@@ -474,7 +484,7 @@ static void try_close_on(uint8_t choice, uint16_t out_len, const uint8_t *data, 
         return;
     }
     ask_state();
-    unsigned refusal = boe_book_close(out.at, out.len, state_in(&state), state.len);
+    uint32_t refusal = boe_book_close(out.at, out.len, state_in(&state), state.len);
     must(refusal == 0, "closing a book with a state is not refused");
     must(stayed_from(&state, BOE_STATE_BYTES), "closing has stored past the state");
     name(&question, "m-break");

@@ -1,6 +1,7 @@
 /* The C entry points of the proved core: numbers and byte buffers only.
  *
- * Every call takes any bytes, any numbers and any buffer length, and answers. A call that answers a refusal has changed no byte.
+ * Every call takes any bytes, any numbers and any buffer length, and answers. A call that answers a refusal has changed no byte. A refusal has
+ * a number, and some have a place: BOE_NUMBER and BOE_PLACE.
  * A buffer is a pointer and a length. The pointer is not null, also where the length is 0, and points to that many bytes. Of all calls: the
  * buffers of one call do not overlap, and their bytes are not changed by another thread while it runs.
  *
@@ -49,13 +50,29 @@ enum boe_refusal {
 /* The highest of these numbers. */
 #define BOE_REFUSALS 22
 
+/* What a call answers: a refusal's number in the low byte, and above it the place, 0 where there is none. 6 to 10 have a place, and no other:
+ * a byte of the message, counted from its first, which is 0. None is below 10. A bad field at byte 60 is 10 + 256 * 60.
+ *
+ *   number  place
+ *        6  the message's end: its total, one past its last byte
+ *        7  the count byte
+ *        8  the first bitfield that has a set bit that is not listed
+ *        9  the last bitfield, or the count byte where there are none
+ *       10  the first byte of the first bad field in the order of the message, the fixed part first
+ *
+ * Writing tells the place in the message that would be written: a byte of a record's fixed part, or of a session message's body, stands there 4
+ * bytes further on. Compare the number with the names above, and not the whole; use it alone as an index or an exit status. A caller that keeps
+ * the answer in a uint8_t has the number. */
+#define BOE_NUMBER(refusal) ((uint32_t)(refusal) & 0xFF)
+#define BOE_PLACE(refusal) ((uint32_t)(refusal) >> 8)
+
 /* The longest message that framing takes; the longest that writing stores, a Login Response; and the longest Login Request. */
 #define BOE_MESSAGE_MOST_BYTES 2048
 #define BOE_WRITTEN_MOST_BYTES 443
 #define BOE_LOGIN_MOST_BYTES 234
 
 /* 0 where the bytes start with a whole message, or 1, 2 or 3. */
-uint8_t boe_frame_refusal(const uint8_t *bytes, size_t len);
+uint32_t boe_frame_refusal(const uint8_t *bytes, size_t len);
 
 /* The length of the first whole message, which starts at `bytes`; 0 where framing refuses. */
 size_t boe_frame_length(const uint8_t *bytes, size_t len);
@@ -68,7 +85,7 @@ size_t boe_frame_length(const uint8_t *bytes, size_t len);
 /* A message of a unit with a number. 0: it is the next of its unit, and the table now has its number. Otherwise the table is as it
  * was: 5 for a unit outside 1 to 32, 13 for a table under 128 bytes, 14 for a number at or below the table's, 15 for one two or
  * more above it, in this order. Bytes past 128 are not touched. */
-uint8_t boe_table_step(uint8_t unit, uint32_t number, uint8_t *table, size_t table_len);
+uint32_t boe_table_step(uint8_t unit, uint32_t number, uint8_t *table, size_t table_len);
 
 /* The day book. Its bytes stand in a buffer of the caller's: the book is the first `length` bytes of it, and the caller keeps them in its file.
  * What is known of a book beside its bytes is its state, 144 bytes of the caller's with the lowest byte of a number first:
@@ -98,22 +115,23 @@ struct boe_state {
 /* Opens a book for a date. 0: its first mark stands in the front of the buffer, and the state is that of a book of 16 bytes with a table of
  * zeros. Otherwise buffer and state are as they were: 19, then 13 for a buffer under 16 bytes or a state under 144. What the buffer held
  * before plays no part, so that a book of 22 is opened afresh by this call. */
-uint8_t boe_book_open(uint32_t date, uint8_t *buffer, size_t buffer_len, struct boe_state *state, size_t state_len);
+uint32_t boe_book_open(uint32_t date, uint8_t *buffer, size_t buffer_len, struct boe_state *state, size_t state_len);
 
 /* Appends the first whole message of the bytes to the book. 0: its bytes stand at the book's end, and the state has the message: its unit's
  * number, the length, the messages. Otherwise buffer and state are as they were: 13 for a state under 144 bytes, which comes first, since
- * there is no book to judge by; then 1 to 10 by the message (4 for a type other than 0x25 and 0x2C), 14 and 15 by the table, and last 13 if
- * the message finds no room in the buffer or within 16,777,216 bytes. */
-uint8_t boe_book_append(const uint8_t *bytes, size_t len, uint8_t *buffer, size_t buffer_len, struct boe_state *state, size_t state_len);
+ * there is no book to judge by; then 1 to 10 by the message (4 for a type other than 0x25 and 0x2C; places are counted in the message, not in
+ * the book), 14 and 15 by the table, and last 13 if the message finds no room in the buffer or within 16,777,216 bytes. */
+uint32_t boe_book_append(const uint8_t *bytes, size_t len, uint8_t *buffer, size_t buffer_len, struct boe_state *state, size_t state_len);
 
 /* The mark at a session's end. 0: the mark stands at the book's end, and the state has it; or it found no room, and buffer and state are as
  * they were: the length tells. 13 for a state under 144 bytes, and both are as they were. */
-uint8_t boe_book_close(uint8_t *buffer, size_t buffer_len, struct boe_state *state, size_t state_len);
+uint32_t boe_book_close(uint8_t *buffer, size_t buffer_len, struct boe_state *state, size_t state_len);
 
 /* Restarts from the book in the bytes, all of them, for a date. 0: the state is that of the book without its torn tail, if it has one. The
  * bytes of a torn tail are to be cut off the file: the next message or mark goes where they start. Otherwise the state is as it was: 19, 22,
- * 18 for a bad first mark, 17, 18, and after all of these 13 for a state under 144 bytes. */
-uint8_t boe_restart(uint32_t date, const uint8_t *bytes, size_t len, struct boe_state *state, size_t state_len);
+ * 18 for a bad first mark, 17, 18, and after all of these 13 for a state under 144 bytes. An 18 has no place, also where it is for a message
+ * that reading refuses with one. */
+uint32_t boe_restart(uint32_t date, const uint8_t *bytes, size_t len, struct boe_state *state, size_t state_len);
 
 /* The bytes of the longest record, a session message's: a buffer of as many has room for the record of any type here. */
 #define BOE_RECORD_LEN 439
@@ -194,7 +212,7 @@ struct boe_record {
  * message, in the first 439 for a session message; the bytes after these stay. Otherwise the buffer is as it was: 1 to 11 by the message
  * (4 also for a direction that is neither), and after all of these 13 for a buffer under the 235 or 439 bytes of this message's record. Bytes
  * after the message play no part. */
-uint8_t boe_read(uint8_t direction, const uint8_t *bytes, size_t len, struct boe_record *record, size_t record_len);
+uint32_t boe_read(uint8_t direction, const uint8_t *bytes, size_t len, struct boe_record *record, size_t record_len);
 
 /* Writes the message of a record: 0, and the message stands in the front of the buffer; its length less 2 is in its bytes 2 and 3.
  * Otherwise the buffer is as it was: 13 for an empty record, which has no type; 4 (also for a direction that is neither), however short the
@@ -203,9 +221,9 @@ uint8_t boe_read(uint8_t direction, const uint8_t *bytes, size_t len, struct boe
  *   for an order message 7, 8, 9, 10, 12;
  *   for Login Request, Login Response and Logout 10, 11 (also for a byte that is not zero after the last group or pair);
  *   for a heartbeat and Replay Complete 12 (a byte of the body that is not zero);
- * and last 13 for a buffer under the message's length. Bytes past 235 in the record of an order message, and past 439 in that of a
- * session message, play no part. */
-uint8_t boe_write(uint8_t direction, const struct boe_record *record, size_t record_len, uint8_t *out, size_t out_len);
+ * and last 13 for a buffer under the message's length. Bytes past 235 in the record of an order message, and past 439 in that of a session
+ * message, play no part. */
+uint32_t boe_write(uint8_t direction, const struct boe_record *record, size_t record_len, uint8_t *out, size_t out_len);
 
 /* New Order (0x38), from the member: place and width in a record; for an optional field also its bitfield byte, counted from 1, and its bit */
 #define BOE_NEW_ORDER 0x38

@@ -29,6 +29,12 @@ pub fn answer(line: &[u8]) -> String {
     answer_on(&mut Bench::new(), line)
 }
 
+/// The number of a refusal in an answer, without its place.
+#[cfg(test)]
+pub fn number_of(word: &str) -> &str {
+    word.split('@').next().unwrap_or_default()
+}
+
 /// The answer to one line, without its LF. Of the bench only script questions see or change
 /// anything.
 pub fn answer_on(bench: &mut Bench, line: &[u8]) -> String {

@@ -9,7 +9,7 @@ use crate::rules::login::{Choice, Login, Returned};
 use crate::rules::member::{Member, Phase};
 use crate::rules::table::{entry, SIZE, UNITS};
 use crate::rules::venue::Venue;
-use crate::rules::{refusal, Refusal};
+use crate::rules::{told, Refusal};
 use crate::words::{read_bytes, read_number, read_size, read_truth, read_u32, read_u8};
 
 /// The bytes of the book's buffer and of the log's, and what they and every output buffer hold at
@@ -203,11 +203,11 @@ impl Bench {
     }
 
     fn member_after(&self, result: Result<(), Refusal>) -> String {
-        format!("{} {}", refusal(result), self.member_text())
+        format!("{} {}", told(result), self.member_text())
     }
 
     fn venue_after(&self, result: Result<(), Refusal>) -> String {
-        format!("{} {}", refusal(result), self.venue_text())
+        format!("{} {}", told(result), self.venue_text())
     }
 }
 

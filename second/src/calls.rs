@@ -4,7 +4,7 @@
 use crate::hex;
 use crate::rules::kinds::{self, Kind};
 use crate::rules::{
-    book, calendar, frame, listing, number, price, pulse, read, refusal, table, write, Refusal,
+    book, calendar, frame, listing, number, price, pulse, read, table, told, write, Refusal,
 };
 use crate::words::{read_bytes, read_number, read_size, read_u32, read_u8};
 
@@ -44,7 +44,7 @@ pub fn answer(words: &[&str]) -> Option<String> {
             let result = table::step(&mut buffer, read_u8(unit)?, read_u32(number)?);
             Some(with_buffer(result, &buffer))
         }
-        ["day", date] => Some(refusal(calendar::check(read_u32(date)?)).to_string()),
+        ["day", date] => Some(told(calendar::check(read_u32(date)?))),
         ["year", year] => Some(year_of_days(read_number(year, 9_999)? as u32)),
         ["due", now, then] => Some(truth(pulse::due(read_u32(now)?, read_u32(then)?))),
         ["silent", now, then] => Some(truth(pulse::silent(read_u32(now)?, read_u32(then)?))),
@@ -105,13 +105,13 @@ fn truth(yes: bool) -> String {
 fn answered(result: Result<String, Refusal>) -> String {
     match result {
         Ok(text) => format!("0 {}", text),
-        Err(refusal) => refusal.number().to_string(),
+        Err(refusal) => refusal.to_string(),
     }
 }
 
 /// The refusal or 0, and the buffer after the call.
 fn with_buffer(result: Result<(), Refusal>, buffer: &[u8]) -> String {
-    format!("{} {}", refusal(result), hex::write(buffer))
+    format!("{} {}", told(result), hex::write(buffer))
 }
 
 fn frame(buffer: &[u8]) -> String {
@@ -155,12 +155,7 @@ fn append(date: u32, bytes: Vec<u8>, room: usize, message: &[u8]) -> String {
     answered(book::restart(date, &bytes).map(|mut book| {
         let mut buffer = with_room(bytes, room);
         let result = book.append(&mut buffer, message);
-        format!(
-            "{} {} {}",
-            refusal(result),
-            book.length,
-            hex::write(&buffer)
-        )
+        format!("{} {} {}", told(result), book.length, hex::write(&buffer))
     }))
 }
 

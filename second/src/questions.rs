@@ -14,6 +14,7 @@ mod number;
 mod order;
 mod outside;
 pub mod parts;
+mod places;
 mod reading;
 pub mod session;
 mod sizes;
@@ -39,6 +40,7 @@ pub fn all() -> String {
     sizes::ask(&mut lines);
     book::ask(&mut lines);
     listing::ask(&mut lines);
+    places::ask(&mut lines);
     let mut output = String::new();
     for line in lines {
         output.push_str(&line);
@@ -96,7 +98,7 @@ mod tests {
         let mut seen = BTreeSet::new();
         for (question, answer) in questions.lines().zip(answers.lines()) {
             let call = question.split(' ').next().unwrap();
-            let first = answer.split(' ').next().unwrap();
+            let first = ask::number_of(answer.split(' ').next().unwrap());
             seen.insert(format!("{} {}", call, first));
         }
         for (call, expected) in [
@@ -136,7 +138,7 @@ mod tests {
         for question in questions.lines().filter(|line| line.starts_with("append ")) {
             let answer = ask::answer(question.as_bytes());
             if let Some(number) = answer.split(' ').nth(1) {
-                seen.insert(number.parse::<u8>().unwrap());
+                seen.insert(ask::number_of(number).parse::<u8>().unwrap());
             }
         }
         let expected = [0, 1, 2, 3, 4, 5, 6, 7, 8, 10, 13, 14, 15];

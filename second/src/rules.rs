@@ -20,58 +20,107 @@ pub mod types;
 pub mod venue;
 pub mod write;
 
-/// Document 01, "Numbers of refusal".
+use std::fmt;
+
+/// Document 01, "Numbers of refusal". Those of a part of the message tell its place (document 02,
+/// request 3), which counts from the message's first byte.
 #[derive(Clone, Copy, Debug, PartialEq, Eq)]
 pub enum Refusal {
     /// A byte that should be BA is another.
-    Start = 1,
+    Start,
     /// The length field is out of its range.
-    Length = 2,
+    Length,
     /// The message is not all there yet.
-    Partial = 3,
+    Partial,
     /// The direction has no such type.
-    Type = 4,
+    Type,
     /// The unit or the number is not one that the message may carry.
-    Unit = 5,
-    /// The message is not as long as its counts and fields make it.
-    Total = 6,
-    /// More bitfields than the message may have.
-    Count = 7,
-    /// A bit is set that is not listed.
-    Bit = 8,
-    /// A field that must be selected is not.
-    Missing = 9,
-    /// A value that its field does not take.
-    Value = 10,
+    Unit,
+    /// The message is not as long as its counts and fields make it: the place after its last byte.
+    Total(usize),
+    /// More bitfields than the message may have: the count byte.
+    Count(usize),
+    /// A bit is set that is not listed: the first bitfield that has one.
+    Bit(usize),
+    /// A field that must be selected is not: the last bitfield, or the count byte if there is none.
+    Missing(usize),
+    /// A value that its field does not take: the first byte of the first such field.
+    Value(usize),
     /// A unit pair or a group of a login breaks a rule of its own.
-    Group = 11,
+    Group,
     /// A place of a record that its message does not use is not zero.
-    Unused = 12,
+    Unused,
     /// The buffer is too short for the result.
-    Room = 13,
+    Room,
     /// The number is not above the table's.
-    Behind = 14,
+    Behind,
     /// At least one number is missing between the table's and this one.
-    Ahead = 15,
+    Ahead,
     /// The session's phase does not take the call or the message.
-    Phase = 16,
+    Phase,
     /// The book was opened for another date than the one asked for.
-    OtherDate = 17,
+    OtherDate,
     /// A book that is neither whole nor torn.
-    Broken = 18,
+    Broken,
     /// Not a day of the years 1970 to 2099.
-    Day = 19,
+    Day,
     /// The last of the outgoing numbers has been used.
-    Spent = 20,
+    Spent,
     /// An order's number is not above the last one that the venue took.
-    Old = 21,
+    Old,
     /// A book that is shorter than its first mark.
-    Small = 22,
+    Small,
 }
 
 impl Refusal {
     pub fn number(self) -> u8 {
-        self as u8
+        match self {
+            Refusal::Start => 1,
+            Refusal::Length => 2,
+            Refusal::Partial => 3,
+            Refusal::Type => 4,
+            Refusal::Unit => 5,
+            Refusal::Total(_) => 6,
+            Refusal::Count(_) => 7,
+            Refusal::Bit(_) => 8,
+            Refusal::Missing(_) => 9,
+            Refusal::Value(_) => 10,
+            Refusal::Group => 11,
+            Refusal::Unused => 12,
+            Refusal::Room => 13,
+            Refusal::Behind => 14,
+            Refusal::Ahead => 15,
+            Refusal::Phase => 16,
+            Refusal::OtherDate => 17,
+            Refusal::Broken => 18,
+            Refusal::Day => 19,
+            Refusal::Spent => 20,
+            Refusal::Old => 21,
+            Refusal::Small => 22,
+        }
+    }
+
+    /// The byte place in the message, which 6 to 10 tell.
+    pub fn place(self) -> Option<usize> {
+        match self {
+            Refusal::Total(place)
+            | Refusal::Count(place)
+            | Refusal::Bit(place)
+            | Refusal::Missing(place)
+            | Refusal::Value(place) => Some(place),
+            _ => None,
+        }
+    }
+}
+
+/// `NUMBER`, or `NUMBER@PLACE`.
+impl fmt::Display for Refusal {
+    fn fmt(&self, text: &mut fmt::Formatter) -> fmt::Result {
+        write!(text, "{}", self.number())?;
+        match self.place() {
+            Some(place) => write!(text, "@{}", place),
+            None => Ok(()),
+        }
     }
 }
 
@@ -84,7 +133,13 @@ fn check(good: bool, refusal: Refusal) -> Result<(), Refusal> {
     }
 }
 
+/// What an answer tells of a result: its refusal, or 0.
+pub fn told<T>(result: Result<T, Refusal>) -> String {
+    result.map_or_else(|refusal| refusal.to_string(), |_| "0".to_string())
+}
+
 /// The number of a result: that of its refusal, or 0.
+#[cfg(test)]
 pub fn refusal<T>(result: Result<T, Refusal>) -> u8 {
     result.map_or_else(Refusal::number, |_| 0)
 }

@@ -5,6 +5,7 @@ mod driver;
 mod faults;
 mod garbage;
 mod outside;
+mod places;
 #[cfg(test)]
 mod tests;
 mod wrong;
@@ -22,6 +23,7 @@ enum Kind {
     Faults,
     Garbage,
     Outside,
+    Places,
 }
 
 /// Little goes wrong.
@@ -73,7 +75,7 @@ const WRONG: Days = Days {
     ..QUIET
 };
 
-const STORED: [Kind; 18] = [
+const STORED: [Kind; 19] = [
     Kind::Days(QUIET),
     Kind::Days(LONG),
     Kind::Days(BROKEN),
@@ -92,6 +94,7 @@ const STORED: [Kind; 18] = [
     Kind::Garbage,
     Kind::Garbage,
     Kind::Outside,
+    Kind::Places,
 ];
 const SEED: u64 = 30;
 
@@ -128,6 +131,7 @@ fn script(seed: u64, kind: Kind) -> Vec<String> {
             Kind::Faults => faults::round(&mut driver),
             Kind::Garbage => garbage::round(&mut driver),
             Kind::Outside => among_days(&mut driver),
+            Kind::Places => places::round(&mut driver),
         }
         // Once is enough of the lines outside the format.
         if driver.lines.len() >= LEAST || matches!(kind, Kind::Outside) {

@@ -33,6 +33,16 @@ pub fn next_decimal(n: u64) {
     decimal(n);
 }
 
+// A refusal: its number, and after an @ its place where it has one.
+pub fn refusal(r: u32) {
+    decimal(refusals::number_in(r) as u64);
+    let place = refusals::place_in(r);
+    if place != 0 {
+        text(b"@");
+        decimal(place as u64);
+    }
+}
+
 // 1 for yes and 0 for no.
 pub fn yes_or_no(yes: bool) {
     if yes {

@@ -14,7 +14,7 @@ use Rattle.dictionary.specs.declared.Entry.{Entry}
 use Rattle.dictionary.specs.declared.Entry.the-variants.{Refused, Field}
 use Rattle.block.specs.Slots.{Slot, slot, widthOf, width, takes, sum, gathered}
 use Rattle.block.specs.Places.{slotsFrom}
-use Rattle.block.specs.Walk.{pick, walk, Giving, giveEntry}
+use Rattle.block.specs.Walk.{pick, walk, anyByte, Giving, giveEntry}
 use Rattle.block.specs.WalkLaws.{walk-slots}
 use Rattle.block.specs.Dictionaries.{before, Placed}
 use Rattle.block.specs.Sizes.{allPlaces}
@@ -84,4 +84,4 @@ module _ (entry : ℕ → Entry) (size : ℕ) (ok : Placed entry size) (v : List
       by true (Field w kd p) q x = listed k small w kd p ss st r q x
 
   pub gave : (selected : ℕ → Bool) (n k : ℕ) (st : Giving) → k + n ≤ allPlaces → Gave entry v (slotsFrom selected entry n k) k st (walk selected (λ (i : ℕ). giveEntry v (entry i)) n k st)
-  gave selected n k st h = walk-slots selected entry (giveEntry v) (Gave entry v) none one n k st h
+  gave selected n k st h = walk-slots selected entry (anyByte (giveEntry v)) (Gave entry v) none one n k st h

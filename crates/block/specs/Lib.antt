@@ -14,3 +14,5 @@ pub mod Fits
 pub mod FieldPlaces
 pub mod FieldPlaceLaws
 pub mod Ends
+pub mod FirstBad
+pub mod OneByte

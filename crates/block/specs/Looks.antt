@@ -1,8 +1,9 @@
 -- What looking finds, over any dictionary: the walk's answer in the words of the slots, and the zero test by clearing. Assumes nothing.
 use mathlib.Core.Path.{_≡_, refl, sym, ap, ap₂, _∙_}
-use mathlib.Core.Bool.{Bool, true, false, not, _&&_, _||_, or-true}
+use mathlib.Core.Bool.{Bool, true, false, cond, _&&_}
 use mathlib.Core.List.{List, [], _∷_, _++_, append-assoc}
-use Prim.Native.Nat.{ℕ, suc, _+_, _≤_, _<_}
+use Prim.Native.Nat.{ℕ, suc, _+_, _/_, _≤_, _<_}
+use native.Mathlib.Nat.{add-zero}
 use native.Mathlib.Omega.{arith}
 use lib.Dec.{eqb}
 use lib.ListN.{length, take, drop, take-append-drop, length-append, length-drop}
@@ -12,11 +13,11 @@ use Rattle.kinds.specs.Kinds.{allNul, agreesOf}
 use Rattle.numbers.specs.Numbers.{patched}
 use Rattle.dictionary.specs.declared.Entry.{Entry}
 use Rattle.dictionary.specs.declared.Entry.the-variants.{Refused, Field}
-use Rattle.block.specs.Slots.{zeros, Slot, slot, widthOf, width, takes, sum, anyBad, agreeHeld, zeroElsewhere}
+use Rattle.block.specs.Slots.{zeros, Slot, slot, widthOf, width, takes, sum, badByte, wrongHeld, zeroElsewhere}
 use Rattle.block.specs.SlotLaws.{length-zeros, zeros-are-nul}
-use Rattle.block.specs.Places.{slotsFrom}
-use Rattle.block.specs.Walk.{pick, walk, Looking, lookEntry}
-use Rattle.block.specs.WalkLaws.{walk-slots, and-move, worse-is}
+use Rattle.block.specs.Places.{byteAt, slotsFrom}
+use Rattle.block.specs.Walk.{pick, walk, firstOf, Looking, lookEntry}
+use Rattle.block.specs.WalkLaws.{walk-slots, first-none, first-here, worse-is}
 use Rattle.block.specs.Dictionaries.{before, Placed}
 use Rattle.block.specs.Sizes.{allPlaces}
 
@@ -33,9 +34,9 @@ cleared (s ∷ ss) v = clearedSlot s v ++ cleared ss (drop (width s) v)
 -- what holds after the slots ss from place k on were looked at: from the state st, whose layout is `done` up to place k and v from there
 -- on, to the state r
 pub record Looked (entry : ℕ → Entry) (ss : List Slot) (k : ℕ) (st r : Looking) : Type 0 where
-  pub bad-is : not (eqb (r .bad) 0) ≡ (anyBad ss || not (eqb (st .bad) 0))
+  pub bad-is : r .bad ≡ firstOf (st .bad) (badByte k ss)
   pub total-is : r .total ≡ st .total + sum takes ss
-  pub agree-is : (done v : List ℕ) → st .rest ≡ done ++ v → length done ≡ before entry k → sum width ss ≤ length v → eqb (r .wrong) 0 ≡ (agreeHeld ss v && eqb (st .wrong) 0)
+  pub wrong-is : (done v : List ℕ) → st .rest ≡ done ++ v → length done ≡ before entry k → sum width ss ≤ length v → r .wrong ≡ firstOf (st .wrong) (wrongHeld (st .total) ss v)
   pub rest-is : (done v : List ℕ) → st .rest ≡ done ++ v → length done ≡ before entry k → sum width ss ≤ length v → r .rest ≡ done ++ cleared ss v
 
 -- bytes cleared at the end of what is done
@@ -50,7 +51,11 @@ clear-next done v l w p e n =
 
 module _ (entry : ℕ → Entry) (size : ℕ) (ok : Placed entry size) where
   none : (k : ℕ) (st : Looking) → Looked entry [] k st st
-  none k st = record { bad-is = refl; total-is = omega arith; agree-is = λ done v e n h. refl; rest-is = λ done v e n h. e }
+  none k st = record { bad-is = sym (first-none (st .bad)); total-is = omega arith; wrong-is = λ done v e n h. sym (first-none (st .wrong)); rest-is = λ done v e n h. e }
+
+  -- a slot that takes no byte of a message
+  same-total : (st : Looking) (f : ℕ → ℕ) → firstOf (st .wrong) (f (st .total)) ≡ firstOf (st .wrong) (f (st .total + 0))
+  same-total st f = ap (λ (x : ℕ). firstOf (st .wrong) (f x)) (sym (add-zero (st .total)))
 
   -- what is done with one slot more
   module _ (k : ℕ) (e : Entry) (q : e ≡ entry k) (done v here : List ℕ) (n : length done ≡ before entry k) (long : length here ≡ widthOf e) where
@@ -67,9 +72,10 @@ module _ (entry : ℕ → Entry) (size : ℕ) (ok : Placed entry size) where
   unselected k e ss st r q t = record {
     bad-is = t .bad-is;
     total-is = t .total-is ∙ omega arith;
-    agree-is = λ done v f n h.
-        t .agree-is (done ++ take (widthOf e) v) (drop (widthOf e) v) (split done v f)
-        (done-more k e q done v (take (widthOf e) v) n (length-take-le (widthOf e) v (omega arith))) (rest-fits (widthOf e) (sum width ss) v h);
+    wrong-is = λ done v f n h.
+        t .wrong-is (done ++ take (widthOf e) v) (drop (widthOf e) v) (split done v f)
+        (done-more k e q done v (take (widthOf e) v) n (length-take-le (widthOf e) v (omega arith))) (rest-fits (widthOf e) (sum width ss) v h)
+        ∙ same-total st (λ (x : ℕ). wrongHeld x ss (drop (widthOf e) v));
     rest-is = λ done v f n h.
         t .rest-is (done ++ take (widthOf e) v) (drop (widthOf e) v) (split done v f)
         (done-more k e q done v (take (widthOf e) v) n (length-take-le (widthOf e) v (omega arith))) (rest-fits (widthOf e) (sum width ss) v h)
@@ -80,47 +86,47 @@ module _ (entry : ℕ → Entry) (size : ℕ) (ok : Placed entry size) where
       split done v f = f ∙ ap (λ (x : List ℕ). done ++ x) (sym (take-append-drop (widthOf e) v)) ∙ sym (append-assoc done (take (widthOf e) v) (drop (widthOf e) v))
 
   -- a set bit that is not listed
-  refused : (k : ℕ) (ss : List Slot) (st r : Looking) → Refused ≡ entry k → Looked entry ss (suc k) (lookEntry Refused st) r → Looked entry (slot true Refused ∷ ss) k st r
+  refused : (k : ℕ) (ss : List Slot) (st r : Looking) → Refused ≡ entry k → Looked entry ss (suc k) (lookEntry (byteAt k) Refused st) r → Looked entry (slot true Refused ∷ ss) k st r
   unfolding lookEntry before
   refused k ss st r q t =
       let b : before entry (suc k) ≡ before entry k = ap (λ (x : Entry). before entry k + widthOf x) (sym q) ∙ omega arith in
       record {
-        bad-is = t .bad-is ∙ or-true (anyBad ss);
+        bad-is = t .bad-is ∙ first-here (st .bad) (k / 8) (badByte (suc k) ss);
         total-is = t .total-is ∙ omega arith;
-        agree-is = λ done v f n h. t .agree-is done v f (n ∙ sym b) (omega arith);
+        wrong-is = λ done v f n h. t .wrong-is done v f (n ∙ sym b) (omega arith) ∙ same-total st (λ (x : ℕ). wrongHeld x ss v);
         rest-is = λ done v f n h. t .rest-is done v f (n ∙ sym b) (omega arith);
       }
 
   listed : (k : ℕ) → k < allPlaces → (w : ℕ) (kd : Kind) (p : ℕ) (ss : List Slot) (st r : Looking) → Field w kd p ≡ entry k
-      → Looked entry ss (suc k) (lookEntry (Field w kd p) st) r → Looked entry (slot true (Field w kd p) ∷ ss) k st r
+      → Looked entry ss (suc k) (lookEntry (byteAt k) (Field w kd p) st) r → Looked entry (slot true (Field w kd p) ∷ ss) k st r
   unfolding lookEntry
   listed k small w kd p ss st r q t =
       let there : p ≡ before entry k = ok .placed k small q in
       record {
         bad-is = t .bad-is;
         total-is = t .total-is ∙ omega arith;
-        agree-is = λ done v f n h.
+        wrong-is = λ done v f n h.
+            let later : ℕ = wrongHeld (st .total + w) ss (drop w v) in
             let a : take w (drop p (st .rest)) ≡ take w v = ap (λ (x : List ℕ). take w (drop p x)) f ∙ ap (take w) (drop-at done v p (n ∙ sym there)) in
-            t .agree-is (done ++ zeros w) (drop w v) (clear-next done v (st .rest) w p f (n ∙ sym there))
+            t .wrong-is (done ++ zeros w) (drop w v) (clear-next done v (st .rest) w p f (n ∙ sym there))
             (done-more k (Field w kd p) q done v (zeros w) n (length-zeros w)) (rest-fits w (sum width ss) v h)
-            ∙ ap (λ (b : Bool). agreeHeld ss (drop w v) && b) (worse-is (st .wrong) (agreesOf kd (take w (drop p (st .rest)))))
-            ∙ ap (λ (x : List ℕ). agreeHeld ss (drop w v) && (agreesOf kd x && eqb (st .wrong) 0)) a
-            ∙ and-move (agreeHeld ss (drop w v)) (agreesOf kd (take w v)) (eqb (st .wrong) 0);
+            ∙ worse-is (st .total) (st .wrong) later (agreesOf kd (take w (drop p (st .rest))))
+            ∙ ap (λ (x : List ℕ). firstOf (st .wrong) (cond (agreesOf kd x) later (st .total + 1))) a;
         rest-is = λ done v f n h.
             t .rest-is (done ++ zeros w) (drop w v) (clear-next done v (st .rest) w p f (n ∙ sym there))
             (done-more k (Field w kd p) q done v (zeros w) n (length-zeros w)) (rest-fits w (sum width ss) v h)
             ∙ append-assoc done (zeros w) (cleared ss (drop w v));
       }
 
-  one : (k : ℕ) → k < allPlaces → (b : Bool) (ss : List Slot) (st r : Looking) → Looked entry ss (suc k) (pick b (lookEntry (entry k) st) st) r → Looked entry (slot b (entry k) ∷ ss) k st r
+  one : (k : ℕ) → k < allPlaces → (b : Bool) (ss : List Slot) (st r : Looking) → Looked entry ss (suc k) (pick b (lookEntry (byteAt k) (entry k) st) st) r → Looked entry (slot b (entry k) ∷ ss) k st r
   one k small b ss st r t = by b (entry k) refl t
     where
-      by : (c : Bool) (e : Entry) → e ≡ entry k → Looked entry ss (suc k) (pick c (lookEntry e st) st) r → Looked entry (slot c e ∷ ss) k st r
+      by : (c : Bool) (e : Entry) → e ≡ entry k → Looked entry ss (suc k) (pick c (lookEntry (byteAt k) e st) st) r → Looked entry (slot c e ∷ ss) k st r
       by false e q x = unselected k e ss st r q x
       by true Refused q x = refused k ss st r q x
       by true (Field w kd p) q x = listed k small w kd p ss st r q x
 
-  pub looked : (selected : ℕ → Bool) (n k : ℕ) (st : Looking) → k + n ≤ allPlaces → Looked entry (slotsFrom selected entry n k) k st (walk selected (λ (i : ℕ). lookEntry (entry i)) n k st)
+  pub looked : (selected : ℕ → Bool) (n k : ℕ) (st : Looking) → k + n ≤ allPlaces → Looked entry (slotsFrom selected entry n k) k st (walk selected (λ (i : ℕ). lookEntry (byteAt i) (entry i)) n k st)
   looked selected n k st h = walk-slots selected entry lookEntry (Looked entry) none one n k st h
 
 -- ---- zero elsewhere, by clearing

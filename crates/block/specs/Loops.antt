@@ -15,7 +15,7 @@ use Rattle.dictionary.specs.declared.Entry.{Entry}
 use Rattle.dictionary.specs.declared.Entry.the-variants.{Refused, Field}
 use Rattle.dictionary.specs.Dictionary.{entryOf}
 use Rattle.kinds.specs.Kinds.{allNul}
-use Rattle.block.specs.Places.{selectedAt, entryAt}
+use Rattle.block.specs.Places.{selectedAt, byteAt, entryAt}
 use Rattle.block.specs.Walk.{pick, walk, bitsFrom, inByte}
 use Rattle.block.specs.WalkLaws.{walk-add, walk-skip}
 use Rattle.block.specs.Sizes.{allPlaces}
@@ -143,13 +143,13 @@ pick-same false st = refl
 
 -- ---- the same, as a loop over a dictionary's entries has it
 
-module _ {S : Type 0} (change : Entry → S → S) (message count : ℕ) (bits : List ℕ) where
-  -- the walk of n places from k on
+module _ {S : Type 0} (change : ℕ → Entry → S → S) (message count : ℕ) (bits : List ℕ) where
+  -- the walk of n places from k on, whose change may look at the bitfield byte
   abbrev pub over : ℕ → ℕ → S → S
-  over n k st = walk (selectedAt count bits) (λ (i : ℕ). change (entryAt message i)) n k st
+  over n k st = walk (selectedAt count bits) (λ (i : ℕ). change (byteAt i) (entryAt message i)) n k st
 
   -- n places of byte j from its bit i on
-  places : (j n i : ℕ) (st : S) → j < count → i + n ≤ 8 → over n (8 * j + i) st ≡ bitsFrom change message (j + 1) n i (getD bits j 0 / 2 ^ i) st
+  places : (j n i : ℕ) (st : S) → j < count → i + n ≤ 8 → over n (8 * j + i) st ≡ bitsFrom (change (j + 1)) message (j + 1) n i (getD bits j 0 / 2 ^ i) st
   unfolding walk bitsFrom
   places j zero i st h l = refl
   places j (suc n) i st h l =
@@ -157,63 +157,64 @@ module _ {S : Type 0} (change : Entry → S → S) (message count : ℕ) (bits :
       let k : suc (8 * j + i) ≡ 8 * j + (i + 1) = omega arith in
       let b : selectedAt count bits (8 * j + i) ≡ eqb (getD bits j 0 / 2 ^ i % 2) 1 = selected-here count bits j i h (omega arith) in
       let e : entryAt message (8 * j + i) ≡ entryOf message (j + 1) i = entry-here message j i (omega arith) in
-      let s : pick (selectedAt count bits (8 * j + i)) (change (entryAt message (8 * j + i)) st) st ≡ pick (eqb (x % 2) 1) (change (entryOf message (j + 1) i) st) st =
-      ap₂ (λ (c : Bool) (y : Entry). pick c (change y st) st) b e
+      let d : byteAt (8 * j + i) ≡ j + 1 = omega arith in
+      let s : pick (selectedAt count bits (8 * j + i)) (change (byteAt (8 * j + i)) (entryAt message (8 * j + i)) st) st ≡ pick (eqb (x % 2) 1) (change (j + 1) (entryOf message (j + 1) i) st) st =
+      ap₂ (λ (c : Bool) (y : Entry). pick c (change (byteAt (8 * j + i)) y st) st) b e ∙ ap (λ (m : ℕ). pick (eqb (x % 2) 1) (change m (entryOf message (j + 1) i) st) st) d
       in
       ap₂ (λ (m : ℕ) (y : S). over n m y) k s
-      ∙ places j n (i + 1) (pick (eqb (x % 2) 1) (change (entryOf message (j + 1) i) st) st) h (omega arith)
-      ∙ ap₂ (λ (m y : ℕ). bitsFrom change message (j + 1) n m y (pick (eqb (x % 2) 1) (change (entryOf message (j + 1) i) st) st)) (add-one i) (sym (halved (getD bits j 0) i))
+      ∙ places j n (i + 1) (pick (eqb (x % 2) 1) (change (j + 1) (entryOf message (j + 1) i) st) st) h (omega arith)
+      ∙ ap₂ (λ (m y : ℕ). bitsFrom (change (j + 1)) message (j + 1) n m y (pick (eqb (x % 2) 1) (change (j + 1) (entryOf message (j + 1) i) st) st)) (add-one i) (sym (halved (getD bits j 0) i))
 
   -- a byte of bitfields is its eight places
-  byte-is : (j : ℕ) (st : S) → j < count → inByte change message (j + 1) (getD bits j 0) st ≡ over 8 (8 * j) st
+  byte-is : (j : ℕ) (st : S) → j < count → inByte (change (j + 1)) message (j + 1) (getD bits j 0) st ≡ over 8 (8 * j) st
   byte-is j st h =
       let one : getD bits j 0 ≡ getD bits j 0 / 2 ^ 0 = omega arith in
-      ap (λ (y : ℕ). inByte change message (j + 1) y st) one ∙ sym (places j 8 0 st h (omega arith)) ∙ ap (λ (k : ℕ). over 8 k st) (add-zero (8 * j))
+      ap (λ (y : ℕ). inByte (change (j + 1)) message (j + 1) y st) one ∙ sym (places j 8 0 st h (omega arith)) ∙ ap (λ (k : ℕ). over 8 k st) (add-zero (8 * j))
 
   -- a turn of the loop over the bitfield bytes
-  pub byte-turn : (j value : ℕ) (st st′ last : S) → j < count → count ≤ 15 → value ≡ getD bits j 0 → st′ ≡ inByte change message (j + 1) value st
+  pub byte-turn : (j value : ℕ) (st st′ last : S) → j < count → count ≤ 15 → value ≡ getD bits j 0 → st′ ≡ inByte (change (j + 1)) message (j + 1) value st
       → over (allPlaces - 8 * j) (8 * j) st ≡ last → over (allPlaces - 8 * (j + 1)) (8 * (j + 1)) st′ ≡ last
   byte-turn j value st st′ last h l v s w =
-      ap (over (allPlaces - 8 * (j + 1)) (8 * (j + 1))) (s ∙ ap (λ (y : ℕ). inByte change message (j + 1) y st) v ∙ byte-is j st h)
-      ∙ all-more count bits (λ (k : ℕ). change (entryAt message k)) j st (omega arith)
+      ap (over (allPlaces - 8 * (j + 1)) (8 * (j + 1))) (s ∙ ap (λ (y : ℕ). inByte (change (j + 1)) message (j + 1) y st) v ∙ byte-is j st h)
+      ∙ all-more count bits (λ (k : ℕ). change (byteAt k) (entryAt message k)) j st (omega arith)
       ∙ w
 
   -- its end
   pub bytes-end : (j : ℕ) (st last : S) → count ≤ j → over (allPlaces - 8 * j) (8 * j) st ≡ last → st ≡ last
-  bytes-end j st last h w = sym (all-done count bits (λ (k : ℕ). change (entryAt message k)) j st h) ∙ w
+  bytes-end j st last h w = sym (all-done count bits (λ (k : ℕ). change (byteAt k) (entryAt message k)) j st h) ∙ w
 
   -- ---- and the same, byte after byte without a loop
 
   -- a byte past the count leaves the state
   byte-past : (j : ℕ) (st : S) → count ≤ j → over (allPlaces - 8 * (j + 1)) (8 * (j + 1)) st ≡ over (allPlaces - 8 * j) (8 * j) st
   byte-past j st h =
-      all-done count bits (λ (k : ℕ). change (entryAt message k)) (j + 1) st (omega arith)
-      ∙ sym (all-done count bits (λ (k : ℕ). change (entryAt message k)) j st h)
+      all-done count bits (λ (k : ℕ). change (byteAt k) (entryAt message k)) (j + 1) st (omega arith)
+      ∙ sym (all-done count bits (λ (k : ℕ). change (byteAt k) (entryAt message k)) j st h)
 
-  byte-either : (j value : ℕ) (st st′ : S) (t : Bool) → ltb j count ≡ t → count ≤ 15 → value ≡ pick t (getD bits j 0) 0 → st′ ≡ inByte change message (j + 1) value st
+  byte-either : (j value : ℕ) (st st′ : S) (t : Bool) → ltb j count ≡ t → count ≤ 15 → value ≡ pick t (getD bits j 0) 0 → st′ ≡ inByte (change (j + 1)) message (j + 1) value st
       → over (allPlaces - 8 * (j + 1)) (8 * (j + 1)) st′ ≡ over (allPlaces - 8 * j) (8 * j) st
   byte-either j value st st′ true e l v s = byte-turn j value st st′ _ (ltb-true j count e) l v s refl
   byte-either j value st st′ false e l v s =
-      ap (over (allPlaces - 8 * (j + 1)) (8 * (j + 1))) (s ∙ sym (byte-clear change message (j + 1) value st v)) ∙ byte-past j st (ltb-false j count e)
+      ap (over (allPlaces - 8 * (j + 1)) (8 * (j + 1))) (s ∙ sym (byte-clear (change (j + 1)) message (j + 1) value st v)) ∙ byte-past j st (ltb-false j count e)
 
   -- one byte, which is `value`, or 0 past the count: what is left to walk from the state after it ends as what was left before it
   pub byte-given : (byte value : ℕ) (st st′ : S) → 1 ≤ byte → count ≤ 15 → value ≡ pick (ltb (byte - 1) count) (getD bits (byte - 1) 0) 0
-      → st′ ≡ inByte change message byte value st → over (allPlaces - 8 * byte) (8 * byte) st′ ≡ over (allPlaces - 8 * (byte - 1)) (8 * (byte - 1)) st
+      → st′ ≡ inByte (change byte) message byte value st → over (allPlaces - 8 * byte) (8 * byte) st′ ≡ over (allPlaces - 8 * (byte - 1)) (8 * (byte - 1)) st
   byte-given byte value st st′ h l v s =
       let e : byte ≡ byte - 1 + 1 = omega arith in
       ap (λ (b : ℕ). over (allPlaces - 8 * b) (8 * b) st′) e
-      ∙ byte-either (byte - 1) value st st′ (ltb (byte - 1) count) refl l v (s ∙ ap (λ (b : ℕ). inByte change message b value st) e)
+      ∙ byte-either (byte - 1) value st st′ (ltb (byte - 1) count) refl l v (s ∙ ap (λ (b : ℕ). inByte (change b) message b value st) e)
 
   -- bytes from j on without a set bit leave the state
   pub bytes-clear : (j : ℕ) (st : S) → allNul (take (count - j) (drop j bits)) ≡ true → st ≡ over (allPlaces - 8 * j) (8 * j) st
   bytes-clear j st z =
-      sym (walk-skip (selectedAt count bits) (λ (k : ℕ). change (entryAt message k)) (allPlaces - 8 * j) (8 * j) st (λ k p q. clear-at count bits k (λ h. nul-within count bits j (k / 8) z (omega arith) h)))
+      sym (walk-skip (selectedAt count bits) (λ (k : ℕ). change (byteAt k) (entryAt message k)) (allPlaces - 8 * j) (8 * j) st (λ k p q. clear-at count bits k (λ h. nul-within count bits j (k / 8) z (omega arith) h)))
 
   -- places that the dictionary does not list leave the state, where an unlisted bit does
-  pub places-unlisted : (n k : ℕ) (st : S) → ((st : S) → change Refused st ≡ st) → unlisted message n k ≡ true → over n k st ≡ st
+  pub places-unlisted : (n k : ℕ) (st : S) → ((byte : ℕ) (st : S) → change byte Refused st ≡ st) → unlisted message n k ≡ true → over n k st ≡ st
   unfolding walk unlisted
   places-unlisted zero k st r u = refl
   places-unlisted (suc n) k st r u =
       let both = and-eq-true-iff (refused (entryAt message k)) (unlisted message n (suc k)) .0 u in
-      ap (over n (suc k)) (ap (λ (y : S). pick (selectedAt count bits k) y st) (ap (λ (e : Entry). change e st) (refused-is (entryAt message k) (both .0)) ∙ r st) ∙ pick-same (selectedAt count bits k) st)
+      ap (over n (suc k)) (ap (λ (y : S). pick (selectedAt count bits k) y st) (ap (λ (e : Entry). change (byteAt k) e st) (refused-is (entryAt message k) (both .0)) ∙ r (byteAt k) st) ∙ pick-same (selectedAt count bits k) st)
       ∙ places-unlisted n (suc k) st r (both .1)

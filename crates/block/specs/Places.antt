@@ -18,9 +18,13 @@ bitSet x bit = eqb (x / 2 ^ bit % 2) 1
 unfoldable pub selectedAt : ℕ → List ℕ → ℕ → Bool
 selectedAt count bits k = ltb (k / 8) count && bitSet (getD bits (k / 8) 0) (k % 8)
 
+-- the bitfield byte, the first being 1, of place k
+abbrev pub byteAt : ℕ → ℕ
+byteAt k = k / 8 + 1
+
 -- what the dictionary has for place k
 unfoldable pub entryAt : ℕ → ℕ → Entry
-entryAt message k = entryOf message (k / 8 + 1) (k % 8)
+entryAt message k = entryOf message (byteAt k) (k % 8)
 
 -- n slots from place k on
 unfoldable pub slotsFrom : (ℕ → Bool) → (ℕ → Entry) → ℕ → ℕ → List Slot

@@ -1,7 +1,7 @@
 -- The optional block over any dictionary. A slot is whether its bit is set, and what the dictionary has for it. Definitions alone.
 -- Assumes nothing.
-use Prim.Native.Nat.{ℕ, _+_}
-use mathlib.Core.Bool.{Bool, true, false, _&&_, _||_}
+use Prim.Native.Nat.{ℕ, suc, _+_, _/_}
+use mathlib.Core.Bool.{Bool, true, false, cond, _&&_, _||_}
 use mathlib.Core.List.{List, [], _∷_, _++_}
 use lib.ListN.{take, drop, replicate}
 use Rattle.kinds.specs.Kinds.{allNul, agreesOf}
@@ -46,6 +46,11 @@ abbrev pub anyBad : List Slot → Bool
 anyBad [] = false
 anyBad (s ∷ ss) = badSlot s || anyBad ss
 
+-- where the first such bit stands: its bitfield byte, the first being 1, of slots from place k on; 0 where there is none
+abbrev pub badByte : ℕ → List Slot → ℕ
+badByte k [] = 0
+badByte k (s ∷ ss) = cond (badSlot s) (k / 8 + 1) (badByte (suc k) ss)
+
 -- what a slot of the layout holds of a message's optional bytes m: the front of them, or zeros where it is not selected
 abbrev pub held : Slot → List ℕ → List ℕ
 held (slot true e) m = take (widthOf e) m
@@ -81,6 +86,17 @@ agreeSent (s ∷ ss) m = agreeSlot s m && agreeSent ss (drop (takes s) m)
 abbrev pub agreeHeld : List Slot → List ℕ → Bool
 agreeHeld [] v = true
 agreeHeld (s ∷ ss) v = agreeSlot s v && agreeHeld ss (drop (width s) v)
+
+-- where the first field stands that does not: its first byte, counted from 1 among the optional bytes, of slots with `at` such bytes before them;
+-- 0 where all agree. Of the optional bytes m
+abbrev pub wrongSent : ℕ → List Slot → List ℕ → ℕ
+wrongSent at [] m = 0
+wrongSent at (s ∷ ss) m = cond (agreeSlot s m) (wrongSent (at + takes s) ss (drop (takes s) m)) (at + 1)
+
+-- and of a full layout v: where the field would stand among the optional bytes
+abbrev pub wrongHeld : ℕ → List Slot → List ℕ → ℕ
+wrongHeld at [] v = 0
+wrongHeld at (s ∷ ss) v = cond (agreeSlot s v) (wrongHeld (at + takes s) ss (drop (width s) v)) (at + 1)
 
 -- 12: whether an unselected slot is zero
 abbrev pub zeroSlot : Slot → List ℕ → Bool

@@ -15,7 +15,7 @@ use Rattle.dictionary.specs.declared.Entry.the-variants.{Refused, Field}
 use Rattle.block.specs.Slots.{zeros, Slot, slot, widthOf, width, takes, sum, spread}
 use Rattle.block.specs.SlotLaws.{length-zeros}
 use Rattle.block.specs.Places.{slotsFrom}
-use Rattle.block.specs.Walk.{pick, walk, Storing, storeEntry}
+use Rattle.block.specs.Walk.{pick, walk, anyByte, Storing, storeEntry}
 use Rattle.block.specs.WalkLaws.{walk-slots}
 use Rattle.block.specs.Dictionaries.{before, Placed}
 use Rattle.block.specs.Sizes.{allPlaces}
@@ -116,4 +116,4 @@ module _ (entry : ℕ → Entry) (size : ℕ) (ok : Placed entry size) (m : List
       by true (Field w kd p) q x = listed k small w kd p ss st r q x
 
   pub stored : (selected : ℕ → Bool) (n k : ℕ) (st : Storing) → k + n ≤ allPlaces → Stored entry m (slotsFrom selected entry n k) k st (walk selected (λ (i : ℕ). storeEntry m (entry i)) n k st)
-  stored selected n k st h = walk-slots selected entry (storeEntry m) (Stored entry m) none one n k st h
+  stored selected n k st h = walk-slots selected entry (anyByte (storeEntry m)) (Stored entry m) none one n k st h

@@ -32,13 +32,22 @@ bitsFrom change message byte (suc n) i x st = bitsFrom change message byte n (su
 abbrev pub inByte : {S : Type 0} → (Entry → S → S) → ℕ → ℕ → ℕ → S → S
 inByte change message byte x st = bitsFrom change message byte 8 0 x st
 
--- 1 where a field is against its kind, and as it was where it agrees
-abbrev pub worseOf : ℕ → Bool → ℕ
-worseOf wrong agree = pick agree wrong 1
+-- the first of what is found: what was found before, else this; 0 is nothing found
+abbrev pub firstOf : ℕ → ℕ → ℕ
+firstOf found this = pick (eqb found 0) this found
+
+-- the first field that is against its kind: this one, which has `at` bytes before it, unless it agrees or one was found before it
+abbrev pub worseOf : ℕ → ℕ → Bool → ℕ
+worseOf at wrong agree = pick agree wrong (firstOf wrong (at + 1))
+
+-- a change that is the same in every bitfield byte
+abbrev pub anyByte : {S : Type 0} → (Entry → S → S) → ℕ → Entry → S → S
+anyByte change byte = change
 
 -- ---- judging: a message's optional bytes where they stand
 
--- how many bytes the set bits take so far, 1 where a field that is there is against its kind, and 1 where a bit is bad; 0 where it is not so
+-- how many bytes the set bits take so far; which of them, counted from 1, is the first of the first field that is against its kind, and which bitfield byte,
+-- counted from 1, has the first bad bit: 0 where there is none
 pub record Judging : Type 0 where
   pub at : ℕ
   pub wrong : ℕ
@@ -47,12 +56,17 @@ pub record Judging : Type 0 where
 -- a field of width w and kind k; where the message ends before it, nothing is asked of its bytes
 abbrev pub judgeField : List ℕ → ℕ → Kind → Judging → Judging
 judgeField m w k st =
-    record { at = st .at + w; wrong = pick (leb (st .at + w) (length m)) (worseOf (st .wrong) (agreesOf k (take w (drop (st .at) m)))) (st .wrong); bad = st .bad }
+    record { at = st .at + w; wrong = pick (leb (st .at + w) (length m)) (worseOf (st .at) (st .wrong) (agreesOf k (take w (drop (st .at) m)))) (st .wrong); bad = st .bad }
 
--- what a set bit selects; one that is not listed is bad
-unfoldable pub judgeEntry : List ℕ → Entry → Judging → Judging
-judgeEntry m Refused st = record { at = st .at; wrong = st .wrong; bad = 1 }
-judgeEntry m (Field w k p) st = judgeField m w k st
+-- what a set bit of a bitfield byte selects; one that is not listed is bad
+unfoldable pub judgeEntry : List ℕ → ℕ → Entry → Judging → Judging
+judgeEntry m byte Refused st = record { at = st .at; wrong = st .wrong; bad = firstOf (st .bad) byte }
+judgeEntry m byte (Field w k p) st = judgeField m w k st
+
+-- the same within one bitfield byte, where a bad bit puts the byte's number whatever was there
+unfoldable pub judgeHere : List ℕ → ℕ → Entry → Judging → Judging
+judgeHere m byte Refused st = record { at = st .at; wrong = st .wrong; bad = byte }
+judgeHere m byte (Field w k p) st = judgeField m w k st
 
 -- ---- storing: a message's optional bytes into a layout
 
@@ -75,24 +89,33 @@ storeEntry m (Field w k p) st = storeField m w p st
 
 -- ---- looking: a record's selected fields
 
--- their bytes in all, 1 where one is against its kind and 1 where a bit is bad, 0 where it is not so, and the layout with the fields that were
--- looked at cleared
+-- their bytes in all; which of these, counted from 1, is the first of the first field that is against its kind, and which bitfield byte has the first
+-- bad bit, as in judging; and the layout with the fields that were looked at cleared
 pub record Looking : Type 0 where
   pub total : ℕ
   pub wrong : ℕ
   pub bad : ℕ
   pub rest : List ℕ
 
--- what a set bit adds; one that is not listed is bad
-unfoldable pub lookEntry : Entry → Looking → Looking
-lookEntry Refused st = record { total = st .total; wrong = st .wrong; bad = 1; rest = st .rest }
-lookEntry (Field w k p) st =
+-- a field of width w and kind k, which stands at place p of the layout
+abbrev pub lookField : ℕ → Kind → ℕ → Looking → Looking
+lookField w k p st =
     record {
       total = st .total + w;
-      wrong = worseOf (st .wrong) (agreesOf k (take w (drop p (st .rest))));
+      wrong = worseOf (st .total) (st .wrong) (agreesOf k (take w (drop p (st .rest))));
       bad = st .bad;
       rest = patched (st .rest) p (zeros w);
     }
+
+-- what a set bit of a bitfield byte adds; one that is not listed is bad
+unfoldable pub lookEntry : ℕ → Entry → Looking → Looking
+lookEntry byte Refused st = record { total = st .total; wrong = st .wrong; bad = firstOf (st .bad) byte; rest = st .rest }
+lookEntry byte (Field w k p) st = lookField w k p st
+
+-- the same within one bitfield byte
+unfoldable pub lookHere : ℕ → Entry → Looking → Looking
+lookHere byte Refused st = record { total = st .total; wrong = st .wrong; bad = byte; rest = st .rest }
+lookHere byte (Field w k p) st = lookField w k p st
 
 -- ---- giving: a layout's selected fields into a message
 

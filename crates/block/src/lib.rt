@@ -6,7 +6,7 @@ ghost use lib.ListN.{length, take, getD};
 ghost use Rattle.numbers.specs.Numbers.{patched};
 ghost use Rattle.block.specs.Places.{selectedAt, hasRequired};
 ghost use Rattle.block.specs.Slots.{zeros};
-ghost use Rattle.block.specs.Walk.{pick};
+ghost use Rattle.block.specs.Walk.{pick, firstOf, worseOf};
 ghost use Rattle.block.specs.Sizes.{layoutSize};
 
 // The sizes of an order's record and of its parts: the fixed part, where the longest one ends in a message, the full layout, the record.
@@ -104,6 +104,27 @@ pub fn clear(n: usize, to: &mut [u8])
         to[i] = 0;
         i += 1;
     }
+}
+
+// The first of what is found: what was found before, else this; 0 is nothing found.
+pub fn first_of(found: usize, this: usize) -> usize
+    ensures { λ r. ⌜ r ≡ firstOf found this ⌝ }
+{
+    if found == 0 {
+        return this;
+    }
+    found
+}
+
+// The first field that is against its kind, counted from 1: this one, which has `at` bytes before it, unless it agrees or one was found before it.
+pub fn worse(at: usize, wrong: usize, agree: bool) -> usize
+    requires { ⌜ at ≤ 1000000 ⌝ }
+    ensures { λ r. ⌜ r ≡ worseOf at wrong agree ⌝ }
+{
+    if agree {
+        return wrong;
+    }
+    first_of(wrong, at + 1)
 }
 
 // A bitfield byte of the first `count`, the first being 1; 0 for one that is not there.

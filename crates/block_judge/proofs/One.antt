@@ -19,7 +19,7 @@ module _ (m : List ℕ) (w : ℕ) (k : Kind) (st : Judging) where
   past-end h = rw (lt-leb (st .at + w) (length m) h)
 
   -- a field that is there
-  pub there : {a : ℕ} → st .at + w ≤ length m → a ≡ worseOf (st .wrong) (agreesOf k (take (st .at + w - st .at) (drop (st .at) m))) → after a ≡ judgeField m w k st
+  pub there : {a : ℕ} → st .at + w ≤ length m → a ≡ worseOf (st .at) (st .wrong) (agreesOf k (take (st .at + w - st .at) (drop (st .at) m))) → after a ≡ judgeField m w k st
   there h e =
       let n : st .at + w - st .at ≡ w = omega arith in
-      ap after (e ∙ ap (λ (i : ℕ). worseOf (st .wrong) (agreesOf k (take i (drop (st .at) m)))) n) ∙ rw (le-leb (st .at + w) (length m) h)
+      ap after (e ∙ ap (λ (i : ℕ). worseOf (st .at) (st .wrong) (agreesOf k (take i (drop (st .at) m)))) n) ∙ rw (le-leb (st .at + w) (length m) h)

@@ -5,7 +5,7 @@ use mathlib.Core.List.{List}
 use lib.Dec.{eqb}
 use lib.ListN.{take, drop}
 use Rattle.kinds.specs.Kinds.{allNul}
-use Rattle.block.specs.Places.{selectedAt, entryAt}
+use Rattle.block.specs.Places.{selectedAt, byteAt, entryAt}
 use Rattle.block.specs.Walk.{pick, walk, Judging, judgeEntry}
 use Rattle.block_judge.specs.declared.Judged.{Judged}
 
@@ -19,7 +19,7 @@ begun = record { at = 0; wrong = 0; bad = 0 }
 
 -- the walk of n places from k on that judges a message's optional bytes m
 abbrev pub judgeWalk : ℕ → ℕ → List ℕ → List ℕ → ℕ → ℕ → Judging → Judging
-judgeWalk message count bits m n k st = walk (selectedAt count bits) (λ (i : ℕ). judgeEntry m (entryAt message i)) n k st
+judgeWalk message count bits m n k st = walk (selectedAt count bits) (λ (i : ℕ). judgeEntry m (byteAt i) (entryAt message i)) n k st
 
 -- whether the bitfield bytes after the first k are blank
 abbrev pub blankAfter : ℕ → ℕ → List ℕ → Bool

@@ -5,28 +5,18 @@ ghost use Prim.Native.Nat.{_+_, _-_, _*_, _%_, _≤_, _<_};
 ghost use lib.Dec.{eqb};
 ghost use lib.ListN.{length};
 ghost use Rattle.dictionary.specs.Dictionary.{entryOf};
-ghost use Rattle.block.specs.Walk.{pick, worseOf, inByte, judgeField, judgeEntry};
+ghost use Rattle.block.specs.Walk.{pick, inByte, judgeField, judgeEntry, judgeHere};
 ghost use Rattle.block_judge.specs.State.{judging, begun, judgeWalk, blankAfter, plain};
 ghost use Rattle.block.specs.Sizes.{allPlaces};
 use dictionary::Entry;
 use kinds::Kind;
 
-// How many bytes the set bits take, 1 where a field is against its kind, and 1 where a set bit is not listed; 0 where it is not so. Numbers, since
-// a struct with gaps costs copies.
+// How many bytes the set bits take; which of them, counted from 1, is the first of the first field that is against its kind, and which bitfield byte,
+// counted from 1, has the first set bit that is not listed: 0 where there is none. Numbers of one size, since a struct with gaps costs copies.
 pub struct Judged {
     pub at: usize,
-    pub wrong: u64,
-    pub bad: u64,
-}
-
-// 1 where a field is against its kind, and else as it was.
-fn worse(wrong: u64, agree: bool) -> u64
-    ensures { λ r. ⌜ r ≡ worseOf wrong agree ⌝ }
-{
-    if agree {
-        return wrong;
-    }
-    1
+    pub wrong: usize,
+    pub bad: usize,
 }
 
 // One field of the message's optional bytes, asked of where it stands. Where they end before it, nothing is asked.
@@ -43,7 +33,7 @@ fn judge_field(width: u8, kind: Kind, msg: &[u8], t: Judged) -> Judged
             bad: t.bad,
         };
     }
-    let wrong = worse(t.wrong, kinds::agrees(kind, &msg[at..end]));
+    let wrong = block::worse(at, t.wrong, kinds::agrees(kind, &msg[at..end]));
     Judged {
         at: end,
         wrong: wrong,
@@ -51,10 +41,10 @@ fn judge_field(width: u8, kind: Kind, msg: &[u8], t: Judged) -> Judged
     }
 }
 
-// One bit, the lowest of x: its field if it is set.
+// One bit, the lowest of x: its field if it is set. A bad bit puts the byte's number.
 fn judge_bit(message: u8, byte: u8, bit: u8, x: u8, msg: &[u8], t: Judged) -> Judged
     requires { ⌜ t .at ≤ 1000000 ⌝ }
-    ensures { λ r. ⌜ (judging r ≡ pick (eqb (x % 2) 1) (judgeEntry (now (msg .entry)) (entryOf message byte bit) (judging t)) (judging t)) × (r .at ≤ t .at + 255) ⌝ }
+    ensures { λ r. ⌜ (judging r ≡ pick (eqb (x % 2) 1) (judgeHere (now (msg .entry)) byte (entryOf message byte bit) (judging t)) (judging t)) × (r .at ≤ t .at + 255) ⌝ }
 {
     if x % 2 == 1 {
         let e = dictionary::entry_of(message, byte, bit);
@@ -62,7 +52,7 @@ fn judge_bit(message: u8, byte: u8, bit: u8, x: u8, msg: &[u8], t: Judged) -> Ju
             Entry::Refused => Judged {
                 at: t.at,
                 wrong: t.wrong,
-                bad: 1,
+                bad: byte as usize,
             },
             Entry::Field {
                 width,
@@ -75,27 +65,36 @@ fn judge_bit(message: u8, byte: u8, bit: u8, x: u8, msg: &[u8], t: Judged) -> Ju
     }
 }
 
-// The fields of a bitfield byte, which is `value`; its places end at `end`, so that literals tell the loop's length.
+// The fields of a bitfield byte, which is `value`; its places end at `end`, so that literals tell the loop's length. Whether a bad bit was found before is
+// asked once, after them: at each bit it would cost every message.
 fn judge_bits(message: u8, byte: u8, end: u8, value: u8, msg: &[u8], t: Judged) -> Judged
-    requires { ⌜ (byte ≤ 15) × (end ≡ 8 * byte) × (t .at ≤ 100000) ⌝ }
-    ensures { λ r. ⌜ (judging r ≡ inByte (judgeEntry (now (msg .entry))) message byte value (judging t)) × (r .at ≤ t .at + 2040) ⌝ }
+    requires { ⌜ (1 ≤ byte) × (byte ≤ 15) × (end ≡ 8 * byte) × (t .at ≤ 100000) ⌝ }
+    ensures { λ r. ⌜ (judging r ≡ inByte (judgeEntry (now (msg .entry)) byte) message byte value (judging t)) × (r .at ≤ t .at + 2040) ⌝ }
 {
     let n = end + 8 - 8 * byte;
     let mut x = value;
     let mut bit: u8 = 0;
-    let mut r = t;
+    let mut r = Judged {
+        at: t.at,
+        wrong: t.wrong,
+        bad: 0,
+    };
     while bit < n {
         r = judge_bit(message, byte, bit, x, msg, r);
         x = x / 2;
         bit += 1;
     }
-    r
+    Judged {
+        at: r.at,
+        wrong: r.wrong,
+        bad: block::first_of(t.bad, r.bad),
+    }
 }
 
 // The same of any byte: its places follow from it.
 fn judge_any(message: u8, byte: u8, value: u8, msg: &[u8], t: Judged) -> Judged
-    requires { ⌜ (byte ≤ 15) × (t .at ≤ 100000) ⌝ }
-    ensures { λ r. ⌜ (judging r ≡ inByte (judgeEntry (now (msg .entry))) message byte value (judging t)) × (r .at ≤ t .at + 2040) ⌝ }
+    requires { ⌜ (1 ≤ byte) × (byte ≤ 15) × (t .at ≤ 100000) ⌝ }
+    ensures { λ r. ⌜ (judging r ≡ inByte (judgeEntry (now (msg .entry)) byte) message byte value (judging t)) × (r .at ≤ t .at + 2040) ⌝ }
 {
     judge_bits(message, byte, 8 * byte, value, msg, t)
 }

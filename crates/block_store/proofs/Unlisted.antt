@@ -7,7 +7,7 @@ use Prim.Native.Nat.{ℕ, zero, suc, _+_}
 use borrow.Author.Tests.{ne-eqb}
 use Rattle.dictionary.specs.Dictionary.{entryOf}
 use Rattle.block.specs.Places.{selectedAt, entryAt}
-use Rattle.block.specs.Walk.{Storing, storeEntry}
+use Rattle.block.specs.Walk.{anyByte, Storing, storeEntry}
 use Rattle.block.specs.WalkLaws.{walk-add}
 use Rattle.block.specs.Loops.{unlisted, places-unlisted}
 use Rattle.block_store.specs.State.{storeWalk}
@@ -16,7 +16,7 @@ module _ (message count : ℕ) (bits m : List ℕ) where
   -- n places that are not listed, and no other
   pub none-listed : (n k : ℕ) (st : Storing) → unlisted message n k ≡ true → st ≡ storeWalk message count bits m n k st
   unfolding storeEntry
-  none-listed n k st u = sym (places-unlisted (storeEntry m) message count bits n k st (λ s. refl) u)
+  none-listed n k st u = sym (places-unlisted (anyByte (storeEntry m)) message count bits n k st (λ b s. refl) u)
 
   -- and i places after them
   pub listed-after : (n i k : ℕ) (st : Storing) → unlisted message n k ≡ true → storeWalk message count bits m i (k + n) st ≡ storeWalk message count bits m (n + i) k st

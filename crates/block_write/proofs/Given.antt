@@ -11,7 +11,7 @@ use Rattle.dictionary.specs.declared.Entry.{Entry}
 use Rattle.dictionary.specs.declared.Entry.the-variants.{Refused}
 use Rattle.block.specs.Slots.{widthOf}
 use Rattle.block.specs.Places.{selectedAt, entryAt, slotsFrom}
-use Rattle.block.specs.Walk.{Giving, giveEntry}
+use Rattle.block.specs.Walk.{anyByte, Giving, giveEntry}
 use Rattle.block.specs.WalkLaws.{walk-add}
 use Rattle.block.specs.Loops.{unlisted, places-unlisted}
 use Rattle.block.specs.Fits.{bitTakes, bitsTake, left, left-byte}
@@ -26,7 +26,7 @@ unlisted-kept v st = refl
 module _ (message count : ℕ) (bits v : List ℕ) (n k : ℕ) (u : unlisted message n k ≡ true) where
   -- the last n places
   pub ended : (st : Giving) → st ≡ giveWalk message count bits v n k st
-  ended st = sym (places-unlisted (giveEntry v) message count bits n k st (unlisted-kept v) u)
+  ended st = sym (places-unlisted (anyByte (giveEntry v)) message count bits n k st (λ b. unlisted-kept v) u)
 
   -- n places before m others
   pub passed : (m : ℕ) (st : Giving) → giveWalk message count bits v m (k + n) st ≡ giveWalk message count bits v (n + m) k st

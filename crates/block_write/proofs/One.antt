@@ -8,9 +8,8 @@ use borrow.Author.Tests.{le-leb}
 use Rattle.kinds.specs.declared.Kind.{Kind}
 use Rattle.kinds.specs.Kinds.{agreesOf}
 use Rattle.numbers.specs.Numbers.{patched}
-use Rattle.dictionary.specs.declared.Entry.the-variants.{Field}
 use Rattle.block.specs.Slots.{zeros}
-use Rattle.block.specs.Walk.{worseOf, Looking, lookEntry, Giving, giveField}
+use Rattle.block.specs.Walk.{worseOf, Looking, lookField, Giving, giveField}
 
 -- ---- a field, which the code has as the part from p to p + w of the layout v
 
@@ -22,12 +21,11 @@ module _ (v : List ℕ) (w p : ℕ) where
   part-is = let n : p + w - p ≡ w = omega arith in ap (λ (i : ℕ). take i (drop p v)) n
 
   -- looked at, and cleared there
-  pub looked-is : (k : Kind) (total wrong bad : ℕ) {a : ℕ} {l : List ℕ} → a ≡ worseOf wrong (agreesOf k part) → l ≡ patched v p (zeros w)
-      → _≡_ {A = Looking} (record { total = total + w; wrong = a; bad = bad; rest = l }) (lookEntry (Field w k p) (record { total = total; wrong = wrong; bad = bad; rest = v }))
-  unfolding lookEntry
+  pub looked-is : (k : Kind) (total wrong bad : ℕ) {a : ℕ} {l : List ℕ} → a ≡ worseOf total wrong (agreesOf k part) → l ≡ patched v p (zeros w)
+      → _≡_ {A = Looking} (record { total = total + w; wrong = a; bad = bad; rest = l }) (lookField w k p (record { total = total; wrong = wrong; bad = bad; rest = v }))
   looked-is k total wrong bad e f =
       ap₂ (λ (b : ℕ) (x : List ℕ). record { total = total + w; wrong = b; bad = bad; rest = x })
-      (e ∙ ap (λ (x : List ℕ). worseOf wrong (agreesOf k x)) part-is)
+      (e ∙ ap (λ (x : List ℕ). worseOf total wrong (agreesOf k x)) part-is)
       f
 
   -- given, where the message has room for it

@@ -3,7 +3,7 @@ use Prim.Native.Nat.{ℕ, _*_, _≤_}
 use mathlib.Core.Path.{_≡_}
 use mathlib.Core.List.{List}
 use lib.ListN.{length}
-use Rattle.block.specs.Places.{selectedAt, entryAt}
+use Rattle.block.specs.Places.{selectedAt, byteAt, entryAt}
 use Rattle.block.specs.Walk.{walk, Looking, lookEntry, Giving, giveEntry}
 use Rattle.block.specs.Sizes.{layoutSize}
 use Rattle.block_write.specs.declared.Seen.{Seen}
@@ -18,7 +18,7 @@ unseen v = record { total = 0; wrong = 0; bad = 0; rest = v }
 
 -- the walk of n places from k on that looks at a layout
 abbrev pub lookWalk : ℕ → ℕ → List ℕ → ℕ → ℕ → Looking → Looking
-lookWalk message count bits n k st = walk (selectedAt count bits) (λ (i : ℕ). lookEntry (entryAt message i)) n k st
+lookWalk message count bits n k st = walk (selectedAt count bits) (λ (i : ℕ). lookEntry (byteAt i) (entryAt message i)) n k st
 
 -- what holds between two bytes of the walk, with n of them behind it: the layout has its length, the bitfield bytes are there, and a byte adds at most
 -- 2040 to the total

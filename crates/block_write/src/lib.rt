@@ -5,36 +5,25 @@ ghost use mathlib.Core.Path.{_≡_};
 ghost use Prim.Native.Nat.{_+_, _*_, _-_, _%_, _≤_};
 ghost use lib.Dec.{eqb};
 ghost use lib.ListN.{length};
-ghost use Rattle.dictionary.specs.declared.Entry.the-variants.{Field};
 ghost use Rattle.dictionary.specs.Dictionary.{entryOf};
-ghost use Rattle.block.specs.Walk.{pick, worseOf, inByte, lookEntry};
+ghost use Rattle.block.specs.Walk.{pick, inByte, lookField, lookEntry, lookHere};
 ghost use Rattle.block_write.specs.State.{looking, unseen, lookWalk, Midway};
 ghost use Rattle.block.specs.Sizes.{allPlaces, layoutSize};
 use dictionary::Entry;
 use kinds::Kind;
 
-// The bytes of the selected fields in all, whether one of them does not agree with its kind, and whether a set bit is not listed: 1, or
-// 0 where it is not so.
+// The bytes of the selected fields in all; which of them, counted from 1, is the first of the first field that is against its kind, and which
+// bitfield byte, counted from 1, has the first set bit that is not listed: 0 where there is none.
 pub struct Seen {
     pub total: usize,
     pub wrong: usize,
     pub bad: usize,
 }
 
-// 1 where a field is against its kind, and else as it was.
-fn worse(wrong: usize, agree: bool) -> usize
-    ensures { λ r. ⌜ r ≡ worseOf wrong agree ⌝ }
-{
-    if agree {
-        return wrong;
-    }
-    1
-}
-
 // One field of a layout, which is cleared there.
 fn look_field(width: u8, kind: Kind, place: u8, rest: &mut [u8], s: Seen) -> Seen
     requires { ⌜ (place + width ≤ length (now rest)) × (s .total ≤ 1000000) ⌝ }
-    ensures { λ r. ⌜ (looking r (now (rest .exit)) ≡ lookEntry (Field width kind place) (looking s (now (rest .entry)))) × (r .total ≤ s .total + 255) ⌝ }
+    ensures { λ r. ⌜ (looking r (now (rest .exit)) ≡ lookField width kind place (looking s (now (rest .entry)))) × (r .total ≤ s .total + 255) ⌝ }
 {
     let w = width as usize;
     let p = place as usize;
@@ -43,15 +32,15 @@ fn look_field(width: u8, kind: Kind, place: u8, rest: &mut [u8], s: Seen) -> See
     block::clear(w, &mut rest[p..]);
     Seen {
         total: s.total + w,
-        wrong: worse(s.wrong, agree),
+        wrong: block::worse(s.total, s.wrong, agree),
         bad: s.bad,
     }
 }
 
-// One bit, the lowest of x: its field if it is set.
+// One bit, the lowest of x: its field if it is set. A bad bit puts the byte's number.
 fn look_bit(message: u8, byte: u8, bit: u8, x: u8, rest: &mut [u8], s: Seen) -> Seen
     requires { ⌜ (length (now rest) ≡ layoutSize) × (s .total ≤ 1000000) ⌝ }
-    ensures { λ r. ⌜ (looking r (now (rest .exit)) ≡ pick (eqb (x % 2) 1) (lookEntry (entryOf message byte bit) (looking s (now (rest .entry)))) (looking s (now (rest .entry)))) × (r .total ≤ s .total + 255) ⌝ }
+    ensures { λ r. ⌜ (looking r (now (rest .exit)) ≡ pick (eqb (x % 2) 1) (lookHere byte (entryOf message byte bit) (looking s (now (rest .entry)))) (looking s (now (rest .entry)))) × (r .total ≤ s .total + 255) ⌝ }
 {
     if x % 2 == 1 {
         let e = dictionary::entry_of(message, byte, bit);
@@ -59,7 +48,7 @@ fn look_bit(message: u8, byte: u8, bit: u8, x: u8, rest: &mut [u8], s: Seen) -> 
             Entry::Refused => Seen {
                 total: s.total,
                 wrong: s.wrong,
-                bad: 1,
+                bad: byte as usize,
             },
             Entry::Field { width, kind, place } => look_field(width, kind, place, rest, s),
         }
@@ -68,27 +57,36 @@ fn look_bit(message: u8, byte: u8, bit: u8, x: u8, rest: &mut [u8], s: Seen) -> 
     }
 }
 
-// The fields of a bitfield byte, which is `value`; its places end at `end`, so that literals tell the loop's length.
+// The fields of a bitfield byte, which is `value`; its places end at `end`, so that literals tell the loop's length. Whether a bad bit was found before is
+// asked once, after them.
 fn look_bits(message: u8, byte: u8, end: u8, value: u8, rest: &mut [u8], s: Seen) -> Seen
-    requires { ⌜ (length (now rest) ≡ layoutSize) × (byte ≤ 15) × (end ≡ 8 * byte) × (s .total ≤ 100000) ⌝ }
-    ensures { λ r. ⌜ (looking r (now (rest .exit)) ≡ inByte lookEntry message byte value (looking s (now (rest .entry)))) × (r .total ≤ s .total + 2040) ⌝ }
+    requires { ⌜ (length (now rest) ≡ layoutSize) × (1 ≤ byte) × (byte ≤ 15) × (end ≡ 8 * byte) × (s .total ≤ 100000) ⌝ }
+    ensures { λ r. ⌜ (looking r (now (rest .exit)) ≡ inByte (lookEntry byte) message byte value (looking s (now (rest .entry)))) × (r .total ≤ s .total + 2040) ⌝ }
 {
     let n = end + 8 - 8 * byte;
     let mut x = value;
     let mut bit: u8 = 0;
-    let mut r = s;
+    let mut r = Seen {
+        total: s.total,
+        wrong: s.wrong,
+        bad: 0,
+    };
     while bit < n {
         r = look_bit(message, byte, bit, x, rest, r);
         x = x / 2;
         bit += 1;
     }
-    r
+    Seen {
+        total: r.total,
+        wrong: r.wrong,
+        bad: block::first_of(s.bad, r.bad),
+    }
 }
 
 // The same of any byte: its places follow from it.
 fn look_any(message: u8, byte: u8, value: u8, rest: &mut [u8], s: Seen) -> Seen
-    requires { ⌜ (length (now rest) ≡ layoutSize) × (byte ≤ 15) × (s .total ≤ 100000) ⌝ }
-    ensures { λ r. ⌜ (looking r (now (rest .exit)) ≡ inByte lookEntry message byte value (looking s (now (rest .entry)))) × (r .total ≤ s .total + 2040) ⌝ }
+    requires { ⌜ (length (now rest) ≡ layoutSize) × (1 ≤ byte) × (byte ≤ 15) × (s .total ≤ 100000) ⌝ }
+    ensures { λ r. ⌜ (looking r (now (rest .exit)) ≡ inByte (lookEntry byte) message byte value (looking s (now (rest .entry)))) × (r .total ≤ s .total + 2040) ⌝ }
 {
     look_bits(message, byte, 8 * byte, value, rest, s)
 }

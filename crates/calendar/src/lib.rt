@@ -57,7 +57,7 @@ pub fn is_day(date: u32) -> bool
 }
 
 // 0 for a day, 19 for any other number.
-pub fn day_refusal(date: u32) -> u8
+pub fn day_refusal(date: u32) -> u32
     ensures { λ r. ⌜ r ≡ dayRefusal date ⌝ }
 {
     if is_day(date) {

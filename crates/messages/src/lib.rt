@@ -66,7 +66,7 @@ fn put_session(m: &[u8], buffer: &mut [u8])
 }
 
 // Reads a session message, as framing answers it, into a buffer: its refusal, then 13 for a buffer under its record's size.
-fn read_session(m: &[u8], buffer: &mut [u8]) -> u8
+fn read_session(m: &[u8], buffer: &mut [u8]) -> u32
     ensures { λ r. ⌜ (r ≡ placedRefusal (sessions.readRefusal (now (m .entry))) sessionRecordSize (length (now (buffer .entry)))) × (now (buffer .exit) ≡ placedRecord (sessions.readRefusal (now (m .entry))) sessionRecordSize (sessionRecordBytes (sessions.recordOf (now (m .entry)))) (now (buffer .entry))) ⌝ }
 {
     let refusal = session_messages::read_refusal(m);
@@ -81,7 +81,7 @@ fn read_session(m: &[u8], buffer: &mut [u8]) -> u8
 }
 
 // The same of an order message.
-fn read_order(m: &[u8], buffer: &mut [u8]) -> u8
+fn read_order(m: &[u8], buffer: &mut [u8]) -> u32
     ensures { λ r. ⌜ (r ≡ placedRefusal (orders.readRefusal (now (m .entry))) recordSize (length (now (buffer .entry)))) × (now (buffer .exit) ≡ placedRecord (orders.readRefusal (now (m .entry))) recordSize (recordBytes (orders.recordOf (now (m .entry)))) (now (buffer .entry))) ⌝ }
 {
     if block::RECORD <= buffer.len() {
@@ -97,7 +97,7 @@ fn read_order(m: &[u8], buffer: &mut [u8]) -> u8
 // Reads the first whole message of any bytes into a record's buffer: 0, and the record stands in the front of the buffer; or the refusal, 1
 // to 11, and after these 13 for a buffer under the size of this message's record, and the buffer is as it was. Bytes after the message play
 // no part.
-pub fn read(direction: u8, bytes: &[u8], buffer: &mut [u8]) -> u8
+pub fn read(direction: u8, bytes: &[u8], buffer: &mut [u8]) -> u32
     ensures { λ r. ⌜ (r ≡ readCall direction (now (bytes .entry)) (length (now (buffer .entry)))) × (now (buffer .exit) ≡ readRecord direction (now (bytes .entry)) (now (buffer .entry))) ⌝ }
 {
     let refusal = wire::frame_refusal(bytes);
@@ -116,7 +116,7 @@ pub fn read(direction: u8, bytes: &[u8], buffer: &mut [u8]) -> u8
 }
 
 // The refusal of the first whole message of any bytes (1 to 11), or 0: the scratch has room for any record. Bytes after it play no part.
-pub fn read_refusal(direction: u8, bytes: &[u8]) -> u8
+pub fn read_refusal(direction: u8, bytes: &[u8]) -> u32
     ensures { λ r. ⌜ r ≡ readRefusal direction (now (bytes .entry)) ⌝ }
 {
     let mut scratch = [0u8; session_messages::RECORD];
@@ -124,7 +124,7 @@ pub fn read_refusal(direction: u8, bytes: &[u8]) -> u8
 }
 
 // Writes a session message's record: 13 for one under its size, then its own refusals.
-fn write_session(given: &[u8], out: &mut [u8]) -> u8
+fn write_session(given: &[u8], out: &mut [u8]) -> u32
     ensures { λ r. ⌜ (r ≡ sizeRefusal sessionRecordSize (length (now (given .entry))) (sessions.recordRefusal (sessionAt (now (given .entry))) (length (now (out .entry))))) × (now (out .exit) ≡ sizeOut sessionRecordSize (length (now (given .entry))) (sessions.recordBuffer (sessionAt (now (given .entry))) (now (out .entry))) (now (out .entry))) ⌝ }
 {
     if given.len() < session_messages::RECORD {
@@ -141,7 +141,7 @@ fn write_session(given: &[u8], out: &mut [u8]) -> u8
 }
 
 // The same of an order's record.
-fn write_order(given: &[u8], out: &mut [u8]) -> u8
+fn write_order(given: &[u8], out: &mut [u8]) -> u32
     ensures { λ r. ⌜ (r ≡ sizeRefusal recordSize (length (now (given .entry))) (orders.writeRefusal (recordAt (now (given .entry))) (length (now (out .entry))))) × (now (out .exit) ≡ sizeOut recordSize (length (now (given .entry))) (orders.writeBuffer (recordAt (now (given .entry))) (now (out .entry))) (now (out .entry))) ⌝ }
 {
     if given.len() < block::RECORD {
@@ -152,7 +152,7 @@ fn write_order(given: &[u8], out: &mut [u8]) -> u8
 
 // Writes a record: 0, and the buffer begins with the message's bytes and is otherwise as it was; or the refusal, and the buffer is as it was:
 // 13 for an empty record, which has no type, 4, 13 for a record under its type's size, and then its own, 5, 7 to 13.
-pub fn write(direction: u8, given: &[u8], out: &mut [u8]) -> u8
+pub fn write(direction: u8, given: &[u8], out: &mut [u8]) -> u32
     ensures { λ n. ⌜ (n ≡ writeCall direction (now (given .entry)) (length (now (out .entry)))) × (now (out .exit) ≡ writeOut direction (now (given .entry)) (now (out .entry))) ⌝ }
 {
     if given.len() == 0 {

@@ -69,7 +69,7 @@ pub fn read_u64(s: &[u8], at: usize) -> u64
 }
 
 // Two bytes into the front of a lent tail.
-fn put_u16(tail: &mut [u8], v: u16) -> u8
+fn put_u16(tail: &mut [u8], v: u16) -> u32
     ensures { λ r. ⌜ (r ≡ putRefusal (now (tail .entry)) 0 (bytesOf 2 v)) × (now (tail .exit) ≡ putBuffer (now (tail .entry)) 0 (bytesOf 2 v)) ⌝ }
 {
     if tail.len() < 2 {
@@ -81,7 +81,7 @@ fn put_u16(tail: &mut [u8], v: u16) -> u8
 }
 
 // Four bytes into the front of a lent tail.
-fn put_u32(tail: &mut [u8], v: u32) -> u8
+fn put_u32(tail: &mut [u8], v: u32) -> u32
     ensures { λ r. ⌜ (r ≡ putRefusal (now (tail .entry)) 0 (bytesOf 4 v)) × (now (tail .exit) ≡ putBuffer (now (tail .entry)) 0 (bytesOf 4 v)) ⌝ }
 {
     if tail.len() < 4 {
@@ -98,7 +98,7 @@ fn put_u32(tail: &mut [u8], v: u32) -> u8
 }
 
 // Eight bytes into the front of a lent tail.
-fn put_u64(tail: &mut [u8], v: u64) -> u8
+fn put_u64(tail: &mut [u8], v: u64) -> u32
     ensures { λ r. ⌜ (r ≡ putRefusal (now (tail .entry)) 0 (bytesOf 8 v)) × (now (tail .exit) ≡ putBuffer (now (tail .entry)) 0 (bytesOf 8 v)) ⌝ }
 {
     if tail.len() < 8 {
@@ -123,7 +123,7 @@ fn put_u64(tail: &mut [u8], v: u64) -> u8
 }
 
 // A number of two bytes written at a place: into the tail from there on.
-pub fn write_u16(out: &mut [u8], at: usize, v: u16) -> u8
+pub fn write_u16(out: &mut [u8], at: usize, v: u16) -> u32
     ensures { λ r. ⌜ (r ≡ putRefusal (now (out .entry)) at (bytesOf 2 v)) × (now (out .exit) ≡ putBuffer (now (out .entry)) at (bytesOf 2 v)) ⌝ }
 {
     if out.len() < at {
@@ -133,7 +133,7 @@ pub fn write_u16(out: &mut [u8], at: usize, v: u16) -> u8
 }
 
 // A number of four bytes written at a place: into the tail from there on.
-pub fn write_u32(out: &mut [u8], at: usize, v: u32) -> u8
+pub fn write_u32(out: &mut [u8], at: usize, v: u32) -> u32
     ensures { λ r. ⌜ (r ≡ putRefusal (now (out .entry)) at (bytesOf 4 v)) × (now (out .exit) ≡ putBuffer (now (out .entry)) at (bytesOf 4 v)) ⌝ }
 {
     if out.len() < at {
@@ -143,7 +143,7 @@ pub fn write_u32(out: &mut [u8], at: usize, v: u32) -> u8
 }
 
 // A number of eight bytes written at a place: into the tail from there on.
-pub fn write_u64(out: &mut [u8], at: usize, v: u64) -> u8
+pub fn write_u64(out: &mut [u8], at: usize, v: u64) -> u32
     ensures { λ r. ⌜ (r ≡ putRefusal (now (out .entry)) at (bytesOf 8 v)) × (now (out .exit) ≡ putBuffer (now (out .entry)) at (bytesOf 8 v)) ⌝ }
 {
     if out.len() < at {

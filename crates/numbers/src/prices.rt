@@ -33,7 +33,7 @@ pub fn read_price(s: &[u8], at: usize) -> i64
 }
 
 // A price written at a place.
-pub fn write_price(out: &mut [u8], at: usize, p: i64) -> u8
+pub fn write_price(out: &mut [u8], at: usize, p: i64) -> u32
     ensures { λ r. ⌜ (r ≡ putRefusal (now (out .entry)) at (bytesOf 8 (bitsOf p))) × (now (out .exit) ≡ putBuffer (now (out .entry)) at (bytesOf 8 (bitsOf p))) ⌝ }
 {
     crate::write_u64(out, at, bits(p))

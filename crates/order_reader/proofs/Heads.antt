@@ -9,6 +9,7 @@ use lib.Dec.{leb, ltb}
 use lib.ListN.{length, getD}
 use borrow.Author.Tests.{ltb-false, ne-eqb}
 use Rattle.refusals.specs.Names.{unknownType, badUnit}
+use Rattle.refusals.specs.ToldLaws.{passed-told}
 use Rattle.wire.specs.Header.{typeOf, unitOf}
 use Rattle.wire.specs.FrameLaws.{passed}
 use Rattle.orders.specs.Shapes.{ofMember, ofVenue, countAt, mostOf, unitGood}
@@ -66,9 +67,9 @@ unfolding headRefusal
 good-head m message at count z e f g =
     let p1 = passed (not (ofMember (typeOf m) || ofVenue (typeOf m))) _ _ z in
     let p2 = passed (not (unitGood (typeOf m) (unitOf m))) _ _ (p1 .1) in
-    let p3 = passed (leb (length m) (countAt (typeOf m))) _ _ (p2 .1) in
-    let p4 = passed (ltb (mostOf (typeOf m)) (countOf m)) _ _ (p3 .1) in
-    let p5 = passed (ltb (length m) (countAt (typeOf m) + 1 + countOf m)) _ _ (p4 .1) in
+    let p3 = passed-told (leb (length m) (countAt (typeOf m))) _ _ _ (p2 .1) in
+    let p4 = passed-told (ltb (mostOf (typeOf m)) (countOf m)) _ _ _ (p3 .1) in
+    let p5 = passed-told (ltb (length m) (countAt (typeOf m) + 1 + countOf m)) _ _ _ (p4 .1) in
     let most : countOf m ≤ mostOf (typeOf m) = ltb-false _ _ (p4 .0) in
     let whole : countAt (typeOf m) + 1 + countOf m ≤ length m = ltb-false _ _ (p5 .0) in
     let bound : mostOf (typeOf m) ≤ 15 = most-bound (typeOf m) in

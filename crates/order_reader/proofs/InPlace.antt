@@ -12,12 +12,15 @@ use lib.Seq.{length-take-le, take-append-le, drop-append-le, getD-take}
 use borrow.Author.Tests.{eq-eqb, eqb-true}
 use Rattle.numbers.specs.Numbers.{numberAt, patched}
 use Rattle.numbers.proofs.Tail.{tail-is}
-use Rattle.wire.specs.Header.{typeOf, unitOf, numberOf}
+use Rattle.wire.specs.Header.{typeOf, unitOf, numberOf, totalOf}
 use Rattle.dictionary.specs.declared.Entry.{Entry}
 use Rattle.block.specs.Slots.{zeros, Slot, slot, takes, width, sum, spread}
 use Rattle.block.specs.SlotLaws.{length-zeros, drop-zeros}
 use Rattle.block.specs.Places.{bitSet, selectedAt, entryAt, slotsFrom, slotsOf, hasRequired}
-use Rattle.orders.specs.Shapes.{countAt, newOrderGood, cancelOrderGood, acknowledgmentGood, executionGood, fixedGood}
+use Rattle.refusals.specs.FirstBad.{Tested, allGood, firstBad}
+use Rattle.orders.specs.Shapes.{countAt, fixedGood}
+use Rattle.orders.specs.FixedFields.{newOrderFields, cancelOrderFields, acknowledgmentFields, executionFields, fixedFields, fixedWrong}
+use Rattle.orders.specs.FixedFieldLaws.{fields-good}
 use Rattle.orders.specs.declared.Record.{Record}
 use Rattle.orders.specs.Orders.{countOf, bitsOf, fixedOf, optionalOf, headRefusal, blockRefusal, readRefusal, layoutOf, recordOf}
 use Rattle.order_records.specs.Records.{recordBytes}
@@ -79,24 +82,31 @@ module _ (x z : List ℕ) (n : ℕ) (h : n ≤ length x) where
   number-front zero i l = refl
   number-front (suc k) i l = ap₂ (λ (a b : ℕ). a + 256 * b) (byte-front i (omega arith)) (number-front k (i + 1) (omega arith))
 
-  good-by : Bool → Bool → Bool → List ℕ → Bool
-  good-by a b c f = cond a (newOrderGood f) (cond b (cancelOrderGood f) (cond c (acknowledgmentGood f) (executionGood f)))
+  fields-by : Bool → Bool → Bool → List ℕ → List Tested
+  fields-by a b c f = cond a (newOrderFields f) (cond b (cancelOrderFields f) (cond c (acknowledgmentFields f) (executionFields f)))
 
-  by-type : (a b c : Bool) → n ≡ cond a 35 (cond b 30 (cond c 47 fixedEnd)) - 10 → good-by a b c (take n x ++ z) ≡ good-by a b c x
-  unfolding good-by
+  by-type : (a b c : Bool) → n ≡ cond a 35 (cond b 30 (cond c 47 fixedEnd)) - 10 → fields-by a b c (take n x ++ z) ≡ fields-by a b c x
+  unfolding fields-by
   by-type true b c e = rw (part-front 0 20 (omega arith), part-front 20 1 (omega arith), number-front 4 21 (omega arith))
   by-type false true c e = rw (part-front 0 20 (omega arith))
   by-type false false true e = rw (part-front 8 20 (omega arith))
   by-type false false false e = rw (part-front 8 20 (omega arith), part-front 52 1 (omega arith), part-front 53 1 (omega arith), part-front 54 4 (omega arith))
 
-  pub fixed-front : (message : ℕ) → n ≡ countAt message - 10 → fixedGood message (take n x ++ z) ≡ fixedGood message x
-  unfolding fixedGood countAt good-by
-  fixed-front message e = by-type (eqb message 0x38) (eqb message 0x39) (eqb message 0x25) e
+  fields-front : (message : ℕ) → n ≡ countAt message - 10 → fixedFields message (take n x ++ z) ≡ fixedFields message x
+  unfolding fixedFields countAt fields-by
+  fields-front message e = by-type (eqb message 0x38) (eqb message 0x39) (eqb message 0x25) e
+
+  pub wrong-front : (message : ℕ) → n ≡ countAt message - 10 → fixedWrong message (take n x ++ z) ≡ fixedWrong message x
+  unfolding fixedWrong
+  wrong-front message e = ap firstBad (fields-front message e)
+
+  pub good-front : (message : ℕ) → n ≡ countAt message - 10 → fixedGood message (take n x ++ z) ≡ fixedGood message x
+  good-front message e = sym (fields-good message (take n x ++ z)) ∙ ap allGood (fields-front message e) ∙ fields-good message x
 
 -- ---- the whole message
 
 module _ (m : List ℕ) (ok : headRefusal m ≡ 0) where
-  there : blockRefusal (typeOf m) (countOf m) (take (countOf m) (drop (countAt (typeOf m) + 1) m)) (drop 10 m) (drop (countAt (typeOf m) + 1 + countOf m) m) ≡ readRefusal m
+  there : blockRefusal (totalOf m) (typeOf m) (countOf m) (take (countOf m) (drop (countAt (typeOf m) + 1) m)) (drop 10 m) (drop (countAt (typeOf m) + 1 + countOf m) m) ≡ readRefusal m
   unfolding readRefusal bitsOf fixedOf optionalOf blockRefusal
   there =
       let g = good-head m (typeOf m) (countAt (typeOf m)) (countOf m) ok refl refl refl in
@@ -107,24 +117,25 @@ module _ (m : List ℕ) (ok : headRefusal m ≡ 0) where
         eq-eqb (headRefusal m) 0 ok,
         slots-padded (countOf m) bs (15 - countOf m) (typeOf m),
         required-padded (countOf m) bs (15 - countOf m) (typeOf m),
-        fixed-front (drop 10 m) (zeros (fixedEnd - countAt (typeOf m))) (countAt (typeOf m) - 10) (omega (arith, d, g .fits, g .at-least)) (typeOf m) refl,
+        good-front (drop 10 m) (zeros (fixedEnd - countAt (typeOf m))) (countAt (typeOf m) - 10) (omega (arith, d, g .fits, g .at-least)) (typeOf m) refl,
+        wrong-front (drop 10 m) (zeros (fixedEnd - countAt (typeOf m))) (countAt (typeOf m) - 10) (omega (arith, d, g .fits, g .at-least)) (typeOf m) refl,
       ))
 
   pub in-place : (message at count : ℕ) → message ≡ typeOf m → at ≡ countAt message → count ≡ getD m at 0
-      → {r : ℕ} → r ≡ blockRefusal message count (take count (drop (at + 1) m)) (drop 10 m) (drop (at + 1 + count) m) → r ≡ readRefusal m
+      → {r : ℕ} → r ≡ blockRefusal (totalOf m) message count (take count (drop (at + 1) m)) (drop 10 m) (drop (at + 1 + count) m) → r ≡ readRefusal m
   in-place message at count e f g q =
       let i : at ≡ countAt (typeOf m) = f ∙ ap countAt e in
       let n : count ≡ countOf m = g ∙ ap (λ (j : ℕ). getD m j 0) i in
       q
-      ∙ ap (λ (x : ℕ). blockRefusal x count (take count (drop (at + 1) m)) (drop 10 m) (drop (at + 1 + count) m)) e
-      ∙ ap₂ (λ (k j : ℕ). blockRefusal (typeOf m) k (take k (drop (j + 1) m)) (drop 10 m) (drop (j + 1 + k) m)) n i
+      ∙ ap (λ (x : ℕ). blockRefusal (totalOf m) x count (take count (drop (at + 1) m)) (drop 10 m) (drop (at + 1 + count) m)) e
+      ∙ ap₂ (λ (k j : ℕ). blockRefusal (totalOf m) (typeOf m) k (take k (drop (j + 1) m)) (drop 10 m) (drop (j + 1 + k) m)) n i
       ∙ there
 
   -- where it is not refused its optional bytes are as many as its set bits take
   pub total-there : (message at count : ℕ) → message ≡ typeOf m → at ≡ countAt message → count ≡ getD m at 0 → readRefusal m ≡ 0
       → sum takes (slotsOf message count (take count (drop (at + 1) m))) ≡ length (drop (at + 1 + count) m)
   total-there message at count e f g z =
-      total-right message count (take count (drop (at + 1) m)) (drop 10 m) (drop (at + 1 + count) m) (in-place message at count e f g refl ∙ z)
+      total-right (totalOf m) message count (take count (drop (at + 1) m)) (drop 10 m) (drop (at + 1 + count) m) (in-place message at count e f g refl ∙ z)
 
   -- the bytes of the record
   bits-long : length (take (countOf m) (drop (countAt (typeOf m) + 1) m)) ≡ countOf m
@@ -168,19 +179,9 @@ pub head-good : (m : List ℕ) → readRefusal m ≡ 0 → headRefusal m ≡ 0
 unfolding readRefusal
 head-good m z = by (eqb (headRefusal m) 0) refl z
   where
-    by : (b : Bool) → eqb (headRefusal m) 0 ≡ b → cond b (blockRefusal (typeOf m) (countOf m) (bitsOf m) (fixedOf m) (optionalOf m)) (headRefusal m) ≡ 0 → headRefusal m ≡ 0
+    by : (b : Bool) → eqb (headRefusal m) 0 ≡ b → cond b (blockRefusal (totalOf m) (typeOf m) (countOf m) (bitsOf m) (fixedOf m) (optionalOf m)) (headRefusal m) ≡ 0 → headRefusal m ≡ 0
     by true e z = eqb-true (headRefusal m) 0 e
     by false e z = z
-
--- the parts as they are lent
-pub lent-there : (m : List ℕ) (message at count : ℕ) → at + 1 + count ≤ length m → 30 ≤ at
-    → {r : ℕ} → r ≡ blockRefusal message count (take (at + 1 + count - (at + 1)) (drop (at + 1) m)) (take (length m - 10) (drop 10 m)) (take (length m - (at + 1 + count)) (drop (at + 1 + count) m))
-    → r ≡ blockRefusal message count (take count (drop (at + 1) m)) (drop 10 m) (drop (at + 1 + count) m)
-lent-there m message at count h l e =
-    let n : at + 1 + count - (at + 1) ≡ count = omega arith in
-    e
-    ∙ ap (λ (i : ℕ). blockRefusal message count (take i (drop (at + 1) m)) (take (length m - 10) (drop 10 m)) (take (length m - (at + 1 + count)) (drop (at + 1 + count) m))) n
-    ∙ ap₂ (λ (f o : List ℕ). blockRefusal message count (take count (drop (at + 1) m)) f o) (tail-is m 10 (omega arith)) (tail-is m (at + 1 + count) h)
 
 -- what a call makes of the bitfields and the optional bytes as they are lent
 pub lent-parts : (m : List ℕ) (at count : ℕ) → at + 1 + count ≤ length m → {A : Type 0} (f : List ℕ → List ℕ → A)

@@ -1,15 +1,17 @@
 -- The stages of the reader, as its functions have them. Definitions alone. Assumes nothing.
 use Prim.Native.Nat.{ℕ, _+_, _-_}
-use mathlib.Core.Bool.{cond, not, _&&_}
+use mathlib.Core.Bool.{cond, not}
 use mathlib.Core.List.{List, _∷_, _++_}
 use lib.Dec.{leb, ltb, eqb}
 use lib.ListN.{length, getD, take, drop}
 use Rattle.numbers.specs.Numbers.{bytesOf, patched}
 use Rattle.refusals.specs.Names.{badUnit, wrongTotal, tooManyBitfields, unlistedBit, notSelected, badValue}
-use Rattle.wire.specs.Header.{unitOf, numberOf}
+use Rattle.refusals.specs.Told.{told}
+use Rattle.wire.specs.Header.{unitOf, numberOf, totalOf}
 use Rattle.block.specs.Places.{hasRequired}
 use Rattle.block_judge.specs.declared.Judged.{Judged}
-use Rattle.orders.specs.Shapes.{countAt, unitGood, fixedGood}
+use Rattle.orders.specs.Shapes.{countAt, unitGood}
+use Rattle.orders.specs.FixedFields.{fixedWrong}
 use Rattle.block.specs.Slots.{zeros}
 use Rattle.orders.specs.Orders.{readRefusal, recordOf}
 use Rattle.order_records.specs.Records.{recordBytes}
@@ -18,23 +20,29 @@ use Rattle.block.specs.Sizes.{fixedEnd}
 -- 6 if the message ends before its count byte is whole; 7; 6 if the bitfields do not fit, where the count byte stands at `at` and says at most `most`
 unfoldable pub countRefusal : ℕ → ℕ → List ℕ → ℕ
 countRefusal at most m =
-    cond (leb (length m) at) wrongTotal
-    (cond (ltb most (getD m at 0)) tooManyBitfields
-    (cond (ltb (length m) (at + 1 + getD m at 0)) wrongTotal
+    cond (leb (length m) at) (told wrongTotal (totalOf m))
+    (cond (ltb most (getD m at 0)) (told tooManyBitfields at)
+    (cond (ltb (length m) (at + 1 + getD m at 0)) (told wrongTotal (totalOf m))
     0))
 
 -- 5, and then these, of a message of a type
 unfoldable pub typeHead : ℕ → ℕ → ℕ → List ℕ → ℕ
 typeHead message at most m = cond (not (unitGood message (unitOf m))) badUnit (countRefusal at most m)
 
+-- 10, by the place of the first bad field of the fixed part, and the first bad optional field, counted from 1 after the byte at `last`
+unfoldable pub valueRefusal : ℕ → ℕ → ℕ → ℕ
+valueRefusal last fixed wrong =
+    cond (not (eqb fixed 0)) (told badValue fixed)
+    (cond (not (eqb wrong 0)) (told badValue (last + wrong))
+    0)
+
 -- 8, 9, 6, 10 by what was taken of an optional block of `have` bytes
-unfoldable pub judgedOf : ℕ → ℕ → List ℕ → List ℕ → Judged → ℕ → ℕ
-judgedOf message count bits fixed t have =
-    cond (not (eqb (t .bad) 0)) unlistedBit
-    (cond (not (hasRequired message count bits)) notSelected
-    (cond (not (eqb (t .at) have)) wrongTotal
-    (cond (not (fixedGood message fixed && eqb (t .wrong) 0)) badValue
-    0)))
+unfoldable pub judgedOf : ℕ → ℕ → ℕ → List ℕ → List ℕ → Judged → ℕ → ℕ
+judgedOf total message count bits fixed t have =
+    cond (not (eqb (t .bad) 0)) (told unlistedBit (countAt message + t .bad))
+    (cond (not (hasRequired message count bits)) (told notSelected (countAt message + count))
+    (cond (not (eqb (t .at) have)) (told wrongTotal total)
+    (valueRefusal (countAt message + count) (fixedWrong message fixed) (t .wrong))))
 
 -- the bytes of a message's record up to its layout
 unfoldable pub frontBytes : List ℕ → ℕ → ℕ → List ℕ → List ℕ

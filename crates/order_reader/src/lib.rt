@@ -1,20 +1,20 @@
-// The reader of a message with bitfields: from a whole message to its record, or the number of the refusal.
+// The reader of a message with bitfields: from a whole message to its record, or the refusal and its place.
 ghost use mathlib.Core.Path.{_≡_};
 ghost use mathlib.Core.List.{_∷_, _++_};
 ghost use Prim.Native.Nat.{_+_, _-_, _≤_};
 ghost use lib.ListN.{length, take, drop};
 ghost use Rattle.numbers.specs.Numbers.{patched};
-ghost use Rattle.wire.specs.Header.{typeOf};
+ghost use Rattle.wire.specs.Header.{typeOf, totalOf};
 ghost use Rattle.block.specs.Slots.{zeros, takes, sum};
 ghost use Rattle.block.specs.Places.{slotsOf};
 ghost use Rattle.orders.specs.Shapes.{countAt};
 ghost use Rattle.orders.specs.Orders.{headRefusal, blockRefusal, layoutOf, readRefusal};
-ghost use Rattle.order_reader.specs.Stages.{countRefusal, typeHead, judgedOf, frontBytes, thereBytes, readRecord};
+ghost use Rattle.order_reader.specs.Stages.{countRefusal, typeHead, valueRefusal, judgedOf, frontBytes, thereBytes, readRecord};
 ghost use Rattle.block.specs.Sizes.{fixedEnd, fixedSize, layoutSize, recordSize};
 use block_judge::Judged;
 
 // 4; 5; 6 if the message ends before its count byte is whole; 7; 6 if the bitfields do not fit. Each type's numbers are literals.
-fn head_refusal(m: &[u8], message: u8) -> u8
+fn head_refusal(m: &[u8], message: u8) -> u32
     requires { ⌜ message ≡ typeOf (now m) ⌝ }
     ensures { λ r. ⌜ r ≡ headRefusal (now (m .entry)) ⌝ }
 {
@@ -28,7 +28,8 @@ fn head_refusal(m: &[u8], message: u8) -> u8
 }
 
 // The refusals after 4 of a message of a type, whose count stands at a place and which has at most so many bitfields.
-fn type_head(m: &[u8], message: u8, at: usize, most: u8) -> u8
+fn type_head(m: &[u8], message: u8, at: usize, most: u8) -> u32
+    requires { ⌜ at ≤ fixedEnd ⌝ }
     ensures { λ r. ⌜ r ≡ typeHead message at most (now (m .entry)) ⌝ }
 {
     if !orders::unit_good(message, wire::header::unit_of(m)) {
@@ -38,66 +39,84 @@ fn type_head(m: &[u8], message: u8, at: usize, most: u8) -> u8
 }
 
 // Those after 5.
-fn count_refusal(m: &[u8], at: usize, most: u8) -> u8
+fn count_refusal(m: &[u8], at: usize, most: u8) -> u32
+    requires { ⌜ at ≤ fixedEnd ⌝ }
     ensures { λ r. ⌜ r ≡ countRefusal at most (now (m .entry)) ⌝ }
 {
     if m.len() <= at {
-        return refusals::WRONG_TOTAL;
+        return wire::wrong_total(m);
     }
     let count = m[at];
     if most < count {
-        return refusals::TOO_MANY_BITFIELDS;
+        return refusals::told(refusals::TOO_MANY_BITFIELDS, at);
     }
     if m.len() - at - 1 < (count as usize) {
-        return refusals::WRONG_TOTAL;
+        return wire::wrong_total(m);
     }
     0
 }
 
-// The refusals of the optional block, once its bytes are judged: 8, 9, 6, 10.
-fn judged(message: u8, bits: &[u8], count: u8, fixed: &[u8], t: Judged, have: usize) -> u8
-    requires { ⌜ (length (now bits) ≡ count) × (countAt message ≤ length (now fixed) + 10) ⌝ }
-    ensures { λ r. ⌜ r ≡ judgedOf message count (now (bits .entry)) (now (fixed .entry)) t have ⌝ }
+// 10, by what is found in the fixed part and in the optional fields: the place of the first field of the fixed part that is bad, and the first bad optional
+// field, counted from 1; 0 where there is none.
+fn value_refusal(message: u8, count: u8, fixed: usize, wrong: usize) -> u32
+    requires { ⌜ (fixed ≤ 1000) × (wrong ≤ 1000) ⌝ }
+    ensures { λ r. ⌜ r ≡ valueRefusal (countAt message + count) fixed wrong ⌝ }
+{
+    if fixed != 0 {
+        return refusals::told(refusals::BAD_VALUE, fixed);
+    }
+    if wrong != 0 {
+        let last = orders::count_at(message) + (count as usize);
+        return refusals::told(refusals::BAD_VALUE, last + wrong);
+    }
+    0
+}
+
+// The refusals of the optional block of a message m, once its bytes are judged: 8, 9, 6, 10. Where the count byte stands is asked where a refusal tells it.
+fn judged(m: &[u8], message: u8, bits: &[u8], count: u8, t: Judged, have: usize) -> u32
+    requires { ⌜ (length (now bits) ≡ count) × (countAt message ≤ length (now m)) × (t .bad ≤ 100) × (t .at ≡ have → t .wrong ≤ 1000) ⌝ }
+    ensures { λ r. ⌜ r ≡ judgedOf (totalOf (now (m .entry))) message count (now (bits .entry)) (drop 10 (now (m .entry))) t have ⌝ }
 {
     if t.bad != 0 {
-        return refusals::UNLISTED_BIT;
+        let at = orders::count_at(message);
+        return refusals::told(refusals::UNLISTED_BIT, at + t.bad);
     }
     if !block::has_required(message, bits, count) {
-        return refusals::NOT_SELECTED;
+        let last = orders::count_at(message) + (count as usize);
+        return refusals::told(refusals::NOT_SELECTED, last);
     }
     if t.at != have {
-        return refusals::WRONG_TOTAL;
+        return wire::wrong_total(m);
     }
-    if !orders::fixed_good(message, fixed) {
-        return refusals::BAD_VALUE;
-    }
-    if t.wrong != 0 {
-        return refusals::BAD_VALUE;
-    }
-    0
+    value_refusal(
+        message,
+        count,
+        orders::fixed_wrong(message, &m[10..]),
+        t.wrong,
+    )
 }
 
-// The refusal of a block of which each part is lent where it stands.
-fn block_refusal(message: u8, bits: &[u8], count: u8, fixed: &[u8], optional: &[u8]) -> u8
-    requires { ⌜ (length (now bits) ≡ count) × (count ≤ 15) × (countAt message ≤ length (now fixed) + 10) ⌝ }
-    ensures { λ r. ⌜ r ≡ blockRefusal message count (now (bits .entry)) (now (fixed .entry)) (now (optional .entry)) ⌝ }
+// The refusal of a message m of which the bitfields and the optional bytes are lent where they stand.
+fn block_refusal(m: &[u8], message: u8, bits: &[u8], count: u8, optional: &[u8]) -> u32
+    requires { ⌜ (length (now bits) ≡ count) × (count ≤ 15) × (countAt message ≤ length (now m)) ⌝ }
+    ensures { λ r. ⌜ r ≡ blockRefusal (totalOf (now (m .entry))) message count (now (bits .entry)) (drop 10 (now (m .entry))) (now (optional .entry)) ⌝ }
 {
     let t = block_judge::judge_all(message, bits, count, optional);
-    judged(message, bits, count, fixed, t, optional.len())
+    judged(m, message, bits, count, t, optional.len())
 }
 
 // The refusal of a body whose count stands at a place. Nothing is copied.
-fn body_refusal(m: &[u8], message: u8, at: usize, count: u8) -> u8
+fn body_refusal(m: &[u8], message: u8, at: usize, count: u8) -> u32
     requires { ⌜ (30 ≤ at) × (at + 1 + count ≤ length (now m)) × (count ≤ 15) × (at ≡ countAt message) ⌝ }
-    ensures { λ r. ⌜ r ≡ blockRefusal message count (take count (drop (at + 1) (now (m .entry)))) (drop 10 (now (m .entry))) (drop (at + 1 + count) (now (m .entry))) ⌝ }
+    ensures { λ r. ⌜ r ≡ blockRefusal (totalOf (now (m .entry))) message count (take count (drop (at + 1) (now (m .entry)))) (drop 10 (now (m .entry))) (drop (at + 1 + count) (now (m .entry))) ⌝ }
 {
     let start = at + 1;
     let end = start + (count as usize);
-    block_refusal(message, &m[start..end], count, &m[10..], &m[end..])
+    block_refusal(m, message, &m[start..end], count, &m[end..])
 }
 
-// The refusal of a whole message alone, 4 to 10, or 0: for callers that want no record.
-pub fn order_refusal(m: &[u8]) -> u8
+// The refusal of a whole message alone, 4 to 10, or 0, and from 6 on its place: for callers that want no record.
+pub fn order_refusal(m: &[u8]) -> u32
     ensures { λ r. ⌜ r ≡ readRefusal (now (m .entry)) ⌝ }
 {
     let message = wire::header::type_of(m);
@@ -200,8 +219,8 @@ fn put_there(m: &[u8], message: u8, at: usize, count: u8, buffer: &mut [u8])
 }
 
 // Reads a whole message, as framing answers it, into a buffer that has room for its record: 0, and the record's bytes stand in the front of
-// the buffer; or the refusal (4 to 10), and the buffer is as it was.
-pub fn read_order(m: &[u8], buffer: &mut [u8]) -> u8
+// the buffer; or the refusal (4 to 10, from 6 on with its place), and the buffer is as it was.
+pub fn read_order(m: &[u8], buffer: &mut [u8]) -> u32
     requires { ⌜ recordSize ≤ length (now buffer) ⌝ }
     ensures { λ r. ⌜ (r ≡ readRefusal (now (m .entry))) × (now (buffer .exit) ≡ readRecord (now (m .entry)) (now (buffer .entry))) ⌝ }
 {

@@ -107,7 +107,7 @@ fn unpack(s: &[u8]) -> Record
 
 // What loading answers: 0 and the record, or the refusal and the blank record.
 pub struct Loaded {
-    pub refusal: u8,
+    pub refusal: u32,
     pub order: Record,
 }
 
@@ -130,7 +130,7 @@ pub fn load(s: &[u8]) -> Loaded
 }
 
 // A record into the front of any buffer: 0, and its 235 bytes stand there; or 13 for a buffer under 235 bytes, which is as it was.
-pub fn store(r: Record, out: &mut [u8]) -> u8
+pub fn store(r: Record, out: &mut [u8]) -> u32
     ensures { λ n. ⌜ (n ≡ storeRefusal (length (now (out .entry)))) × (now (out .exit) ≡ storeBuffer r (now (out .entry))) ⌝ }
 {
     if out.len() < block::RECORD {

@@ -1,7 +1,7 @@
 -- The stages of the writer make up its refusal: first the top, then what was seen of the selected fields, then the room; and the
 -- buffer follows. Assumes nothing.
 use mathlib.Core.Path.{_≡_, refl, sym, ap, ap₂, _∙_}
-use mathlib.Core.Bool.{Bool, true, false, cond, not, _&&_, _||_, or-false, and-true}
+use mathlib.Core.Bool.{Bool, true, false, cond, not, _&&_, _||_}
 use mathlib.Core.List.{List, [], _++_}
 use Prim.Native.Nat.{ℕ, suc, _+_, _-_, _≤_}
 use native.Mathlib.Nat.{zero-add}
@@ -9,12 +9,15 @@ use native.Mathlib.Omega.{arith}
 use lib.Dec.{ltb, eqb}
 use lib.ListN.{length, drop}
 use borrow.Author.Tests.{ltb-false, eq-eqb, ne-eqb}
-use Rattle.refusals.specs.Names.{unlistedBit, notSelected, badValue, notZero, noRoom}
+use Rattle.refusals.specs.Names.{unknownType, badUnit, tooManyBitfields, unlistedBit, notSelected, badValue, notZero, noRoom}
+use Rattle.refusals.specs.Told.{told}
+use Rattle.refusals.specs.ToldLaws.{passed-told}
 use Rattle.numbers.specs.Numbers.{patched}
 use Rattle.kinds.specs.Kinds.{allNul}
 use Rattle.wire.specs.Header.{headerBytes}
 use Rattle.wire.specs.FrameLaws.{passed}
-use Rattle.block.specs.Slots.{takes, width, sum, anyBad, agreeHeld}
+use Rattle.block.specs.Slots.{takes, width, sum, anyBad, badByte, agreeHeld, wrongHeld}
+use Rattle.block.specs.FirstBad.{bad-found, held-found, bad-within, held-within}
 use Rattle.block.specs.Places.{selectedAt, entryAt, slotsOf, hasRequired}
 use Rattle.block.specs.Walk.{Looking}
 use Rattle.block.specs.SlotLaws.{takes-below}
@@ -24,6 +27,8 @@ use Rattle.block_write.specs.declared.Seen.{Seen}
 use Rattle.block_write.specs.State.{looking, unseen, lookWalk}
 use Rattle.orders.specs.Shapes.{ofMember, ofVenue, countAt, mostOf, unitGood, fixedGood}
 use Rattle.orders.specs.Orders.{writeSlots, zeroUnused, sizeOf, orderBytes, writeRefusal, writeBuffer}
+use Rattle.orders.specs.FixedFields.{fixedWrong}
+use Rattle.orders.specs.FixedFieldLaws.{fixed-found}
 use Rattle.orders.specs.OrderLaws.{most-bound}
 use Rattle.orders.specs.declared.Record.{Record}
 use Rattle.order_writer.specs.Stages.{topRefusal, unusedZero, seenRefusal, fieldBytes, restBytes}
@@ -41,15 +46,23 @@ then-go : (top rest : ℕ) → top ≡ 0 → thenNext top rest ≡ rest
 then-go top rest z = rw (eq-eqb top 0 z)
 
 -- one refusal more before a chain
-one-more : (a : Bool) (k x top rest : ℕ) → x ≡ thenNext top rest → cond a (suc k) x ≡ thenNext (cond a (suc k) top) rest
-one-more true k x top rest e = sym (then-stop (suc k) rest (λ z. omega (arith, z)))
-one-more false k x top rest e = e
+one-more : (a : Bool) (n x top rest : ℕ) → (n ≡ 0 → ⊥) → x ≡ thenNext top rest → cond a n x ≡ thenNext (cond a n top) rest
+one-more true n x top rest h e = sym (then-stop n rest h)
+one-more false n x top rest h e = e
 
-three : (a b c : Bool) (x y z rest : ℕ) → cond a (suc x) (cond b (suc y) (cond c (suc z) rest)) ≡ thenNext (cond a (suc x) (cond b (suc y) (cond c (suc z) 0))) rest
-three a b c x y z rest = one-more a x _ _ rest (one-more b y _ _ rest (one-more c z rest 0 rest (sym (then-go 0 rest refl))))
+-- the last of them
+one-last : (a : Bool) (n rest : ℕ) → (n ≡ 0 → ⊥) → cond a n rest ≡ thenNext (cond a n 0) rest
+one-last a n rest h = one-more a n rest 0 rest h (sym (then-go 0 rest refl))
 
-four : (a b c d : Bool) (x y z w rest : ℕ) → cond a (suc x) (cond b (suc y) (cond c (suc z) (cond d (suc w) rest))) ≡ thenNext (cond a (suc x) (cond b (suc y) (cond c (suc z) (cond d (suc w) 0)))) rest
-four a b c d x y z w rest = one-more a x _ _ rest (three b c d y z w rest)
+-- no refusal is 0, with a place or without
+some : (n place : ℕ) → told (suc n) place ≡ 0 → ⊥
+some n place z = omega (arith, z)
+
+top-chain : (a b c : Bool) (place rest : ℕ)
+    → cond a unknownType (cond b badUnit (cond c (told tooManyBitfields place) rest)) ≡ thenNext (cond a unknownType (cond b badUnit (cond c (told tooManyBitfields place) 0))) rest
+top-chain a b c place rest =
+    one-more a unknownType _ _ rest (λ z. omega (arith, z))
+    (one-more b badUnit _ _ rest (λ z. omega (arith, z)) (one-last c (told tooManyBitfields place) rest (some _ place)))
 
 -- the bitfields of a record that passes the top are at most 15
 pub count-fits : (message unit count : ℕ) → topRefusal message unit count ≡ 0 → count ≤ 15
@@ -57,18 +70,26 @@ unfolding topRefusal
 count-fits message unit count z =
     let p4 = passed (not (ofMember message || ofVenue message)) _ _ z in
     let p5 = passed (not (unitGood message unit)) _ _ (p4 .1) in
-    let p7 = passed (ltb (mostOf message) count) _ _ (p5 .1) in
+    let p7 = passed-told (ltb (mostOf message) count) _ _ _ (p5 .1) in
     omega (arith, ltb-false (mostOf message) count (p7 .0), most-bound message)
 
--- what is sent is at most what is held
--- 8, 9, 10, 12, and what comes after them
-abbrev block : Record → Bool → Bool → Bool → ℕ → ℕ
-block r bad agree zero rest =
-    cond bad unlistedBit
-    (cond (not (hasRequired (r .message) (r .count) (r .bits))) notSelected
-    (cond (not (fixedGood (r .message) (r .fixed) && agree)) badValue
+-- 8, 9, 10, 12, and what comes after them, by what was found of the bits, the fixed part and the fields
+abbrev block : Record → Bool → ℕ → Bool → Bool → ℕ → Bool → ℕ → ℕ
+block r bad byte good agree field zero rest =
+    cond bad (told unlistedBit (countAt (r .message) + byte))
+    (cond (not (hasRequired (r .message) (r .count) (r .bits))) (told notSelected (countAt (r .message) + r .count))
+    (cond (not good) (told badValue (fixedWrong (r .message) (r .fixed)))
+    (cond (not agree) (told badValue (countAt (r .message) + r .count + field))
     (cond (not zero) notZero
-    rest)))
+    rest))))
+
+block-chain : (r : Record) (bad : Bool) (byte : ℕ) (good agree : Bool) (field : ℕ) (zero : Bool) (rest : ℕ)
+    → block r bad byte good agree field zero rest ≡ thenNext (block r bad byte good agree field zero 0) rest
+block-chain r bad byte good agree field zero rest =
+    one-more bad _ _ _ rest (some _ _)
+    (one-more (not (hasRequired (r .message) (r .count) (r .bits))) _ _ _ rest (some _ _)
+    (one-more (not good) _ _ _ rest (some _ _)
+    (one-more (not agree) _ _ _ rest (some _ _) (one-last (not zero) notZero rest (λ z. omega (arith, z))))))
 
 module _ (r : Record) (s : Seen) (rest : List ℕ) (lv : length (r .slots) ≡ layoutSize)
     (look : looking s rest ≡ lookWalk (r .message) (r .count) (r .bits) allPlaces 0 (unseen (r .slots))) where
@@ -78,17 +99,23 @@ module _ (r : Record) (s : Seen) (rest : List ℕ) (lv : length (r .slots) ≡ l
   fit : sum width (slotsOf (r .message) (r .count) (r .bits)) ≤ length (r .slots)
   fit = omega (arith, lv, widths-fit (r .message) (r .count) (r .bits))
 
-  bad-is : not (eqb (s .bad) 0) ≡ anyBad (slotsOf (r .message) (r .count) (r .bits))
-  bad-is = ap (λ (x : Looking). not (eqb (x .bad) 0)) look ∙ seen .bad-is ∙ or-false (anyBad (slotsOf (r .message) (r .count) (r .bits)))
+  pub bad-is : s .bad ≡ badByte 0 (slotsOf (r .message) (r .count) (r .bits))
+  bad-is = ap (λ (x : Looking). x .bad) look ∙ seen .bad-is
 
   pub total-is : s .total ≡ sum takes (slotsOf (r .message) (r .count) (r .bits))
   total-is = ap (λ (x : Looking). x .total) look ∙ seen .total-is ∙ zero-add (sum takes (slotsOf (r .message) (r .count) (r .bits)))
 
-  agree-is : eqb (s .wrong) 0 ≡ agreeHeld (slotsOf (r .message) (r .count) (r .bits)) (r .slots)
-  agree-is =
-      ap (λ (x : Looking). eqb (x .wrong) 0) look
-      ∙ seen .agree-is [] (r .slots) refl (sym (before-none (entryAt (r .message)))) fit
-      ∙ and-true (agreeHeld (slotsOf (r .message) (r .count) (r .bits)) (r .slots))
+  pub wrong-is : s .wrong ≡ wrongHeld 0 (slotsOf (r .message) (r .count) (r .bits)) (r .slots)
+  wrong-is = ap (λ (x : Looking). x .wrong) look ∙ seen .wrong-is [] (r .slots) refl (sym (before-none (entryAt (r .message)))) fit
+
+  -- what was found is near
+  pub bad-near : s .bad ≤ 100
+  bad-near = omega (arith, bad-is, bad-within (selectedAt (r .count) (r .bits)) (entryAt (r .message)) allPlaces 0)
+
+  pub wrong-near : s .wrong ≤ 1000
+  wrong-near =
+      let ss = slotsOf (r .message) (r .count) (r .bits) in
+      omega (arith, wrong-is, held-within 0 ss (r .slots), takes-below ss, widths-fit (r .message) (r .count) (r .bits))
 
   rest-is : rest ≡ cleared (slotsOf (r .message) (r .count) (r .bits)) (r .slots)
   rest-is = ap (λ (x : Looking). x .rest) look ∙ seen .rest-is [] (r .slots) refl (sym (before-none (entryAt (r .message)))) fit
@@ -101,11 +128,16 @@ module _ (r : Record) (s : Seen) (rest : List ℕ) (lv : length (r .slots) ≡ l
 
   -- what was seen is refused as the record says
   seen-is : seenRefusal (r .message) (r .count) (r .fixed) (r .bits) rest s
-      ≡ block r (anyBad (slotsOf (r .message) (r .count) (r .bits))) (agreeHeld (slotsOf (r .message) (r .count) (r .bits)) (r .slots)) (zeroUnused r) 0
+      ≡ block r (anyBad (slotsOf (r .message) (r .count) (r .bits))) (badByte 0 (slotsOf (r .message) (r .count) (r .bits))) (fixedGood (r .message) (r .fixed))
+      (agreeHeld (slotsOf (r .message) (r .count) (r .bits)) (r .slots)) (wrongHeld 0 (slotsOf (r .message) (r .count) (r .bits)) (r .slots)) (zeroUnused r) 0
   unfolding seenRefusal
   seen-is =
-      ap₂ (λ (b a : Bool). block r b a (unusedZero (r .message) (r .count) (r .fixed) (r .bits) rest) 0) bad-is agree-is
-      ∙ ap (λ (z : Bool). block r (anyBad (slotsOf (r .message) (r .count) (r .bits))) (agreeHeld (slotsOf (r .message) (r .count) (r .bits)) (r .slots)) z 0) zero-is
+      let ss = slotsOf (r .message) (r .count) (r .bits) in
+      let good = eqb (fixedWrong (r .message) (r .fixed)) 0 in
+      let zero = unusedZero (r .message) (r .count) (r .fixed) (r .bits) rest in
+      ap₂ (λ (b w : ℕ). block r (not (eqb b 0)) b good (eqb w 0) w zero 0) bad-is wrong-is
+      ∙ ap₂ (λ (b a : Bool). block r b (badByte 0 ss) good a (wrongHeld 0 ss (r .slots)) zero 0) (bad-found 0 ss) (held-found 0 ss (r .slots))
+      ∙ ap₂ (λ (g z : Bool). block r (anyBad ss) (badByte 0 ss) g (agreeHeld ss (r .slots)) (wrongHeld 0 ss (r .slots)) z 0) (fixed-found (r .message) (r .fixed)) zero-is
 
   -- the whole of the refusal
   in-stages : (room : ℕ)
@@ -117,9 +149,9 @@ module _ (r : Record) (s : Seen) (rest : List ℕ) (lv : length (r .slots) ≡ l
       let ss = slotsOf (r .message) (r .count) (r .bits) in
       let last = cond (ltb room (sizeOf r)) noRoom 0 in
       let top = topRefusal (r .message) (r .unit) (r .count) in
-      three (not (ofMember (r .message) || ofVenue (r .message))) (not (unitGood (r .message) (r .unit))) (ltb (mostOf (r .message)) (r .count)) _ _ _ _
+      top-chain (not (ofMember (r .message) || ofVenue (r .message))) (not (unitGood (r .message) (r .unit))) (ltb (mostOf (r .message)) (r .count)) _ _
       ∙ ap (thenNext top)
-      (four (anyBad ss) (not (hasRequired (r .message) (r .count) (r .bits))) (not (fixedGood (r .message) (r .fixed) && agreeHeld ss (r .slots))) (not (zeroUnused r)) _ _ _ _ last
+      (block-chain r (anyBad ss) (badByte 0 ss) (fixedGood (r .message) (r .fixed)) (agreeHeld ss (r .slots)) (wrongHeld 0 ss (r .slots)) (zeroUnused r) last
       ∙ ap (λ (x : ℕ). thenNext x last) (sym seen-is))
 
   module _ (room : ℕ) (top : topRefusal (r .message) (r .unit) (r .count) ≡ 0) where
@@ -157,4 +189,4 @@ bytes-are r e = ap (λ (x : ℕ). headerBytes (x - 2) (r .message) (r .unit) (r 
 pub top-stops : (r : Record) (room : ℕ) → (topRefusal (r .message) (r .unit) (r .count) ≡ 0 → ⊥) → topRefusal (r .message) (r .unit) (r .count) ≡ writeRefusal r room
 unfolding writeRefusal topRefusal
 top-stops r room n =
-    sym (three (not (ofMember (r .message) || ofVenue (r .message))) (not (unitGood (r .message) (r .unit))) (ltb (mostOf (r .message)) (r .count)) _ _ _ _ ∙ then-stop _ _ n)
+    sym (top-chain (not (ofMember (r .message) || ofVenue (r .message))) (not (unitGood (r .message) (r .unit))) (ltb (mostOf (r .message)) (r .count)) _ _ ∙ then-stop _ _ n)

@@ -1,23 +1,25 @@
 -- The stages of the writer, as its functions have them. Definitions alone. Assumes nothing.
-use Prim.Native.Nat.{ℕ, _-_}
+use Prim.Native.Nat.{ℕ, _+_, _-_}
 use mathlib.Core.Bool.{Bool, cond, not, _&&_, _||_}
 use mathlib.Core.List.{List, _∷_, _++_}
 use lib.Dec.{ltb, eqb}
 use lib.ListN.{take, drop}
 use Rattle.refusals.specs.Names.{unknownType, badUnit, tooManyBitfields, unlistedBit, notSelected, badValue, notZero}
+use Rattle.refusals.specs.Told.{told}
 use Rattle.kinds.specs.Kinds.{allNul}
 use Rattle.block.specs.Slots.{gathered}
 use Rattle.block.specs.Places.{slotsOf, hasRequired}
 use Rattle.block_write.specs.declared.Seen.{Seen}
 use Rattle.orders.specs.declared.Record.{Record}
-use Rattle.orders.specs.Shapes.{ofMember, ofVenue, countAt, mostOf, unitGood, fixedGood}
+use Rattle.orders.specs.Shapes.{ofMember, ofVenue, countAt, mostOf, unitGood}
+use Rattle.orders.specs.FixedFields.{fixedWrong}
 
 -- 4, 5, 7
 unfoldable pub topRefusal : ℕ → ℕ → ℕ → ℕ
 topRefusal message unit count =
     cond (not (ofMember message || ofVenue message)) unknownType
     (cond (not (unitGood message unit)) badUnit
-    (cond (ltb (mostOf message) count) tooManyBitfields
+    (cond (ltb (mostOf message) count) (told tooManyBitfields (countAt message))
     0))
 
 -- the unused places are zero, where `rest` is what is left of the layout without the selected fields
@@ -27,11 +29,12 @@ unusedZero message count fixed bits rest = allNul (drop (countAt message - 10) f
 -- 8, 9, 10, 12 by what was seen of the selected fields and what is left of the layout without them
 unfoldable pub seenRefusal : ℕ → ℕ → List ℕ → List ℕ → List ℕ → Seen → ℕ
 seenRefusal message count fixed bits rest s =
-    cond (not (eqb (s .bad) 0)) unlistedBit
-    (cond (not (hasRequired message count bits)) notSelected
-    (cond (not (fixedGood message fixed && eqb (s .wrong) 0)) badValue
+    cond (not (eqb (s .bad) 0)) (told unlistedBit (countAt message + s .bad))
+    (cond (not (hasRequired message count bits)) (told notSelected (countAt message + count))
+    (cond (not (eqb (fixedWrong message fixed) 0)) (told badValue (fixedWrong message fixed))
+    (cond (not (eqb (s .wrong) 0)) (told badValue (countAt message + count + s .wrong))
     (cond (not (unusedZero message count fixed bits rest)) notZero
-    0)))
+    0))))
 
 -- the bitfields and the selected fields
 unfoldable pub fieldBytes : ℕ → ℕ → List ℕ → List ℕ → List ℕ

@@ -1,4 +1,4 @@
-// The writer of a message with bitfields: from a record to the message's bytes in a lent buffer, or the number of the refusal.
+// The writer of a message with bitfields: from a record to the message's bytes in a lent buffer, or the refusal and its place.
 ghost use mathlib.Core.Path.{_≡_};
 ghost use mathlib.Core.Bool.{_&&_};
 ghost use mathlib.Core.List.{_∷_, _++_};
@@ -16,8 +16,8 @@ ghost use Rattle.order_writer.specs.Stages.{recordFrom, topRefusal, unus
 ghost use Rattle.block.specs.Sizes.{fixedSize, layoutSize, recordSize};
 use block_write::Seen;
 
-// 4, 5, 7.
-fn top_refusal(message: u8, unit: u8, count: u8) -> u8
+// 4, 5, 7. Places are those in the message that would be written.
+fn top_refusal(message: u8, unit: u8, count: u8) -> u32
     ensures { λ r. ⌜ r ≡ topRefusal message unit count ⌝ }
 {
     if !orders::is_known(message) {
@@ -27,7 +27,7 @@ fn top_refusal(message: u8, unit: u8, count: u8) -> u8
         return refusals::BAD_UNIT;
     }
     if orders::most_of(message) < count {
-        return refusals::TOO_MANY_BITFIELDS;
+        return refusals::told(refusals::TOO_MANY_BITFIELDS, orders::count_at(message));
     }
     0
 }
@@ -89,21 +89,24 @@ fn unused_zero(message: u8, count: u8, fixed: &[u8], bits: &[u8], rest: &[u8]) -
 }
 
 // 8, 9, 10, 12, by what was seen of the selected fields and what is left of the layout without them.
-fn seen_refusal(message: u8, count: u8, fixed: &[u8], bits: &[u8], rest: &[u8], s: Seen) -> u8
-    requires { ⌜ (length (now fixed) ≡ fixedSize) × (length (now bits) ≡ 15) × (count ≤ 15) ⌝ }
+fn seen_refusal(message: u8, count: u8, fixed: &[u8], bits: &[u8], rest: &[u8], s: Seen) -> u32
+    requires { ⌜ (length (now fixed) ≡ fixedSize) × (length (now bits) ≡ 15) × (count ≤ 15) × (s .bad ≤ 100) × (s .wrong ≤ 1000) ⌝ }
     ensures { λ r. ⌜ r ≡ seenRefusal message count (now (fixed .entry)) (now (bits .entry)) (now (rest .entry)) s ⌝ }
 {
+    let at = orders::count_at(message);
     if s.bad != 0 {
-        return refusals::UNLISTED_BIT;
+        return refusals::told(refusals::UNLISTED_BIT, at + s.bad);
     }
+    let last = at + (count as usize);
     if !block::has_required(message, bits, count) {
-        return refusals::NOT_SELECTED;
+        return refusals::told(refusals::NOT_SELECTED, last);
     }
-    if !orders::fixed_good(message, fixed) {
-        return refusals::BAD_VALUE;
+    let wrong = orders::fixed_wrong(message, fixed);
+    if wrong != 0 {
+        return refusals::told(refusals::BAD_VALUE, wrong);
     }
     if s.wrong != 0 {
-        return refusals::BAD_VALUE;
+        return refusals::told(refusals::BAD_VALUE, last + s.wrong);
     }
     if !unused_zero(message, count, fixed, bits, rest) {
         return refusals::NOT_ZERO;
@@ -190,7 +193,7 @@ fn write_parts(
     bits: &[u8],
     slots: &[u8],
     out: &mut [u8],
-) -> u8
+) -> u32
     requires { ⌜ (length (now fixed) ≡ fixedSize) × (length (now slots) ≡ layoutSize) × (length (now bits) ≡ 15) ⌝ }
     ensures { λ n. ⌜ (n ≡ writeRefusal (recordFrom message unit number (now (fixed .entry)) count (now (bits .entry)) (now (slots .entry))) (length (now (out .entry)))) × (now (out .exit) ≡ writeBuffer (recordFrom message unit number (now (fixed .entry)) count (now (bits .entry)) (now (slots .entry))) (now (out .entry))) ⌝ }
 {
@@ -214,8 +217,8 @@ fn write_parts(
 }
 
 // Writes a record, which is the first 235 bytes given: 0, and the buffer begins with the message's bytes and is otherwise as it was; or the
-// refusal (4, 5, 7, 8, 9, 10, 12 or 13), and the buffer is as it was.
-pub fn write_order(given: &[u8], out: &mut [u8]) -> u8
+// refusal (4, 5, 7, 8, 9, 10, 12 or 13; 7 to 10 with the place in the message that would be written), and the buffer is as it was.
+pub fn write_order(given: &[u8], out: &mut [u8]) -> u32
     requires { ⌜ recordSize ≤ length (now given) ⌝ }
     ensures { λ n. ⌜ (n ≡ writeRefusal (recordAt (now (given .entry))) (length (now (out .entry)))) × (now (out .exit) ≡ writeBuffer (recordAt (now (given .entry))) (now (out .entry))) ⌝ }
 {

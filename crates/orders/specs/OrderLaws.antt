@@ -1,6 +1,6 @@
 -- What follows where a message with bitfields is read or written: the refusals one by one. Assumes nothing.
 use mathlib.Core.Path.{_≡_, refl}
-use mathlib.Core.Bool.{Bool, true, false, cond, not, _&&_, _||_}
+use mathlib.Core.Bool.{Bool, true, false, cond, not, _||_}
 use mathlib.Core.List.{List}
 use Prim.Native.Nat.{ℕ, _+_, _-_, _≤_}
 use native.Mathlib.Omega.{arith}
@@ -9,6 +9,7 @@ use lib.ListN.{length, drop}
 use borrow.Author.Tests.{lt-leb, le-ltb, ltb-false, eq-eqb, ne-eqb, eqb-true, eqb-false, not-false}
 use Rattle.kinds.specs.Kinds.{allNul}
 use Rattle.wire.specs.Header.{typeOf, unitOf}
+use Rattle.refusals.specs.ToldLaws.{passed-told}
 use Rattle.wire.specs.FrameLaws.{passed}
 use Rattle.block.specs.Slots.{takes, sum, anyBad, agreeSent, agreeHeld, zeroElsewhere}
 use Rattle.block.specs.SlotLaws.{both-true}
@@ -78,15 +79,15 @@ good m z =
     let st = in-stages (eqb (headRefusal m) 0) (headRefusal m) _ refl z in
     let p4 = passed (not (ofMember (typeOf m) || ofVenue (typeOf m))) _ _ (st .0) in
     let p5 = passed (not (unitGood (typeOf m) (unitOf m))) _ _ (p4 .1) in
-    let p6 = passed (leb (length m) (countAt (typeOf m))) _ _ (p5 .1) in
-    let p7 = passed (ltb (mostOf (typeOf m)) (countOf m)) _ _ (p6 .1) in
-    let p6′ = passed (ltb (length m) (countAt (typeOf m) + 1 + countOf m)) _ _ (p7 .1) in
+    let p6 = passed-told (leb (length m) (countAt (typeOf m))) _ _ _ (p5 .1) in
+    let p7 = passed-told (ltb (mostOf (typeOf m)) (countOf m)) _ _ _ (p6 .1) in
+    let p6′ = passed-told (ltb (length m) (countAt (typeOf m) + 1 + countOf m)) _ _ _ (p7 .1) in
     let ss = slotsOf (typeOf m) (countOf m) (bitsOf m) in
-    let p8 = passed (anyBad ss) _ _ (st .1) in
-    let p9 = passed (not (hasRequired (typeOf m) (countOf m) (bitsOf m))) _ _ (p8 .1) in
-    let pt = passed (not (eqb (sum takes ss) (length (optionalOf m)))) _ _ (p9 .1) in
-    let p10 = passed (not (fixedGood (typeOf m) (fixedOf m) && agreeSent ss (optionalOf m))) _ _ (pt .1) in
-    let v = both-true (fixedGood (typeOf m) (fixedOf m)) (agreeSent ss (optionalOf m)) (not-false _ (p10 .0)) in
+    let p8 = passed-told (anyBad ss) _ _ _ (st .1) in
+    let p9 = passed-told (not (hasRequired (typeOf m) (countOf m) (bitsOf m))) _ _ _ (p8 .1) in
+    let pt = passed-told (not (eqb (sum takes ss) (length (optionalOf m)))) _ _ _ (p9 .1) in
+    let p10 = passed-told (not (fixedGood (typeOf m) (fixedOf m))) _ _ _ (pt .1) in
+    let p10′ = passed-told (not (agreeSent ss (optionalOf m))) _ _ _ (p10 .1) in
     record {
       known = not-false _ (p4 .0);
       unit = not-false _ (p5 .0);
@@ -95,8 +96,8 @@ good m z =
       listed = p8 .0;
       required = not-false _ (p9 .0);
       total = eqb-true _ _ (not-false _ (pt .0));
-      fixed = v .0;
-      agree = v .1;
+      fixed = not-false _ (p10 .0);
+      agree = not-false _ (p10′ .0);
     }
 
 -- and what is so is read
@@ -137,13 +138,13 @@ unfolding writeRefusal zeroUnused
 fit r room z =
     let p4 = passed (not (ofMember (r .message) || ofVenue (r .message))) _ _ z in
     let p5 = passed (not (unitGood (r .message) (r .unit))) _ _ (p4 .1) in
-    let p7 = passed (ltb (mostOf (r .message)) (r .count)) _ _ (p5 .1) in
-    let p8 = passed (anyBad (writeSlots r)) _ _ (p7 .1) in
-    let p9 = passed (not (hasRequired (r .message) (r .count) (r .bits))) _ _ (p8 .1) in
-    let p10 = passed (not (fixedGood (r .message) (r .fixed) && agreeHeld (writeSlots r) (r .slots))) _ _ (p9 .1) in
-    let p12 = passed (not (zeroUnused r)) _ _ (p10 .1) in
+    let p7 = passed-told (ltb (mostOf (r .message)) (r .count)) _ _ _ (p5 .1) in
+    let p8 = passed-told (anyBad (writeSlots r)) _ _ _ (p7 .1) in
+    let p9 = passed-told (not (hasRequired (r .message) (r .count) (r .bits))) _ _ _ (p8 .1) in
+    let p10 = passed-told (not (fixedGood (r .message) (r .fixed))) _ _ _ (p9 .1) in
+    let p10′ = passed-told (not (agreeHeld (writeSlots r) (r .slots))) _ _ _ (p10 .1) in
+    let p12 = passed (not (zeroUnused r)) _ _ (p10′ .1) in
     let p13 = passed (ltb room (sizeOf r)) _ _ (p12 .1) in
-    let v = both-true (fixedGood (r .message) (r .fixed)) (agreeHeld (writeSlots r) (r .slots)) (not-false _ (p10 .0)) in
     let a = both-true (allNul (drop (countAt (r .message) - 10) (r .fixed))) _ (not-false _ (p12 .0)) in
     let b = both-true (allNul (drop (r .count) (r .bits))) _ (a .1) in
     record {
@@ -152,8 +153,8 @@ fit r room z =
       count = ltb-false _ _ (p7 .0);
       listed = p8 .0;
       required = not-false _ (p9 .0);
-      fixed = v .0;
-      agree = v .1;
+      fixed = not-false _ (p10 .0);
+      agree = not-false _ (p10′ .0);
       zero-fixed = a .0;
       zero-bits = b .0;
       zero-slots = b .1;

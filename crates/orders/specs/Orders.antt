@@ -1,16 +1,18 @@
 -- Reading and writing a message with bitfields. Definitions alone. Assumes nothing.
 use Prim.Native.Nat.{ℕ, _+_, _-_}
-use mathlib.Core.Bool.{Bool, true, cond, not, _&&_, _||_}
+use mathlib.Core.Bool.{Bool, cond, not, _&&_, _||_}
 use mathlib.Core.List.{List, [], _∷_, _++_}
 use lib.Dec.{leb, ltb, eqb}
 use lib.ListN.{length, getD, take, drop}
 use Rattle.refusals.specs.Names.{unknownType, badUnit, wrongTotal, tooManyBitfields, unlistedBit, notSelected, badValue, notZero, noRoom}
+use Rattle.refusals.specs.Told.{told}
 use Rattle.kinds.specs.Kinds.{allNul}
 use Rattle.numbers.specs.Numbers.{patched}
-use Rattle.wire.specs.Header.{headerBytes, typeOf, unitOf, numberOf}
-use Rattle.block.specs.Slots.{zeros, Slot, takes, width, sum, anyBad, spread, gathered, agreeSent, agreeHeld, zeroElsewhere}
+use Rattle.wire.specs.Header.{headerBytes, typeOf, unitOf, numberOf, totalOf}
+use Rattle.block.specs.Slots.{zeros, Slot, takes, width, sum, anyBad, badByte, spread, gathered, agreeSent, agreeHeld, wrongSent, wrongHeld, zeroElsewhere}
 use Rattle.block.specs.Places.{slotsOf, hasRequired}
 use Rattle.orders.specs.Shapes.{ofMember, ofVenue, countAt, mostOf, unitGood, fixedGood}
+use Rattle.orders.specs.FixedFields.{fixedWrong}
 use Rattle.orders.specs.declared.Record.{Record}
 use Rattle.block.specs.Sizes.{fixedEnd, fixedSize, layoutSize}
 
@@ -32,28 +34,33 @@ optionalOf m = drop (countAt (typeOf m) + 1 + countOf m) m
 unfoldable pub fixedOf : List ℕ → List ℕ
 fixedOf m = take (countAt (typeOf m) - 10) (drop 10 m) ++ zeros (fixedEnd - countAt (typeOf m))
 
+-- 02, request 3, the places: 6 at the message's end, which is its total; 7 at the count byte; 8 at the first bad bitfield byte; 9 at the last bitfield byte,
+-- or the count byte where there are none; 10 at the first byte of the first bad field in message order, the fixed part first
+
 -- the refusals in reading order: 4; 5; 6 if the message ends before its count byte is whole; 7; 6 if the bitfields do not fit
 unfoldable pub headRefusal : List ℕ → ℕ
 headRefusal m =
     cond (not (ofMember (typeOf m) || ofVenue (typeOf m))) unknownType
     (cond (not (unitGood (typeOf m) (unitOf m))) badUnit
-    (cond (leb (length m) (countAt (typeOf m))) wrongTotal
-    (cond (ltb (mostOf (typeOf m)) (countOf m)) tooManyBitfields
-    (cond (ltb (length m) (countAt (typeOf m) + 1 + countOf m)) wrongTotal
+    (cond (leb (length m) (countAt (typeOf m))) (told wrongTotal (totalOf m))
+    (cond (ltb (mostOf (typeOf m)) (countOf m)) (told tooManyBitfields (countAt (typeOf m)))
+    (cond (ltb (length m) (countAt (typeOf m) + 1 + countOf m)) (told wrongTotal (totalOf m))
     0))))
 
--- then 8; 9; 6 if the total differs; 10
-unfoldable pub blockRefusal : ℕ → ℕ → List ℕ → List ℕ → List ℕ → ℕ
-blockRefusal message count bits fixed optional =
-    cond (anyBad (slotsOf message count bits)) unlistedBit
-    (cond (not (hasRequired message count bits)) notSelected
-    (cond (not (eqb (sum takes (slotsOf message count bits)) (length optional))) wrongTotal
-    (cond (not (fixedGood message fixed && agreeSent (slotsOf message count bits) optional)) badValue
-    0)))
+-- then 8; 9; 6 if the total, which is given, differs; 10. Bitfield byte and optional byte j, counted from 1, stand j after the count byte and j after the
+-- last bitfield byte
+unfoldable pub blockRefusal : ℕ → ℕ → ℕ → List ℕ → List ℕ → List ℕ → ℕ
+blockRefusal total message count bits fixed optional =
+    cond (anyBad (slotsOf message count bits)) (told unlistedBit (countAt message + badByte 0 (slotsOf message count bits)))
+    (cond (not (hasRequired message count bits)) (told notSelected (countAt message + count))
+    (cond (not (eqb (sum takes (slotsOf message count bits)) (length optional))) (told wrongTotal total)
+    (cond (not (fixedGood message fixed)) (told badValue (fixedWrong message fixed))
+    (cond (not (agreeSent (slotsOf message count bits) optional)) (told badValue (countAt message + count + wrongSent 0 (slotsOf message count bits) optional))
+    0))))
 
 -- 01, Numbers of refusal, in reading order: the head, then the block
 unfoldable pub readRefusal : List ℕ → ℕ
-readRefusal m = cond (eqb (headRefusal m) 0) (blockRefusal (typeOf m) (countOf m) (bitsOf m) (fixedOf m) (optionalOf m)) (headRefusal m)
+readRefusal m = cond (eqb (headRefusal m) 0) (blockRefusal (totalOf m) (typeOf m) (countOf m) (bitsOf m) (fixedOf m) (optionalOf m)) (headRefusal m)
 
 -- the optional fields in the full layout
 unfoldable pub layoutOf : ℕ → ℕ → List ℕ → List ℕ → List ℕ
@@ -101,18 +108,19 @@ orderBytes r =
     ++ (r .count ∷ (take (r .count) (r .bits)
     ++ gathered (writeSlots r) (r .slots))))
 
--- the refusals in writing order: 4, 5, 7, 8, 9, 10, 12, 13
+-- the refusals in writing order: 4, 5, 7, 8, 9, 10, 12, 13; the places are those in the message that would be written
 unfoldable pub writeRefusal : Record → ℕ → ℕ
 writeRefusal r room =
     cond (not (ofMember (r .message) || ofVenue (r .message))) unknownType
     (cond (not (unitGood (r .message) (r .unit))) badUnit
-    (cond (ltb (mostOf (r .message)) (r .count)) tooManyBitfields
-    (cond (anyBad (writeSlots r)) unlistedBit
-    (cond (not (hasRequired (r .message) (r .count) (r .bits))) notSelected
-    (cond (not (fixedGood (r .message) (r .fixed) && agreeHeld (writeSlots r) (r .slots))) badValue
+    (cond (ltb (mostOf (r .message)) (r .count)) (told tooManyBitfields (countAt (r .message)))
+    (cond (anyBad (writeSlots r)) (told unlistedBit (countAt (r .message) + badByte 0 (writeSlots r)))
+    (cond (not (hasRequired (r .message) (r .count) (r .bits))) (told notSelected (countAt (r .message) + r .count))
+    (cond (not (fixedGood (r .message) (r .fixed))) (told badValue (fixedWrong (r .message) (r .fixed)))
+    (cond (not (agreeHeld (writeSlots r) (r .slots))) (told badValue (countAt (r .message) + r .count + wrongHeld 0 (writeSlots r) (r .slots)))
     (cond (not (zeroUnused r)) notZero
     (cond (ltb room (sizeOf r)) noRoom
-    0)))))))
+    0))))))))
 
 -- what the output buffer holds after it
 unfoldable pub writeBuffer : Record → List ℕ → List ℕ

@@ -1,6 +1,7 @@
--- The tests of a fixed part in two, as the code makes them: the identifier that each has, and what follows it. Definitions alone. Assumes nothing.
+-- The tests of a fixed part in two, as the code makes them: the identifier that each has, and the first bad field of those after it. Definitions alone.
+-- Assumes nothing.
 use Prim.Native.Nat.{ℕ}
-use mathlib.Core.Bool.{Bool, cond, _&&_}
+use mathlib.Core.Bool.{cond, _&&_}
 use mathlib.Core.List.{List}
 use lib.Dec.{leb, eqb}
 use lib.ListN.{take, drop}
@@ -12,12 +13,17 @@ use Rattle.numbers.specs.Numbers.{numberAt}
 unfoldable pub nameAt : ℕ → ℕ
 nameAt message = cond (eqb message 0x38) 0 (cond (eqb message 0x39) 0 8)
 
--- what follows the identifier in New Order, and in Order Execution
-abbrev pub newOrderRest : List ℕ → Bool
-newOrderRest f = agreesFilledOf Alphanumeric (take 1 (drop 20 f)) && (leb 1 (numberAt 4 21 f) && leb (numberAt 4 21 f) 999999)
+-- the first bad field of those that follow the identifier in New Order, and in Order Execution
+abbrev pub newOrderRest : List ℕ → ℕ
+newOrderRest f =
+    cond (agreesFilledOf Alphanumeric (take 1 (drop 20 f)))
+    (cond (leb 1 (numberAt 4 21 f) && leb (numberAt 4 21 f) 999999) 0 31)
+    30
 
-abbrev pub executionRest : List ℕ → Bool
+abbrev pub executionRest : List ℕ → ℕ
 executionRest f =
-    agreesOf Alphanumeric (take 1 (drop 52 f))
-    && (agreesOf Alphanumeric (take 1 (drop 53 f))
-    && agreesOf Alphanumeric (take 4 (drop 54 f)))
+    cond (agreesOf Alphanumeric (take 1 (drop 52 f)))
+    (cond (agreesOf Alphanumeric (take 1 (drop 53 f)))
+    (cond (agreesOf Alphanumeric (take 4 (drop 54 f))) 0 64)
+    63)
+    62

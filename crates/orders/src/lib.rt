@@ -3,7 +3,8 @@ ghost use mathlib.Core.Path.{_≡_};
 ghost use mathlib.Core.Bool.{_||_};
 ghost use Prim.Native.Nat.{_+_, _≤_};
 ghost use lib.ListN.{length};
-ghost use Rattle.orders.specs.Shapes.{ofMember, ofVenue, countAt, mostOf, unitGood, fixedGood};
+ghost use Rattle.orders.specs.Shapes.{ofMember, ofVenue, countAt, mostOf, unitGood};
+ghost use Rattle.orders.specs.FixedFields.{fixedWrong};
 ghost use Rattle.orders.specs.Rests.{nameAt, newOrderRest, executionRest};
 ghost use Rattle.orders.specs.Orders.{blank};
 use kinds::Kind;
@@ -95,47 +96,55 @@ fn name_at(message: u8) -> usize
     }
 }
 
-// New Order, after ClOrdID: Side not blank and of its kind, OrderQty from 1 to 999,999.
-fn new_order_rest(f: &[u8]) -> bool
+// New Order, after ClOrdID: Side not blank and of its kind, OrderQty from 1 to 999,999. 0, or the place of the first that is not so.
+fn new_order_rest(f: &[u8]) -> usize
     requires { ⌜ 25 ≤ length (now f) ⌝ }
     ensures { λ r. ⌜ r ≡ newOrderRest (now (f .entry)) ⌝ }
 {
-    if kinds::agrees_filled(Kind::Alphanumeric, &f[20..21]) {
-        let quantity = numbers::read_u32(&f[21..25], 0);
-        if 1 <= quantity {
-            return quantity <= 999999;
-        }
+    if !kinds::agrees_filled(Kind::Alphanumeric, &f[20..21]) {
+        return 30;
     }
-    false
+    let quantity = numbers::read_u32(&f[21..25], 0);
+    if quantity < 1 {
+        return 31;
+    }
+    if 999999 < quantity {
+        return 31;
+    }
+    0
 }
 
-// Order Execution, after ClOrdID: BaseLiquidityIndicator, SubLiquidityIndicator and ContraBroker of their kinds.
-fn execution_rest(f: &[u8]) -> bool
+// Order Execution, after ClOrdID: BaseLiquidityIndicator, SubLiquidityIndicator and ContraBroker of their kinds. 0, or the place of the first that is not.
+fn execution_rest(f: &[u8]) -> usize
     requires { ⌜ 58 ≤ length (now f) ⌝ }
     ensures { λ r. ⌜ r ≡ executionRest (now (f .entry)) ⌝ }
 {
-    if kinds::agrees(Kind::Alphanumeric, &f[52..53]) {
-        if kinds::agrees(Kind::Alphanumeric, &f[53..54]) {
-            return kinds::agrees(Kind::Alphanumeric, &f[54..58]);
-        }
+    if !kinds::agrees(Kind::Alphanumeric, &f[52..53]) {
+        return 62;
     }
-    false
+    if !kinds::agrees(Kind::Alphanumeric, &f[53..54]) {
+        return 63;
+    }
+    if !kinds::agrees(Kind::Alphanumeric, &f[54..58]) {
+        return 64;
+    }
+    0
 }
 
-// Whether the values of a fixed part agree with their kinds and range. More bytes may follow it. Every type has an identifier, never blank;
-// Cancel Order and Order Acknowledgment have nothing else to test.
-pub fn fixed_good(message: u8, f: &[u8]) -> bool
+// The place in the message of the first field of a fixed part whose value is against its kind or range; 0 where there is none. More bytes may follow
+// the fixed part. Every type has an identifier, never blank; Cancel Order and Order Acknowledgment have nothing else to test.
+pub fn fixed_wrong(message: u8, f: &[u8]) -> usize
     requires { ⌜ countAt message ≤ length (now f) + 10 ⌝ }
-    ensures { λ r. ⌜ r ≡ fixedGood message (now (f .entry)) ⌝ }
+    ensures { λ r. ⌜ r ≡ fixedWrong message (now (f .entry)) ⌝ }
 {
     let at = name_at(message);
     if !kinds::identifies(&f[at..at + 20]) {
-        return false;
+        return 10 + at;
     }
     match message {
         0x38 => new_order_rest(f),
-        0x39 => true,
-        0x25 => true,
+        0x39 => 0,
+        0x25 => 0,
         _ => execution_rest(f),
     }
 }

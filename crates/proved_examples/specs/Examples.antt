@@ -6,6 +6,7 @@ use mathlib.Core.List.{List, [], _∷_, _++_, map}
 use Prim.Native.Nat.{ℕ, suc, _+_, _-_, _*_}
 use lib.IntN.{ℤ, pos, negsuc}
 use lib.ListN.{length, take, drop}
+use Rattle.refusals.specs.Told.{numberIn}
 use Rattle.numbers.specs.Numbers.{numberAt}
 use Rattle.numbers.specs.Prices.{priceAt}
 use Rattle.wire.specs.Header.{lengthOf, totalOf, typeOf, numberOf}
@@ -28,13 +29,17 @@ pub record Example : Type 0 where
   pub stated : List ℕ
 
 -- a line of its three parts
-abbrev example : ℕ → List ℕ → List ℕ → Example
+abbrev pub example : ℕ → List ℕ → List ℕ → Example
 example p a s = record { number = p; answered = a; stated = s }
 
 -- a price in ten-thousandths: 0 or 1 for its sign, and its magnitude
 abbrev told : ℤ → List ℕ
 told (pos n) = 0 ∷ n ∷ []
 told (negsuc n) = 1 ∷ suc n ∷ []
+
+-- the number of the refusal of a member's message, or 0
+abbrev refusalOf : List ℕ → ℕ
+refusalOf m = numberIn (readRefusal 0 m)
 
 -- yes is 1 and no is 0
 abbrev yes : Bool → ℕ
@@ -49,7 +54,7 @@ abbrev abc123 : List ℕ
 abc123 = 0x41 ∷ 0x42 ∷ 0x43 ∷ 0x31 ∷ 0x32 ∷ 0x33 ∷ zeros 14
 
 -- the bytes of 000's table 25, a New Order, with the length n, under 256
-abbrev newOrder : ℕ → List ℕ
+abbrev pub newOrder : ℕ → List ℕ
 newOrder n =
     0xBA ∷ 0xBA ∷ n ∷ 0 ∷ 0x38 ∷ 0 ∷ 0x64 ∷ 0 ∷ 0 ∷ 0 ∷ abc123
     ++ (0x31 ∷ 0xE8 ∷ 0x03 ∷ 0 ∷ 0 ∷ 0x03 ∷ 0x04 ∷ 0xC1 ∷ 0x01 ∷ [])
@@ -59,11 +64,11 @@ newOrder n =
     ++ (0x44 ∷ 0x45 ∷ 0x46 ∷ 0x47 ∷ zeros 12)
 
 -- the bytes of 000's table 27, a Cancel Order, with the length n, under 256, and what follows the identifier
-abbrev cancelOrder : ℕ → List ℕ → List ℕ
+abbrev pub cancelOrder : ℕ → List ℕ → List ℕ
 cancelOrder n rest = 0xBA ∷ 0xBA ∷ n ∷ 0 ∷ 0x39 ∷ 0 ∷ 0x64 ∷ 0 ∷ 0 ∷ 0 ∷ abc123 ++ rest
 
 -- the ClearingFirm TEST
-abbrev test : List ℕ
+abbrev pub test : List ℕ
 test = 0x54 ∷ 0x45 ∷ 0x53 ∷ 0x54 ∷ []
 
 -- the slots of a message m before the field of a bitfield byte, from 1, and a bit (1, 2, 4 to 128)
@@ -93,7 +98,7 @@ fiveValues =
     ++ (0x50 ∷ 0x52 ∷ 0 ∷ 0 ∷ 0 ∷ 0x44 ∷ 0x45 ∷ 0x46 ∷ 0x47 ∷ zeros 12)
 
 -- the bytes of 002's Login Request: header; SessionSubID 0001, Username TEST, Password TESTING; three groups, of the units, of 0x25, of 0x2C
-abbrev login : List ℕ
+abbrev pub login : List ℕ
 login =
     0xBA ∷ 0xBA ∷ 0x3D ∷ 0 ∷ 0x37 ∷ zeros 5
     ++ (0x30 ∷ 0x30 ∷ 0x30 ∷ 0x31 ∷ test)
@@ -120,21 +125,21 @@ examples =
     ∷ example 4 (told (priceAt 0 (0 ∷ 0 ∷ 0 ∷ 0 ∷ 0 ∷ 0 ∷ 0 ∷ 0x80 ∷ []))) (1 ∷ 9223372036854775808 ∷ [])
     -- 000's New Order: accepted, total 76, Price at 39, Symbol 47, Capacity 55, RoutingInst 56, Account 60
     ∷ example 5
-    (readRefusal 0 (newOrder 74) ∷ totalOf (newOrder 74) ∷ startOf (newOrder 74) 1 4 ∷ startOf (newOrder 74) 2 1 ∷ startOf (newOrder 74) 2 64 ∷ startOf (newOrder 74) 2 128 ∷ startOf (newOrder 74) 3 1 ∷ [])
+    (refusalOf (newOrder 74) ∷ totalOf (newOrder 74) ∷ startOf (newOrder 74) 1 4 ∷ startOf (newOrder 74) 2 1 ∷ startOf (newOrder 74) 2 64 ∷ startOf (newOrder 74) 2 128 ∷ startOf (newOrder 74) 3 1 ∷ [])
     (0 ∷ 76 ∷ 39 ∷ 47 ∷ 55 ∷ 56 ∷ 60 ∷ [])
     -- and there it has 123.4500, MSFT, P, R and DEFG, as its record does
     ∷ example 5 (fiveFields (sentFrom (newOrder 74))) fiveValues
     ∷ example 5 (fiveFields (heldFrom (newOrder 74))) fiveValues
     -- with length 73, as its notes have it: 6
-    ∷ example 6 (readRefusal 0 (newOrder 73) ∷ []) (6 ∷ [])
+    ∷ example 6 (refusalOf (newOrder 73) ∷ []) (6 ∷ [])
     -- 000's Cancel: accepted, total 36
-    ∷ example 7 (readRefusal 0 (cancelOrder 34 (1 ∷ 1 ∷ test)) ∷ totalOf (cancelOrder 34 (1 ∷ 1 ∷ test)) ∷ []) (0 ∷ 36 ∷ [])
+    ∷ example 7 (refusalOf (cancelOrder 34 (1 ∷ 1 ∷ test)) ∷ totalOf (cancelOrder 34 (1 ∷ 1 ∷ test)) ∷ []) (0 ∷ 36 ∷ [])
     -- with count 0: accepted, 31 bytes
-    ∷ example 8 (readRefusal 0 (cancelOrder 29 (0 ∷ [])) ∷ length (cancelOrder 29 (0 ∷ [])) ∷ []) (0 ∷ 31 ∷ [])
+    ∷ example 8 (refusalOf (cancelOrder 29 (0 ∷ [])) ∷ length (cancelOrder 29 (0 ∷ [])) ∷ []) (0 ∷ 31 ∷ [])
     -- with bit 2: 8
-    ∷ example 9 (readRefusal 0 (cancelOrder 34 (1 ∷ 2 ∷ test)) ∷ []) (8 ∷ [])
+    ∷ example 9 (refusalOf (cancelOrder 34 (1 ∷ 2 ∷ test)) ∷ []) (8 ∷ [])
     -- with count 3: 7, whether or not three bitfields follow
-    ∷ example 10 (readRefusal 0 (cancelOrder 34 (3 ∷ 1 ∷ test)) ∷ readRefusal 0 (cancelOrder 36 (3 ∷ 1 ∷ 0 ∷ 0 ∷ test)) ∷ []) (7 ∷ 7 ∷ [])
+    ∷ example 10 (refusalOf (cancelOrder 34 (3 ∷ 1 ∷ test)) ∷ refusalOf (cancelOrder 36 (3 ∷ 1 ∷ 0 ∷ 0 ∷ test)) ∷ []) (7 ∷ 7 ∷ [])
     -- entry 0: number 1 is taken, 2 is 15, 0 is 14
     ∷ example 11 (atZero 1 ∷ atZero 2 ∷ atZero 0 ∷ []) (0 ∷ 15 ∷ 14 ∷ [])
     -- last sent at 4,294,967,290: due at 994, not at 993
@@ -142,7 +147,7 @@ examples =
     -- no bytes: 3; BA 00: 1
     ∷ example 13 (frameRefusal [] ∷ frameRefusal (0xBA ∷ 0x00 ∷ []) ∷ []) (3 ∷ 1 ∷ [])
     -- 002's login: accepted, total 63, and so many bytes
-    ∷ example 14 (readRefusal 0 login ∷ totalOf login ∷ length login ∷ []) (0 ∷ 63 ∷ 63 ∷ [])
+    ∷ example 14 (refusalOf login ∷ totalOf login ∷ length login ∷ []) (0 ∷ 63 ∷ 63 ∷ [])
     -- and its first group, after header and fixed part, has unit 1 at 113,482, as its record does after type, unit, number and fixed part
     ∷ example 14 (firstPair (drop (10 + sessions.fixedSize 0x37) login)) unitOne
     ∷ example 14 (firstPair (drop (6 + sessions.fixedSize 0x37) (recordOf login))) unitOne

@@ -188,7 +188,7 @@ pub fn receives(b: Bench, bytes: &[u8], book: &mut Room) -> Bench {
 }
 
 // A message is refused: the book and its table, which stay as they were.
-fn refuses(b: Bench, bytes: &[u8], refusal: u8) {
+fn refuses(b: Bench, bytes: &[u8], refusal: u32) {
     writing::text(b"gets ");
     told::report(bytes);
     writing::text(b": ");

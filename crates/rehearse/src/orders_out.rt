@@ -21,7 +21,7 @@ pub fn sends(b: Bench, order: Record) -> Bench {
 }
 
 // The session does not take an order.
-fn stays(b: Bench, order: Record, refusal: u8) {
+fn stays(b: Bench, order: Record, refusal: u32) {
     say::gateway(b.clock);
     writing::text(b"is asked for ");
     told::order(order);

@@ -125,15 +125,21 @@ pub fn phase(p: Phase) {
     }
 }
 
-// A refusal: its number and what it means.
-pub fn refusal(n: u8) {
-    count(b"refused, ", n as u64, b" (");
+// A refusal: its number, the byte place that it is about where it has one, and what it means.
+pub fn refusal(told: u32) {
+    let n = refusals::number_in(told);
+    let place = refusals::place_in(told);
+    count(b"refused, ", n as u64, b"");
+    if place != 0 {
+        count(b" at byte ", place as u64, b"");
+    }
+    writing::text(b" (");
     meaning(n);
     writing::text(b")");
 }
 
 // What a number of refusal means.
-fn meaning(n: u8) {
+fn meaning(n: u32) {
     match n {
         1 => writing::text(b"it does not begin with BA BA"),
         2 => writing::text(b"its length is under 8 or over 2,046"),
@@ -153,7 +159,7 @@ fn meaning(n: u8) {
 }
 
 // The same for the numbers from 14 on.
-fn later_meaning(n: u8) {
+fn later_meaning(n: u32) {
     match n {
         14 => writing::text(b"its number is already taken"),
         15 => writing::text(b"a gap, numbers before it are missing"),

@@ -77,8 +77,8 @@ fn say(s: Session) -> Told {
 }
 
 // A refusal, or 0, and the member after the call.
-fn refused(refusal: u8, s: Session) -> Told {
-    writing::decimal(refusal as u64);
+fn refused(refusal: u32, s: Session) -> Told {
+    writing::refusal(refusal);
     writing::text(b" ");
     say(s)
 }

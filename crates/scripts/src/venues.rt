@@ -48,7 +48,7 @@ fn say(v: Venue) -> Told {
 
 // A refusal, or 0, and the venue after the call.
 fn refused(a: venue::Answer) -> Told {
-    writing::decimal(a.refusal as u64);
+    writing::refusal(a.refusal);
     writing::text(b" ");
     let v = a.venue;
     say(v)

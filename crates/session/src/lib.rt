@@ -37,7 +37,7 @@ pub struct Session {
 
 // What a call answers: 0 and the state after it, or the refusal and the state as it was.
 pub struct Answer {
-    pub refusal: u8,
+    pub refusal: u32,
     pub session: Session,
 }
 
@@ -53,7 +53,7 @@ pub fn closed_with(b: Book) -> Session
 }
 
 // Writes an order's record, the first 235 bytes given, under a number.
-fn write_numbered(given: &[u8], number: OutgoingNumber, out: &mut [u8]) -> u8
+fn write_numbered(given: &[u8], number: OutgoingNumber, out: &mut [u8]) -> u32
     requires { ⌜ recordSize ≤ length (now given) ⌝ }
     ensures { λ r. ⌜ (r ≡ writeRefusal (numbered (now (given .entry)) (number .0)) (length (now (out .entry)))) × (now (out .exit) ≡ writeBuffer (numbered (now (given .entry)) (number .0)) (now (out .entry))) ⌝ }
 {
@@ -71,7 +71,7 @@ fn received_in(m: &[u8]) -> OutgoingNumber
 }
 
 // The refusal of the first whole message of any bytes as a Login Response: 1 to 11, 4 for any other type; or 0.
-fn response_refusal(bytes: &[u8]) -> u8
+fn response_refusal(bytes: &[u8]) -> u32
     ensures { λ r. ⌜ r ≡ responseReading (now (bytes .entry)) ⌝ }
 {
     let refusal = wire::frame_refusal(bytes);
@@ -210,7 +210,7 @@ impl Session {
     }
 
     // Bytes from the venue whose reading refusal is given: 16 if closed; that refusal; then what the first whole message of them says.
-    fn after_reading(self, refusal: u8, bytes: &[u8], buffer: &mut [u8]) -> Answer
+    fn after_reading(self, refusal: u32, bytes: &[u8], buffer: &mut [u8]) -> Answer
         requires { ⌜ (refusal ≡ 0 → readRefusal 1 (now bytes) ≡ 0) ⌝ }
         ensures { λ r. ⌜ (r ≡ afterReading self refusal (length (now (buffer .entry))) (now (bytes .entry))) × (now (buffer .exit) ≡ afterBuffer self refusal (now (buffer .entry)) (now (bytes .entry))) ⌝ }
     {
@@ -318,7 +318,7 @@ impl Session {
     }
 
     // The refusals of an order before the writer's: 16 unless live, 20, 13 for a record under 235 bytes, 4 for one that is not an order's.
-    fn gate_refusal(self, given: &[u8]) -> u8
+    fn gate_refusal(self, given: &[u8]) -> u32
         ensures { λ r. ⌜ r ≡ gateRefusal self (now (given .entry)) ⌝ }
     {
         let phase = self.phase;

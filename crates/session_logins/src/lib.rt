@@ -275,7 +275,7 @@ pub fn write_login(
     acknowledgments: Bitfields,
     executions: Bitfields,
     out: &mut [u8],
-) -> u8
+) -> u32
     ensures { λ n. ⌜ (n ≡ recordRefusal (loginRecord table choice names acknowledgments executions) (length (now (out .entry)))) × (now (out .exit) ≡ recordBuffer (loginRecord table choice names acknowledgments executions) (now (out .entry))) ⌝ }
 {
     session_messages::write_session(

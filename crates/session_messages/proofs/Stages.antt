@@ -8,14 +8,18 @@ use lib.Dec.{ltb, eqb}
 use lib.ListN.{length, take, drop}
 use borrow.Author.Tests.{lt-ltb, le-ltb, ltb-false, eq-eqb, ne-eqb, eqb-false}
 use Rattle.refusals.specs.Names.{unknownType, badUnit, wrongTotal, badValue, badGroup, notZero, noRoom}
+use Rattle.refusals.specs.Told.{told}
+use Rattle.refusals.specs.ToldLaws.{passed-told, told-refuses}
 use Rattle.kinds.specs.Kinds.{allNul}
 use Rattle.numbers.specs.Numbers.{patched}
 use Rattle.numbers.proofs.Tail.{tail-is}
-use Rattle.wire.specs.Header.{headerBytes, typeOf, unitOf, numberOf}
+use Rattle.wire.specs.Header.{headerBytes, typeOf, unitOf, numberOf, totalOf}
 use Rattle.wire.specs.FrameLaws.{passed}
 use Rattle.block.specs.Slots.{zeros}
 use Rattle.block.specs.SlotLaws.{put-in-zeros}
 use Rattle.session_messages.specs.Sessions.{ofMember, ofVenue, unitGood, fixedSize, valuesGood, bodyEnd, sizeOf, headRefusal, bodyRefusal, readRefusal, bodyOf, refuse, readOf, unusedRefusal, heldRefusal, writeRefusal, writeBuffer}
+use Rattle.session_messages.specs.ValueFields.{valuesWrong}
+use Rattle.session_messages.specs.ValueFieldLaws.{values-found, values-within}
 use Rattle.session_messages.specs.SessionLaws.{body-ends}
 use Rattle.session_messages.specs.declared.Reading.{Reading}
 
@@ -33,44 +37,60 @@ stage-stops h x n e z = sym (e ∙ ap (λ (b : Bool). cond b x h) (ne-eqb h 0 z)
 stage-passes : (h x n : ℕ) → n ≡ cond (eqb h 0) x h → h ≡ 0 → n ≡ x
 stage-passes h x n e z = e ∙ ap (λ (b : Bool). cond b x h) (eq-eqb h 0 z)
 
+-- ---- what is told of the values
+
+module _ (message : ℕ) (b : List ℕ) {n : ℕ} (e : n ≡ valuesWrong message b) where
+  pub are-good : n ≡ 0 → valuesGood message b ≡ true
+  are-good z = sym (values-found message b) ∙ eq-eqb (valuesWrong message b) 0 (sym e ∙ z)
+
+  pub are-bad : (n ≡ 0 → ⊥) → valuesGood message b ≡ false
+  are-bad z = sym (values-found message b) ∙ ne-eqb (valuesWrong message b) 0 (λ q. z (e ∙ q))
+
+  pub are-near : n ≤ 18
+  are-near = omega (arith, e, values-within message b)
+
 -- ---- reading a body
 
-module _ (message : ℕ) (b : List ℕ) (v : valuesGood message b ≡ true) (x : ℕ) (e : x ≡ bodyEnd message b) where
-  pub no-end : x ≡ 0 → badGroup ≡ bodyRefusal message b
+pub bad-value : (total message : ℕ) (b : List ℕ) → valuesGood message b ≡ false → told badValue (valuesWrong message b) ≡ bodyRefusal total message b
+unfolding bodyRefusal
+bad-value total message b v = rw v
+
+module _ (total message : ℕ) (b : List ℕ) (v : valuesGood message b ≡ true) (x : ℕ) (e : x ≡ bodyEnd message b) where
+  pub no-end : x ≡ 0 → badGroup ≡ bodyRefusal total message b
   unfolding bodyRefusal
   no-end z = rw (v, eq-eqb (bodyEnd message b) 0 (sym e ∙ z))
 
-  pub bytes-left : (x ≡ 0 → ⊥) → (x - 1 ≡ length b → ⊥) → wrongTotal ≡ bodyRefusal message b
+  pub bytes-left : (x ≡ 0 → ⊥) → (x - 1 ≡ length b → ⊥) → told wrongTotal total ≡ bodyRefusal total message b
   unfolding bodyRefusal
   bytes-left z n = rw (v, ne-eqb (bodyEnd message b) 0 (λ q. z (e ∙ q)), ne-eqb (bodyEnd message b) (length b + 1) (λ q. n (omega (arith, e, q))))
 
-  pub all-read : (x ≡ 0 → ⊥) → x - 1 ≡ length b → 0 ≡ bodyRefusal message b
+  pub all-read : (x ≡ 0 → ⊥) → x - 1 ≡ length b → 0 ≡ bodyRefusal total message b
   unfolding bodyRefusal
   all-read z n = rw (v, ne-eqb (bodyEnd message b) 0 (λ q. z (e ∙ q)), eq-eqb (bodyEnd message b) (length b + 1) (omega (arith, e, n, z)))
 
 -- ---- reading a message
 
 module _ (m : List ℕ) (t u n : ℕ) (et : t ≡ typeOf m) (eu : u ≡ unitOf m) (en : n ≡ numberOf m) (h : ℕ) (eh : h ≡ headRefusal t u n) where
-  after-head : readRefusal m ≡ cond (eqb h 0) (cond (ltb (length m) (10 + fixedSize t)) wrongTotal (bodyRefusal t (drop 10 m))) h
+  after-head : readRefusal m ≡ cond (eqb h 0) (cond (ltb (length m) (10 + fixedSize t)) (told wrongTotal (totalOf m)) (bodyRefusal (totalOf m) t (drop 10 m))) h
   unfolding readRefusal headRefusal bodyRefusal
   after-head =
       rw (eh, et, eu, en)
-      (by-head (ofMember (typeOf m) || ofVenue (typeOf m)) (unitGood (unitOf m) (numberOf m)) (cond (ltb (length m) (10 + fixedSize (typeOf m))) wrongTotal (bodyRefusal (typeOf m) (drop 10 m))))
+      (by-head (ofMember (typeOf m) || ofVenue (typeOf m)) (unitGood (unitOf m) (numberOf m)) (cond (ltb (length m) (10 + fixedSize (typeOf m))) (told wrongTotal (totalOf m)) (bodyRefusal (totalOf m) (typeOf m) (drop 10 m))))
 
   pub head-stops : (h ≡ 0 → ⊥) → h ≡ readRefusal m
-  head-stops z = stage-stops h (cond (ltb (length m) (10 + fixedSize t)) wrongTotal (bodyRefusal t (drop 10 m))) (readRefusal m) after-head z
+  head-stops z = stage-stops h (cond (ltb (length m) (10 + fixedSize t)) (told wrongTotal (totalOf m)) (bodyRefusal (totalOf m) t (drop 10 m))) (readRefusal m) after-head z
 
-  pub too-short : h ≡ 0 → length m < 10 + fixedSize t → wrongTotal ≡ readRefusal m
+  pub too-short : h ≡ 0 → length m < 10 + fixedSize t → told wrongTotal (totalOf m) ≡ readRefusal m
   too-short z l =
-      sym (stage-passes h (cond (ltb (length m) (10 + fixedSize t)) wrongTotal (bodyRefusal t (drop 10 m))) (readRefusal m) after-head z
-      ∙ ap (λ (b : Bool). cond b wrongTotal (bodyRefusal t (drop 10 m))) (lt-ltb (length m) (10 + fixedSize t) l))
+      sym (stage-passes h (cond (ltb (length m) (10 + fixedSize t)) (told wrongTotal (totalOf m)) (bodyRefusal (totalOf m) t (drop 10 m))) (readRefusal m) after-head z
+      ∙ ap (λ (b : Bool). cond b (told wrongTotal (totalOf m)) (bodyRefusal (totalOf m) t (drop 10 m))) (lt-ltb (length m) (10 + fixedSize t) l))
 
-  pub by-body : h ≡ 0 → 10 + fixedSize t ≤ length m → (r : ℕ) → r ≡ bodyRefusal t (take (length m - 10) (drop 10 m)) → r ≡ readRefusal m
+  pub by-body : h ≡ 0 → 10 + fixedSize t ≤ length m → (r : ℕ) → r ≡ bodyRefusal (totalOf m) t (take (length m - 10) (drop 10 m)) → r ≡ readRefusal m
   by-body z l r e =
       e
-      ∙ ap (bodyRefusal t) (tail-is m 10 (omega arith))
-      ∙ sym (stage-passes h (cond (ltb (length m) (10 + fixedSize t)) wrongTotal (bodyRefusal t (drop 10 m))) (readRefusal m) after-head z
-      ∙ ap (λ (b : Bool). cond b wrongTotal (bodyRefusal t (drop 10 m))) (le-ltb (length m) (10 + fixedSize t) l))
+      ∙ ap (bodyRefusal (totalOf m) t) (tail-is m 10 (omega arith))
+      ∙ sym (stage-passes h (cond (ltb (length m) (10 + fixedSize t)) (told wrongTotal (totalOf m)) (bodyRefusal (totalOf m) t (drop 10 m))) (readRefusal m) after-head z
+      ∙ ap (λ (b : Bool). cond b (told wrongTotal (totalOf m)) (bodyRefusal (totalOf m) t (drop 10 m))) (le-ltb (length m) (10 + fixedSize t) l))
 
 -- what reading answers
 pub read-refused : (m : List ℕ) (h : ℕ) → h ≡ readRefusal m → (h ≡ 0 → ⊥) → refuse h ≡ readOf m
@@ -112,12 +132,12 @@ pub held : (message : ℕ) (b : List ℕ) → heldRefusal message b ≡ 0 → He
 unfolding heldRefusal
 held message b z =
     let ps = passed (ltb (length b) (fixedSize message)) _ _ z in
-    let p10 = passed (not (valuesGood message b)) _ _ (ps .1) in
+    let p10 = passed-told (not (valuesGood message b)) _ _ _ (ps .1) in
     let p11 = passed (eqb (bodyEnd message b) 0) _ _ (p10 .1) in
     held-of message b (ltb-false _ _ (ps .0)) (eqb-false _ _ (p11 .0))
 
 module _ (message : ℕ) (b : List ℕ) (l : fixedSize message ≤ length b) where
-  pub bad-values : valuesGood message b ≡ false → badValue ≡ heldRefusal message b
+  pub bad-values : valuesGood message b ≡ false → told badValue (valuesWrong message b) ≡ heldRefusal message b
   unfolding heldRefusal
   bad-values v = rw (le-ltb (length b) (fixedSize message) l, v)
 
@@ -147,16 +167,17 @@ module _ (message : ℕ) (b : List ℕ) (l : fixedSize message ≤ length b) whe
 
 -- ---- writing
 
--- a chain of the body's refusals: they decide, or else what follows
-by-held : (short values end nul alone : Bool) (x : ℕ)
-    → cond short badGroup (cond (not values) badValue (cond end badGroup (cond (not nul) (cond alone notZero badGroup) x)))
-    ≡ cond (eqb (cond short badGroup (cond (not values) badValue (cond end badGroup (cond (not nul) (cond alone notZero badGroup) 0)))) 0) x (cond short badGroup (cond (not values) badValue (cond end badGroup (cond (not nul) (cond alone notZero badGroup) 0))))
-by-held true values end nul alone x = refl
-by-held false false end nul alone x = refl
-by-held false true true nul alone x = refl
-by-held false true false false true x = refl
-by-held false true false false false x = refl
-by-held false true false true alone x = refl
+-- a chain of the body's refusals, of which one has a place: they decide, or else what follows
+by-held : (short values end nul alone : Bool) (place x : ℕ)
+    → cond short badGroup (cond (not values) (told badValue place) (cond end badGroup (cond (not nul) (cond alone notZero badGroup) x)))
+    ≡ cond (eqb (cond short badGroup (cond (not values) (told badValue place) (cond end badGroup (cond (not nul) (cond alone notZero badGroup) 0)))) 0) x
+    (cond short badGroup (cond (not values) (told badValue place) (cond end badGroup (cond (not nul) (cond alone notZero badGroup) 0))))
+by-held true values end nul alone place x = refl
+by-held false false end nul alone place x = sym (ap (λ (b : Bool). cond b x (told badValue place)) (told-refuses badValue place (omega arith)))
+by-held false true true nul alone place x = refl
+by-held false true false false true place x = refl
+by-held false true false false false place x = refl
+by-held false true false true alone place x = refl
 
 module _ (message unit number : ℕ) (b : List ℕ) (room h : ℕ) (eh : h ≡ headRefusal message unit number) where
   the-room : ℕ
@@ -170,9 +191,9 @@ module _ (message unit number : ℕ) (b : List ℕ) (room h : ℕ) (eh : h ≡ h
   stages =
       rw eh
       (by-head (ofMember message || ofVenue message) (unitGood unit number)
-      (cond (ltb (length b) (fixedSize message)) badGroup (cond (not (valuesGood message b)) badValue (cond (eqb (bodyEnd message b) 0) badGroup (cond (not (allNul (drop (sizeOf message b) b))) (unusedRefusal message) the-room))))
+      (cond (ltb (length b) (fixedSize message)) badGroup (cond (not (valuesGood message b)) (told badValue (valuesWrong message b)) (cond (eqb (bodyEnd message b) 0) badGroup (cond (not (allNul (drop (sizeOf message b) b))) (unusedRefusal message) the-room))))
       ∙ ap (λ (x : ℕ). cond (eqb (headRefusal message unit number) 0) x (headRefusal message unit number))
-      (by-held (ltb (length b) (fixedSize message)) (valuesGood message b) (eqb (bodyEnd message b) 0) (allNul (drop (sizeOf message b) b)) (eqb (fixedSize message) 0) the-room))
+      (by-held (ltb (length b) (fixedSize message)) (valuesGood message b) (eqb (bodyEnd message b) 0) (allNul (drop (sizeOf message b) b)) (eqb (fixedSize message) 0) (valuesWrong message b) the-room))
 
   pub head-decides : (h ≡ 0 → ⊥) → h ≡ writeRefusal message unit number b room
   head-decides z = stage-stops h body-stage (writeRefusal message unit number b room) stages z

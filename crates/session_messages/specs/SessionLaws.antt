@@ -10,8 +10,10 @@ use lib.ListN.{length, getD, take, drop, length-drop, length-append}
 use lib.Seq.{drop-append-le, take-append-le}
 use borrow.Author.Tests.{lt-ltb, le-ltb, ltb-true, ltb-false, eq-eqb, ne-eqb, eqb-true, eqb-false, not-false}
 use Rattle.refusals.specs.Names.{wrongTotal, notZero, badGroup}
+use Rattle.refusals.specs.Told.{told}
+use Rattle.refusals.specs.ToldLaws.{passed-told}
 use Rattle.kinds.specs.Kinds.{allNul}
-use Rattle.wire.specs.Header.{typeOf, unitOf, numberOf}
+use Rattle.wire.specs.Header.{typeOf, unitOf, numberOf, totalOf}
 use Rattle.wire.specs.FrameLaws.{passed}
 use Rattle.block.specs.SlotLaws.{both-true}
 use Rattle.session_groups.specs.Groups.{pairsGood, groupsEnd}
@@ -199,10 +201,10 @@ unfolding readRefusal
 good m z =
     let p4 = passed (not (ofMember (typeOf m) || ofVenue (typeOf m))) _ _ z in
     let p5 = passed (not (unitGood (unitOf m) (numberOf m))) _ _ (p4 .1) in
-    let p6 = passed (ltb (length m) (10 + fixedSize (typeOf m))) _ _ (p5 .1) in
-    let p10 = passed (not (valuesGood (typeOf m) (drop 10 m))) _ _ (p6 .1) in
+    let p6 = passed-told (ltb (length m) (10 + fixedSize (typeOf m))) _ _ _ (p5 .1) in
+    let p10 = passed-told (not (valuesGood (typeOf m) (drop 10 m))) _ _ _ (p6 .1) in
     let p11 = passed (eqb (bodyEnd (typeOf m) (drop 10 m)) 0) _ _ (p10 .1) in
-    let pt = passed (not (eqb (bodyEnd (typeOf m) (drop 10 m)) (length (drop 10 m) + 1))) _ _ (p11 .1) in
+    let pt = passed-told (not (eqb (bodyEnd (typeOf m) (drop 10 m)) (length (drop 10 m) + 1))) _ _ _ (p11 .1) in
     let u = both-true (eqb (unitOf m) 0) (eqb (numberOf m) 0) (not-false _ (p5 .0)) in
     let e : bodyEnd (typeOf m) (drop 10 m) ≡ length (drop 10 m) + 1 = eqb-true _ _ (not-false _ (pt .0)) in
     record {
@@ -242,12 +244,12 @@ no-values message b h = by (eqb message 0x37) (eqb message 0x24) (eqb message 0x
 
 -- A HEADER ALONE: a heartbeat or Replay Complete with unit and number 0 is 6 unless it has ten bytes
 pub header-alone : (m : List ℕ) → (ofMember (typeOf m) || ofVenue (typeOf m)) ≡ true → unitOf m ≡ 0 → numberOf m ≡ 0 → fixedSize (typeOf m) ≡ 0
-    → readRefusal m ≡ cond (eqb (length m) 10) 0 wrongTotal
+    → readRefusal m ≡ cond (eqb (length m) 10) 0 (told wrongTotal (totalOf m))
 unfolding readRefusal bodyEnd
 header-alone m k u n f =
     rw (k, eq-eqb (unitOf m) 0 u, eq-eqb (numberOf m) 0 n, f, no-values (typeOf m) (drop 10 m) f) (by (eqb (length m) 10) (ltb (length m) 10) refl refl)
   where
-    by : (a b : Bool) → eqb (length m) 10 ≡ a → ltb (length m) 10 ≡ b → cond b wrongTotal (cond (not (eqb 1 (length (drop 10 m) + 1))) wrongTotal 0) ≡ cond a 0 wrongTotal
+    by : (a b : Bool) → eqb (length m) 10 ≡ a → ltb (length m) 10 ≡ b → cond b (told wrongTotal (totalOf m)) (cond (not (eqb 1 (length (drop 10 m) + 1))) (told wrongTotal (totalOf m)) 0) ≡ cond a 0 (told wrongTotal (totalOf m))
     by true true p q = absurd (omega (arith, eqb-true (length m) 10 p, ltb-true (length m) 10 q))
     by true false p q = rw (eq-eqb 1 (length (drop 10 m) + 1) (omega (arith, eqb-true (length m) 10 p, length-drop 10 m)))
     by false true p q = refl
@@ -282,7 +284,7 @@ fit message unit number b room z =
     let p4 = passed (not (ofMember message || ofVenue message)) _ _ z in
     let p5 = passed (not (unitGood unit number)) _ _ (p4 .1) in
     let ps = passed (ltb (length b) (fixedSize message)) _ _ (p5 .1) in
-    let p10 = passed (not (valuesGood message b)) _ _ (ps .1) in
+    let p10 = passed-told (not (valuesGood message b)) _ _ _ (ps .1) in
     let p11 = passed (eqb (bodyEnd message b) 0) _ _ (p10 .1) in
     let pu = passed-unused (eqb (fixedSize message) 0) (not (allNul (drop (sizeOf message b) b))) _ (p11 .1) in
     let p13 = passed (ltb room (10 + sizeOf message b)) _ _ (pu .1) in

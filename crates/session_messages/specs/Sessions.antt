@@ -6,12 +6,14 @@ use mathlib.Core.List.{List, _++_}
 use lib.Dec.{ltb, eqb}
 use lib.ListN.{length, getD, take, drop}
 use Rattle.refusals.specs.Names.{unknownType, badUnit, wrongTotal, badValue, badGroup, notZero, noRoom}
+use Rattle.refusals.specs.Told.{told}
 use Rattle.kinds.specs.declared.Kind.the-variants.{Alphanumeric, Text}
 use Rattle.kinds.specs.Kinds.{allNul, agreesOf}
 use Rattle.numbers.specs.Numbers.{patched}
-use Rattle.wire.specs.Header.{headerBytes, typeOf, unitOf, numberOf}
+use Rattle.wire.specs.Header.{headerBytes, typeOf, unitOf, numberOf, totalOf}
 use Rattle.block.specs.Slots.{zeros}
 use Rattle.session_groups.specs.Groups.{pairsGood, groupsEnd}
+use Rattle.session_messages.specs.ValueFields.{valuesWrong}
 use Rattle.session_messages.specs.declared.Record.{Record}
 use Rattle.session_messages.specs.declared.Reading.{Reading}
 
@@ -101,23 +103,24 @@ headRefusal message unit number =
     0)
 
 -- 01, Numbers of refusal, in reading order: 4; 5; 6 where the fixed part is cut off; 10; 11; 6 where bytes are left after the last group or pair.
--- A message that is a header alone has no fixed part and no lists: after 5, it is 6 unless it has ten bytes.
+-- A message that is a header alone has no fixed part and no lists: after 5, it is 6 unless it has ten bytes. 02, request 3: 6 is told at the message's end,
+-- which is its total, and 10 at the first byte of the first bad field
 unfoldable pub readRefusal : List ℕ → ℕ
 readRefusal m =
     cond (not (ofMember (typeOf m) || ofVenue (typeOf m))) unknownType
     (cond (not (unitGood (unitOf m) (numberOf m))) badUnit
-    (cond (ltb (length m) (10 + fixedSize (typeOf m))) wrongTotal
-    (cond (not (valuesGood (typeOf m) (drop 10 m))) badValue
+    (cond (ltb (length m) (10 + fixedSize (typeOf m))) (told wrongTotal (totalOf m))
+    (cond (not (valuesGood (typeOf m) (drop 10 m))) (told badValue (valuesWrong (typeOf m) (drop 10 m)))
     (cond (eqb (bodyEnd (typeOf m) (drop 10 m)) 0) badGroup
-    (cond (not (eqb (bodyEnd (typeOf m) (drop 10 m)) (length (drop 10 m) + 1))) wrongTotal
+    (cond (not (eqb (bodyEnd (typeOf m) (drop 10 m)) (length (drop 10 m) + 1))) (told wrongTotal (totalOf m))
     0)))))
 
--- the last three of them, of a body whose fixed part is there
-unfoldable pub bodyRefusal : ℕ → List ℕ → ℕ
-bodyRefusal message body =
-    cond (not (valuesGood message body)) badValue
+-- the last three of them, of a body whose fixed part is there, in a message whose total is given
+unfoldable pub bodyRefusal : ℕ → ℕ → List ℕ → ℕ
+bodyRefusal total message body =
+    cond (not (valuesGood message body)) (told badValue (valuesWrong message body))
     (cond (eqb (bodyEnd message body) 0) badGroup
-    (cond (not (eqb (bodyEnd message body) (length body + 1))) wrongTotal
+    (cond (not (eqb (bodyEnd message body) (length body + 1))) (told wrongTotal total)
     0))
 
 -- the body in a record: as on the wire, and zero after it
@@ -159,7 +162,7 @@ bytesFor message unit number b = headerBytes (8 + sizeOf message b) message unit
 unfoldable pub heldRefusal : ℕ → List ℕ → ℕ
 heldRefusal message b =
     cond (ltb (length b) (fixedSize message)) badGroup
-    (cond (not (valuesGood message b)) badValue
+    (cond (not (valuesGood message b)) (told badValue (valuesWrong message b))
     (cond (eqb (bodyEnd message b) 0) badGroup
     (cond (not (allNul (drop (sizeOf message b) b))) (unusedRefusal message)
     0)))
@@ -171,7 +174,7 @@ writeRefusal message unit number b room =
     cond (not (ofMember message || ofVenue message)) unknownType
     (cond (not (unitGood unit number)) badUnit
     (cond (ltb (length b) (fixedSize message)) badGroup
-    (cond (not (valuesGood message b)) badValue
+    (cond (not (valuesGood message b)) (told badValue (valuesWrong message b))
     (cond (eqb (bodyEnd message b) 0) badGroup
     (cond (not (allNul (drop (sizeOf message b) b))) (unusedRefusal message)
     (cond (ltb room (10 + sizeOf message b)) noRoom

@@ -5,8 +5,10 @@ ghost use mathlib.Core.List.{_++_};
 ghost use Prim.Native.Nat.{_+_, _≤_};
 ghost use lib.ListN.{length, take};
 ghost use Rattle.numbers.specs.Numbers.{patched};
-ghost use Rattle.wire.specs.Header.{headerBytes};
-ghost use Rattle.session_messages.specs.Sessions.{ofMember, ofVenue, fixedSize, namesGood, statusGood, reasonGood, valuesGood, flagGood, pairsEnd, responseEnd, listsEnd, bodyEnd, headRefusal, bodyRefusal, readRefusal, blank, refuse, readOf, unusedRefusal, heldRefusal, writeRefusal, writeBuffer, recordRefusal, recordBuffer};
+ghost use Rattle.wire.specs.Header.{headerBytes, totalOf};
+ghost use Rattle.refusals.specs.FirstBad.{firstBad};
+ghost use Rattle.session_messages.specs.ValueFields.{nameFields, statusFields, reasonFields, textWrong, valuesWrong};
+ghost use Rattle.session_messages.specs.Sessions.{ofMember, ofVenue, fixedSize, flagGood, pairsEnd, responseEnd, listsEnd, bodyEnd, headRefusal, bodyRefusal, readRefusal, blank, refuse, readOf, unusedRefusal, heldRefusal, writeRefusal, writeBuffer, recordRefusal, recordBuffer};
 use kinds::Kind;
 
 // The size of a session message's record as bytes: type, unit, number, body.
@@ -22,7 +24,7 @@ pub struct Record {
 
 // What reading answers: 0 and the record, or the refusal and the blank record.
 pub struct Reading {
-    pub refusal: u8,
+    pub refusal: u32,
     pub session: Record,
 }
 
@@ -57,7 +59,7 @@ fn is_known(message: u8) -> bool
 }
 
 // 4 for the type, 5 for unit and number, or 0.
-fn head_refusal(message: u8, unit: u8, number: u32) -> u8
+fn head_refusal(message: u8, unit: u8, number: u32) -> u32
     ensures { λ r. ⌜ r ≡ headRefusal message unit number ⌝ }
 {
     if !is_known(message) {
@@ -84,51 +86,66 @@ fn fixed_size(message: u8) -> usize
     }
 }
 
-// Login Request: SessionSubID, Username and Password of their kind.
-fn names_good(b: &[u8]) -> bool
+// Login Request: SessionSubID, Username and Password of their kind. 0, or the place of the first that is not; so too of the others.
+fn names_wrong(b: &[u8]) -> usize
     requires { ⌜ 18 ≤ length (now b) ⌝ }
-    ensures { λ r. ⌜ r ≡ namesGood (now (b .entry)) ⌝ }
+    ensures { λ r. ⌜ r ≡ firstBad (nameFields (now (b .entry))) ⌝ }
 {
-    if kinds::agrees(Kind::Alphanumeric, &b[0..4]) {
-        if kinds::agrees(Kind::Alphanumeric, &b[4..8]) {
-            return kinds::agrees(Kind::Alphanumeric, &b[8..18]);
-        }
+    if !kinds::agrees(Kind::Alphanumeric, &b[0..4]) {
+        return 10;
     }
-    false
+    if !kinds::agrees(Kind::Alphanumeric, &b[4..8]) {
+        return 14;
+    }
+    if !kinds::agrees(Kind::Alphanumeric, &b[8..18]) {
+        return 18;
+    }
+    0
+}
+
+// The text of a Login Response or a Logout.
+fn text_wrong(b: &[u8]) -> usize
+    requires { ⌜ 61 ≤ length (now b) ⌝ }
+    ensures { λ r. ⌜ r ≡ textWrong (now (b .entry)) ⌝ }
+{
+    if !kinds::agrees(Kind::Text, &b[1..61]) {
+        return 11;
+    }
+    0
 }
 
 // Login Response: LoginResponseStatus and LoginResponseText of their kinds.
-fn status_good(b: &[u8]) -> bool
+fn status_wrong(b: &[u8]) -> usize
     requires { ⌜ 61 ≤ length (now b) ⌝ }
-    ensures { λ r. ⌜ r ≡ statusGood (now (b .entry)) ⌝ }
+    ensures { λ r. ⌜ r ≡ firstBad (statusFields (now (b .entry))) ⌝ }
 {
-    if kinds::agrees(Kind::Alphanumeric, &b[0..1]) {
-        return kinds::agrees(Kind::Text, &b[1..61]);
+    if !kinds::agrees(Kind::Alphanumeric, &b[0..1]) {
+        return 10;
     }
-    false
+    text_wrong(b)
 }
 
 // Logout: LogoutReason of its kind or an exclamation mark, and LogoutReasonText of its kind.
-fn reason_good(b: &[u8]) -> bool
+fn reason_wrong(b: &[u8]) -> usize
     requires { ⌜ 61 ≤ length (now b) ⌝ }
-    ensures { λ r. ⌜ r ≡ reasonGood (now (b .entry)) ⌝ }
+    ensures { λ r. ⌜ r ≡ firstBad (reasonFields (now (b .entry))) ⌝ }
 {
     if b[0] == b'!' {
-        return kinds::agrees(Kind::Text, &b[1..61]);
+        return text_wrong(b);
     }
-    status_good(b)
+    status_wrong(b)
 }
 
-// Whether the values of a fixed part agree with their kinds.
-fn values_good(message: u8, b: &[u8]) -> bool
+// The place in the message of the first value of a fixed part that is against its kind; 0 where there is none.
+fn values_wrong(message: u8, b: &[u8]) -> usize
     requires { ⌜ fixedSize message ≤ length (now b) ⌝ }
-    ensures { λ r. ⌜ r ≡ valuesGood message (now (b .entry)) ⌝ }
+    ensures { λ r. ⌜ r ≡ valuesWrong message (now (b .entry)) ⌝ }
 {
     match message {
-        0x37 => names_good(b),
-        0x24 => status_good(b),
-        0x08 => reason_good(b),
-        _ => true,
+        0x37 => names_wrong(b),
+        0x24 => status_wrong(b),
+        0x08 => reason_wrong(b),
+        _ => 0,
     }
 }
 
@@ -200,26 +217,27 @@ fn body_end(message: u8, b: &[u8]) -> usize
     k + end
 }
 
-// The refusals of a body whose fixed part is there: 10, 11, 6 for bytes left.
-fn body_refusal(message: u8, b: &[u8]) -> u8
+// The refusals of a message m whose fixed part is there, b being its body: 10, 11, 6 for bytes left.
+fn body_refusal(m: &[u8], message: u8, b: &[u8]) -> u32
     requires { ⌜ fixedSize message ≤ length (now b) ⌝ }
-    ensures { λ r. ⌜ r ≡ bodyRefusal message (now (b .entry)) ⌝ }
+    ensures { λ r. ⌜ r ≡ bodyRefusal (totalOf (now (m .entry))) message (now (b .entry)) ⌝ }
 {
-    if !values_good(message, b) {
-        return refusals::BAD_VALUE;
+    let wrong = values_wrong(message, b);
+    if wrong != 0 {
+        return refusals::told(refusals::BAD_VALUE, wrong);
     }
     let end = body_end(message, b);
     if end == 0 {
         return refusals::BAD_GROUP;
     }
     if end - 1 != b.len() {
-        return refusals::WRONG_TOTAL;
+        return wire::wrong_total(m);
     }
     0
 }
 
-// The refusal of a whole message, as framing answers it (4, 5, 6, 10 or 11), or 0.
-pub fn read_refusal(m: &[u8]) -> u8
+// The refusal of a whole message, as framing answers it (4, 5, 6, 10 or 11; 6 and 10 with their places), or 0.
+pub fn read_refusal(m: &[u8]) -> u32
     ensures { λ r. ⌜ r ≡ readRefusal (now (m .entry)) ⌝ }
 {
     let message = wire::header::type_of(m);
@@ -232,9 +250,9 @@ pub fn read_refusal(m: &[u8]) -> u8
         return head;
     }
     if m.len() < 10 + fixed_size(message) {
-        return refusals::WRONG_TOTAL;
+        return wire::wrong_total(m);
     }
-    body_refusal(message, &m[10..])
+    body_refusal(m, message, &m[10..])
 }
 
 // The blank record.
@@ -250,7 +268,7 @@ fn blank_record() -> Record
 }
 
 // What a refused message answers.
-fn refused(refusal: u8) -> Reading
+fn refused(refusal: u32) -> Reading
     ensures { λ r. ⌜ r ≡ refuse refusal ⌝ }
 {
     let session = blank_record();
@@ -282,14 +300,15 @@ pub fn read_session(m: &[u8]) -> Reading
 }
 
 // The refusals of a record's body: 11 where it is shorter than its fixed part, 10, 11, and 11 or 12 for a byte after it that is not zero.
-fn held_refusal(message: u8, b: &[u8]) -> u8
+fn held_refusal(message: u8, b: &[u8]) -> u32
     ensures { λ r. ⌜ r ≡ heldRefusal message (now (b .entry)) ⌝ }
 {
     if b.len() < fixed_size(message) {
         return refusals::BAD_GROUP;
     }
-    if !values_good(message, b) {
-        return refusals::BAD_VALUE;
+    let wrong = values_wrong(message, b);
+    if wrong != 0 {
+        return refusals::told(refusals::BAD_VALUE, wrong);
     }
     let end = body_end(message, b);
     if end == 0 {
@@ -302,7 +321,7 @@ fn held_refusal(message: u8, b: &[u8]) -> u8
 }
 
 // The refusal of an unused place that is not zero: 11, and 12 in a header alone.
-fn unused_refusal(message: u8) -> u8
+fn unused_refusal(message: u8) -> u32
     ensures { λ r. ⌜ r ≡ unusedRefusal message ⌝ }
 {
     if fixed_size(message) == 0 {
@@ -320,9 +339,9 @@ fn put_session(message: u8, unit: u8, number: u32, size: usize, b: &[u8], out: &
     block::copy_front(b, size, &mut out[10..]);
 }
 
-// Writes a body: 0, and the buffer begins with the message's bytes and is otherwise as it was; or the refusal (4, 5, 10, 11, 12 or 13), and
-// the buffer is as it was.
-pub fn write_body(message: u8, unit: u8, number: u32, body: &[u8], out: &mut [u8]) -> u8
+// Writes a body: 0, and the buffer begins with the message's bytes and is otherwise as it was; or the refusal (4, 5, 10, 11, 12 or 13; 10 with the
+// place in the message that would be written), and the buffer is as it was.
+pub fn write_body(message: u8, unit: u8, number: u32, body: &[u8], out: &mut [u8]) -> u32
     ensures { λ n. ⌜ (n ≡ writeRefusal message unit number (now (body .entry)) (length (now (out .entry)))) × (now (out .exit) ≡ writeBuffer message unit number (now (body .entry)) (now (out .entry))) ⌝ }
 {
     let head = head_refusal(message, unit, number);
@@ -342,7 +361,7 @@ pub fn write_body(message: u8, unit: u8, number: u32, body: &[u8], out: &mut [u8
 }
 
 // The same of a record.
-pub fn write_session(r: Record, out: &mut [u8]) -> u8
+pub fn write_session(r: Record, out: &mut [u8]) -> u32
     ensures { λ n. ⌜ (n ≡ recordRefusal r (length (now (out .entry)))) × (now (out .exit) ≡ recordBuffer r (now (out .entry))) ⌝ }
 {
     let body = r.body;

@@ -138,7 +138,7 @@ fn frame(line: &[u8], bytes: &mut [u8]) -> bool {
 // The answer to `frame` of the bytes.
 fn framed(s: &[u8]) {
     let refusal = wire::frame_refusal(s);
-    writing::decimal(refusal as u64);
+    writing::refusal(refusal);
     if refusal == 0 {
         header(wire::frame(s));
     }
@@ -233,8 +233,8 @@ fn put_64(out: &mut [u8], at: usize, v: words::Number) -> bool {
 }
 
 // A refusal and the buffer after the call.
-pub fn refused(refusal: u8, s: &[u8]) {
-    writing::decimal(refusal as u64);
+pub fn refused(refusal: u32, s: &[u8]) {
+    writing::refusal(refusal);
     writing::text(b" ");
     writing::hex(s);
 }
@@ -306,7 +306,7 @@ fn stepped(entries: &mut [u8], unit: u8, number: u32) {
 fn day(line: &[u8]) -> bool {
     let date = words::read_number(words::word(line, 1), 4294967295);
     if date.ok {
-        writing::decimal(calendar::day_refusal(date.value as u32) as u64);
+        writing::refusal(calendar::day_refusal(date.value as u32));
         return true;
     }
     false
@@ -383,7 +383,7 @@ fn read_by(direction: u8, s: &[u8]) {
     let mut out = [0u8; session_messages::RECORD];
     let refusal = gateway::boe_read(direction, s, &mut out);
     if refusal != 0 {
-        writing::decimal(refusal as u64);
+        writing::refusal(refusal);
     } else if is_order(out[0]) {
         refused(0, &out[0..block::RECORD]);
     } else {

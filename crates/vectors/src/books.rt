@@ -41,7 +41,7 @@ pub fn restart(line: &[u8], bytes: &mut [u8]) -> bool {
 // The answer to `restart` of a book.
 fn restarted(date: u32, s: &[u8]) {
     let answer = book_restart::restart(date, s);
-    writing::decimal(answer.refusal as u64);
+    writing::refusal(answer.refusal);
     if answer.refusal == 0 {
         writing::next_decimal(answer.book.length as u64);
         writing::next_decimal(answer.book.last as u64);
@@ -103,10 +103,11 @@ fn appended(date: u32, n: usize, message: &[u8], buffer: &mut [u8])
     requires { ⌜ n ≤ length (now buffer) ⌝ }
 {
     let from = book_restart::restart(date, &buffer[0..n]);
-    writing::decimal(from.refusal as u64);
+    writing::refusal(from.refusal);
     if from.refusal == 0 {
         let answer = from.book.append(message, buffer);
-        writing::next_decimal(answer.refusal as u64);
+        writing::text(b" ");
+        writing::refusal(answer.refusal);
         writing::next_decimal(answer.book.length as u64);
         writing::text(b" ");
         whole(buffer);
@@ -136,7 +137,7 @@ fn closed(date: u32, n: usize, buffer: &mut [u8])
     requires { ⌜ n ≤ length (now buffer) ⌝ }
 {
     let from = book_restart::restart(date, &buffer[0..n]);
-    writing::decimal(from.refusal as u64);
+    writing::refusal(from.refusal);
     if from.refusal == 0 {
         let after = from.book.close(buffer);
         writing::next_decimal(after.length as u64);

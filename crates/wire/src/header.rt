@@ -40,7 +40,7 @@ pub fn number_of(m: &[u8]) -> u32
 }
 
 // A header into the front of a lent tail: 0, or 13 where the tail is shorter than ten bytes, which then keeps its bytes.
-pub fn write_header(tail: &mut [u8], length: u16, type_byte: u8, unit: u8, number: u32) -> u8
+pub fn write_header(tail: &mut [u8], length: u16, type_byte: u8, unit: u8, number: u32) -> u32
     ensures { λ r. ⌜ (r ≡ putRefusal (now (tail .entry)) 0 (headerBytes length «type_byte» unit number)) × (now (tail .exit) ≡ putBuffer (now (tail .entry)) 0 (headerBytes length «type_byte» unit number)) ⌝ }
 {
     if tail.len() < 10 {

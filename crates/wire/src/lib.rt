@@ -2,6 +2,9 @@
 pub mod header;
 
 ghost use mathlib.Core.Path.{_≡_};
+ghost use Rattle.refusals.specs.Names.{wrongTotal};
+ghost use Rattle.refusals.specs.Told.{told};
+ghost use Rattle.wire.specs.Header.{totalOf};
 ghost use Rattle.wire.specs.Frame.{notBA, startsBad, lengthBad, cutShort, frameRefusal, framed};
 
 // Whether a byte is present at a place and is not BA.
@@ -49,7 +52,7 @@ fn cut_short(s: &[u8]) -> bool
 }
 
 // 0 where a buffer starts with a whole message, or the number of the refusal: 1, 2 or 3.
-pub fn frame_refusal(s: &[u8]) -> u8
+pub fn frame_refusal(s: &[u8]) -> u32
     ensures { λ r. ⌜ r ≡ frameRefusal (now (s .entry)) ⌝ }
 {
     if starts_bad(s) {
@@ -74,4 +77,12 @@ pub fn frame(s: &[u8]) -> &[u8]
     } else {
         &s[..0]
     }
+}
+
+// Refusal 6, which is told at the message's end: its total, as the header has it.
+pub fn wrong_total(m: &[u8]) -> u32
+    ensures { λ r. ⌜ r ≡ told wrongTotal (totalOf (now (m .entry))) ⌝ }
+{
+    let n = header::length_of(m);
+    refusals::told(refusals::WRONG_TOTAL, (n as usize) + 2)
 }

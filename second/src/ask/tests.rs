@@ -99,6 +99,40 @@ fn read_and_write() {
     check("write 0 - -", "13 -");
 }
 
+/// A refusal that has a place is told with it: read into a buffer, written and appended too.
+#[test]
+fn refusals_with_a_place() {
+    let cancel = format!("BABA1D003900640000002C4243313233{}00", "00".repeat(14));
+    check(&format!("read 0 {}", cancel), "10@10");
+    check(&format!("read 0 {}EE", cancel), "10@10");
+    check(&format!("read-into 0 {} EE", cancel), "10@10 EE");
+    check(&format!("read 1 {}", cancel), "4");
+    let record = format!("3900640000002C4243313233{}", "00".repeat(223));
+    check(&format!("write 0 {} EEEE", record), "10@10 EEEE");
+    let mark = "00000000C30035010000000000000000";
+    let id = "00".repeat(37);
+    let message = format!("BABA2E00250101000000{}00", id);
+    check(
+        &format!("append 20250819 {} 2 {}", mark, message),
+        &format!("0 10@18 16 {}FFFF", mark),
+    );
+    let short = "BABA0800250101000000";
+    check(
+        &format!("append 20250819 {} 0 {}", mark, short),
+        &format!("0 6@10 16 {}", mark),
+    );
+    check(
+        &format!("list {}{}", mark, message),
+        "mark 20250819 0 0|18 18",
+    );
+    check(
+        &format!("list {}{}", mark, short),
+        "mark 20250819 0 0|18 10",
+    );
+    check(&format!("restart 20250819 {}{}", mark, short), "18");
+    check(&format!("append 20250819 {}{} 0 -", mark, short), "18");
+}
+
 /// A session message that is its header alone, and one with text, pairs and groups.
 #[test]
 fn read_and_write_of_the_session() {

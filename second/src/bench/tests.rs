@@ -99,6 +99,57 @@ fn small_day() {
     ]);
 }
 
+/// Each call that reads or writes a message tells the place of what it refuses.
+#[test]
+fn places() {
+    let mut message = examples::booked_acknowledgment();
+    message[18] = b',';
+    let message = hex::write(&message);
+    let mut response = examples::login_response_of_the_notes();
+    response[11] = 7;
+    let response = hex::write(&response);
+    let mut request = examples::options_login();
+    request[14] = b'-';
+    let request = hex::write(&request);
+    let mut order = examples::new_order();
+    let mut record = crate::rules::read::message(0, &order).unwrap();
+    order[37] = 0xC9;
+    record[108] = b'-';
+    let zeros = zeros(128);
+    let state = "7 0 16 0 0";
+    check(&[
+        (&format!("v-log {} 100", message), "10@18 0 0 0 0 0 0 0 0"),
+        (&format!("v-login {} 0", request), "10@14 0 0 0 0 0 0 0 0 -"),
+        (
+            &format!("v-state 1 0 0 0 0 0 {} {}", zeros, zeros),
+            "1 0 0 0 0 0 0 0",
+        ),
+        (
+            &format!("v-order {}", hex::write(&order)),
+            "8@37 1 0 0 0 0 0 0 0",
+        ),
+        ("v-order BABA090003000000000000", "6@11 1 0 0 0 0 0 0 0"),
+        (
+            &login("1 2 0", 0).replace(" 3030303154", " 303030312D"),
+            "10@14 0 0 0 0 0 0 0 -",
+        ),
+        (&format!("m-state 3 {} {}", state, zeros), "3 7 0 16 0 0 0"),
+        (&format!("m-get {} 100", message), "10@18 3 7 0 16 0 0 0"),
+        (
+            &format!("m-message {} 100", message),
+            "10@18 3 7 0 16 0 0 0",
+        ),
+        (
+            &format!("m-response {} 100", response),
+            "10@11 3 7 0 16 0 0 0",
+        ),
+        (
+            &format!("m-order {} 2", hex::write(&record)),
+            "10@47 3 7 0 16 0 0 0 FFFF",
+        ),
+    ]);
+}
+
 /// States of any numbers; the sums pass 32 bits.
 #[test]
 fn states() {

@@ -35,7 +35,7 @@ fn restart(date: u32, book: &[u8]) -> String {
     format!("restart {} {}", date, hex::write(book))
 }
 
-fn append(date: u32, book: &[u8], room: usize, message: &[u8]) -> String {
+pub fn append(date: u32, book: &[u8], room: usize, message: &[u8]) -> String {
     let (book, message) = (hex::write(book), hex::write(message));
     format!("append {} {} {} {}", date, book, room, message)
 }

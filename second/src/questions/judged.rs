@@ -92,7 +92,7 @@ pub fn writes(lines: &[String]) -> Seen {
             assert_eq!(after, buffer);
         }
         if !record.is_empty() {
-            let number = number.parse().unwrap();
+            let number = ask::number_of(number).parse().unwrap();
             *seen.entry((record[0], number)).or_default() += 1;
         }
     }

@@ -165,7 +165,7 @@ mod tests {
         for line in More::new(3).skip(190).take(12_000) {
             let answer = ask::answer(line.as_bytes());
             let words: Vec<&str> = line.split(' ').collect();
-            let number = answer.split(' ').next().unwrap();
+            let number = ask::number_of(answer.split(' ').next().unwrap());
             seen.insert(format!("{} {}", words[0], number));
             if words[0] != "read" && words[0] != "write" {
                 of_books += 1;

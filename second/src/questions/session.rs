@@ -2,6 +2,7 @@
 
 mod damage;
 pub mod faults;
+pub mod places;
 mod read;
 pub mod sample;
 mod write;

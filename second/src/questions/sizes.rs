@@ -105,7 +105,7 @@ fn of_type(lines: &mut Vec<String>, random: &mut Random, sample: &impl Parts) {
 }
 
 /// A question about reading into a buffer of a size.
-fn into(random: &mut Random, direction: u8, bytes: &[u8], size: usize) -> String {
+pub fn into(random: &mut Random, direction: u8, bytes: &[u8], size: usize) -> String {
     let (bytes, buffer) = (hex::write(bytes), hex::write(&pattern(random, size)));
     format!("read-into {} {} {}", direction, bytes, buffer)
 }
@@ -141,7 +141,7 @@ fn read_into(lines: &mut Vec<String>, random: &mut Random, sample: &impl Parts) 
 mod tests {
     use super::*;
     use crate::ask;
-    use crate::rules::{self, frame, read, types};
+    use crate::rules::{frame, read, types};
     use std::collections::BTreeSet;
 
     /// The bytes that the record of a type has, by the table of README.md.
@@ -208,8 +208,7 @@ mod tests {
             let size = hex::read(words[3]).unwrap().len();
             let answer = ask::answer(question.as_bytes());
             let (number, after) = answer.split_once(' ').unwrap();
-            let refusal = rules::refusal(read::message(direction, &bytes));
-            if refusal != 0 {
+            if let Err(refusal) = read::message(direction, &bytes) {
                 assert_eq!((number, after), (&refusal.to_string()[..], words[3]));
                 continue;
             }

@@ -63,6 +63,20 @@ pub fn some_value(random: &mut Random, kind: Kind, width: usize, least: usize) -
     value
 }
 
+/// Makes a text bad: by its first byte, by its last, or by a character after a NUL.
+pub fn spoil(random: &mut Random, kind: Kind, value: &mut [u8]) {
+    let last = value.len() - 1;
+    let bad = random.pick(bad_bytes(kind));
+    match random.below(3) {
+        0 => value[0] = bad,
+        1 if last > 0 => {
+            value[random.between(0, last - 1)] = 0;
+            value[last] = b'A';
+        }
+        _ => value[last] = bad,
+    }
+}
+
 /// A number of a header or a pair, with both ends and small ones among them.
 pub fn some_number(random: &mut Random) -> u32 {
     match random.below(8) {
@@ -84,6 +98,20 @@ mod tests {
             assert!(bad_bytes(kind).iter().all(|byte| !kind.takes(*byte)));
             assert!(end_bytes(kind).iter().all(|byte| kind.takes(*byte)));
             assert_eq!(bad_bytes(kind).is_empty(), !textual(kind));
+        }
+    }
+
+    #[test]
+    fn spoiled_texts() {
+        let mut random = Random::new(193);
+        for kind in kinds::ALL.into_iter().filter(|kind| textual(*kind)) {
+            for width in [1, 2, 20] {
+                for _ in 0..100 {
+                    let mut value = some_value(&mut random, kind, width, 0);
+                    spoil(&mut random, kind, &mut value);
+                    assert!(!kinds::agrees(kind, &value));
+                }
+            }
         }
     }
 }

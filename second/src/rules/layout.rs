@@ -78,6 +78,14 @@ impl Listed {
     }
 }
 
+impl Place {
+    /// 10 in an optional field.
+    pub fn check(&self, value: &[u8]) -> Result<(), Refusal> {
+        let good = kinds::agrees(self.field.kind, value);
+        check(good, Refusal::Value(self.wire))
+    }
+}
+
 impl Rule {
     pub fn takes(self, value: &[u8]) -> bool {
         match self {
@@ -145,7 +153,7 @@ impl Layout {
         self.bitfields_place() + bitfields.len() + fields
     }
 
-    // What reading and writing both check, each giving one number.
+    // What reading and writing both check, each giving one number and its place in the message.
 
     /// 5; the number may be any.
     pub fn check_unit(&self, unit: u8) -> Result<(), Refusal> {
@@ -157,43 +165,43 @@ impl Layout {
 
     /// 7
     pub fn check_count(&self, count: u8) -> Result<(), Refusal> {
-        check(usize::from(count) <= self.most, Refusal::Count)
+        let good = usize::from(count) <= self.most;
+        check(good, Refusal::Count(self.count_place()))
     }
 
     /// 8
     pub fn check_bits(&self, bitfields: &[u8]) -> Result<(), Refusal> {
         for (index, bitfield) in bitfields.iter().enumerate() {
             let listed = self.listed_bits(index + 1);
-            check(bitfield & !listed == 0, Refusal::Bit)?;
+            let place = self.bitfields_place() + index;
+            check(bitfield & !listed == 0, Refusal::Bit(place))?;
         }
         Ok(())
     }
 
     /// 9
     pub fn check_required(&self, bitfields: &[u8]) -> Result<(), Refusal> {
+        let last = self.count_place() + bitfields.len();
         for group in self.required {
             let found = self
                 .listed
                 .iter()
                 .any(|field| group.contains(&field.name) && field.selected(bitfields));
-            check(found, Refusal::Missing)?;
+            check(found, Refusal::Missing(last))?;
         }
         Ok(())
     }
 
     /// 10 in the fixed part, which has its full width here.
     pub fn check_fixed(&self, part: &[u8]) -> Result<(), Refusal> {
+        let mut place = HEADER;
         let mut rest = part;
         for field in self.fixed {
             let (value, after) = rest.split_at(field.width);
-            check(field.rule.takes(value), Refusal::Value)?;
+            check(field.rule.takes(value), Refusal::Value(place))?;
+            place += field.width;
             rest = after;
         }
         Ok(())
     }
-}
-
-/// 10 in an optional field.
-pub fn check_optional(field: &Listed, value: &[u8]) -> Result<(), Refusal> {
-    check(kinds::agrees(field.kind, value), Refusal::Value)
 }

@@ -1,7 +1,7 @@
 //! Reading a message (document 01, "Numbers of refusal", the reading order).
 
 use super::frame::{self, HEADER};
-use super::layout::{self, Layout};
+use super::layout::Layout;
 use super::record::{Record, BITFIELDS, FIXED, SLOTS};
 use super::session::Session;
 use super::{check, Refusal};
@@ -43,17 +43,18 @@ fn with_bitfields(layout: &Layout, message: &[u8]) -> Result<Record, Refusal> {
     layout.check_unit(header.unit)?;
 
     // The total is judged three times: up to the count byte, up to the end of the bitfields, and
-    // in whole.
+    // in whole. It is the place that is told in each of them.
+    let total = message.len();
     let first = layout.bitfields_place();
-    check(message.len() >= first, Refusal::Total)?;
+    check(total >= first, Refusal::Total(total))?;
     let count = message[layout.count_place()];
     layout.check_count(count)?;
     let end = first + usize::from(count);
-    check(message.len() >= end, Refusal::Total)?;
+    check(total >= end, Refusal::Total(total))?;
     let bitfields = &message[first..end];
     layout.check_bits(bitfields)?;
     layout.check_required(bitfields)?;
-    check(message.len() == layout.total(bitfields), Refusal::Total)?;
+    check(total == layout.total(bitfields), Refusal::Total(total))?;
 
     let mut record = Record {
         type_byte: header.type_byte,
@@ -71,7 +72,7 @@ fn with_bitfields(layout: &Layout, message: &[u8]) -> Result<Record, Refusal> {
     for place in layout.places(bitfields) {
         let width = place.field.width;
         let value = &message[place.wire..place.wire + width];
-        layout::check_optional(place.field, value)?;
+        place.check(value)?;
         record.slots[place.slot..place.slot + width].copy_from_slice(value);
     }
     Ok(record)
@@ -143,6 +144,39 @@ mod tests {
         assert_eq!(least.slots, [0; SLOTS]);
         assert_eq!(refusal(0, &examples::cancel_of_another_bit()), 8);
         assert_eq!(refusal(0, &examples::cancel_of_three_bitfields()), 7);
+    }
+
+    /// The New Order example with bytes changed.
+    fn changed(changes: &[(usize, u8)]) -> Refusal {
+        let mut example = examples::new_order();
+        for (place, byte) in changes {
+            example[*place] = *byte;
+        }
+        message(0, &example).unwrap_err()
+    }
+
+    #[test]
+    fn places_of_the_example() {
+        assert_eq!(changed(&[(2, 0x49)]), Refusal::Total(75));
+        assert_eq!(changed(&[(35, 0x0B)]), Refusal::Count(35));
+        assert_eq!(changed(&[(37, 0xC9)]), Refusal::Bit(37));
+        assert_eq!(changed(&[(37, 0xC0)]), Refusal::Missing(38));
+        assert_eq!(changed(&[(60, 0x07)]), Refusal::Value(60));
+        assert_eq!(changed(&[(75, 0x07)]), Refusal::Value(60));
+        assert_eq!(changed(&[(30, 0)]), Refusal::Value(30));
+        assert_eq!(changed(&[(30, 0), (60, 0x07)]), Refusal::Value(30));
+        assert_eq!(changed(&[(31, 0), (32, 0)]), Refusal::Value(31));
+        assert_eq!(changed(&[(29, 1), (30, 0), (33, 255)]), Refusal::Value(10));
+        // The first bad bitfield, and the end that the header tells.
+        assert_eq!(changed(&[(37, 0x0C), (38, 2)]), Refusal::Bit(37));
+        assert_eq!(changed(&[(37, 0), (38, 2)]), Refusal::Bit(38));
+        assert_eq!(changed(&[(35, 0), (2, 34)]), Refusal::Missing(35));
+        assert_eq!(changed(&[(35, 1), (2, 50)]), Refusal::Missing(36));
+        assert_eq!(changed(&[(2, 8)]), Refusal::Total(10));
+        assert_eq!(changed(&[(2, 33)]), Refusal::Total(35));
+        assert_eq!(changed(&[(2, 34)]), Refusal::Total(36));
+        assert_eq!(changed(&[(2, 36)]), Refusal::Total(38));
+        assert_eq!(changed(&[(2, 37)]), Refusal::Total(39));
     }
 
     #[test]

@@ -134,10 +134,11 @@ impl Session {
         let body = &message[HEADER..];
         if !self.lists.is_empty() {
             // The first count byte belongs to the fixed part.
-            check(body.len() > self.fields_width(), Refusal::Total)?;
+            let good = body.len() > self.fields_width();
+            check(good, Refusal::Total(message.len()))?;
         }
         let rest = self.check_body(body)?;
-        check(rest.is_empty(), Refusal::Total)?;
+        check(rest.is_empty(), Refusal::Total(message.len()))?;
 
         let mut record = vec![header.type_byte, header.unit];
         record.extend(header.number.to_le_bytes());
@@ -170,14 +171,16 @@ impl Session {
     /// 10 in the fields, then 11 in the flag and the lists; what follows the last list is left.
     /// The fields are all there.
     fn check_body<'a>(&self, body: &'a [u8]) -> Result<&'a [u8], Refusal> {
+        let mut place = HEADER;
         let mut after = body;
         let mut flag = None;
         for field in self.fields {
             let (value, rest) = after.split_at(field.width);
-            check(field.takes(value), Refusal::Value)?;
+            check(field.takes(value), Refusal::Value(place))?;
             if self.flag == Some(field.name) {
                 flag = Some(value[0]);
             }
+            place += field.width;
             after = rest;
         }
         if let Some(flag) = flag {

@@ -3,7 +3,7 @@
 
 use super::frame::{self, Header};
 use super::kinds;
-use super::layout::{self, Layout, Place};
+use super::layout::{Layout, Place};
 use super::record::{Record, BODY_PLACE, SESSION_SIZE, SIZE};
 use super::session::Session;
 use super::{check, Refusal};
@@ -58,7 +58,7 @@ fn with_bitfields(layout: &Layout, record: &Record) -> Result<Vec<u8>, Refusal> 
     let places = layout.places(bitfields);
     layout.check_fixed(fixed)?;
     for place in &places {
-        layout::check_optional(place.field, value(record, place))?;
+        place.check(value(record, place))?;
     }
     check(unused_is_zero(layout, record, &places), Refusal::Unused)?;
 
@@ -172,6 +172,32 @@ mod tests {
         let mut buffer = [0xEE; 76];
         assert_eq!(refusal(0, &bad, &mut buffer), 0);
         assert_eq!(buffer[..], examples::new_order());
+    }
+
+    /// The places are those of the message that would be written: Symbol's slot is at 81 + 27 of
+    /// the record, and with OrdType for Price it stands seven bytes earlier in the message.
+    #[test]
+    fn places_of_the_example() {
+        let good = record_of(0, &examples::new_order());
+        let changed = |changes: &[(usize, u8)]| {
+            let mut bad = good.clone();
+            for (place, byte) in changes {
+                bad[*place] = *byte;
+            }
+            record(0, &bad, &mut []).unwrap_err()
+        };
+        assert_eq!(changed(&[(108, 0x2D)]), Refusal::Value(47));
+        assert_eq!(changed(&[(66, 16), (108, 0x2D)]), Refusal::Value(40));
+        assert_eq!(changed(&[(66, 16), (98, 7)]), Refusal::Value(39));
+        assert_eq!(changed(&[(65, 4), (108, 0x2D)]), Refusal::Value(48));
+        assert_eq!(changed(&[(26, 0), (108, 0x2D)]), Refusal::Value(30));
+        assert_eq!(changed(&[(27, 0), (28, 0)]), Refusal::Value(31));
+        assert_eq!(changed(&[(144, 7)]), Refusal::Value(60));
+        assert_eq!(changed(&[(65, 11)]), Refusal::Count(35));
+        assert_eq!(changed(&[(67, 0xC9)]), Refusal::Bit(37));
+        assert_eq!(changed(&[(67, 0xC0)]), Refusal::Missing(38));
+        assert_eq!(changed(&[(65, 0)]), Refusal::Missing(35));
+        assert_eq!(changed(&[(234, 1)]), Refusal::Unused);
     }
 
     /// Every place of a record that P5 does not use must be zero, and no other place gives 12.

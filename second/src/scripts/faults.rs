@@ -19,6 +19,17 @@ use crate::rules::types::VENUE;
 
 /// A day up to a live session, and then all faults.
 pub fn round(driver: &mut Driver) {
+    to_live(driver);
+    gets(driver);
+    kinds(driver);
+    orders(driver);
+    logs(driver);
+    venue(driver);
+    driver.books();
+}
+
+/// A new book, some messages in the log, and a session whose replay is completed.
+pub fn to_live(driver: &mut Driver) {
     driver.open();
     for _ in 0..3 {
         driver.log();
@@ -26,12 +37,6 @@ pub fn round(driver: &mut Driver) {
     driver.break_venue();
     day::log_in(driver);
     day::complete(driver);
-    gets(driver);
-    kinds(driver);
-    orders(driver);
-    logs(driver);
-    venue(driver);
-    driver.books();
 }
 
 // Messages.
@@ -136,7 +141,7 @@ fn of_session(random: &mut Random, which: usize) -> Vec<Vec<u8>> {
 // Calls.
 
 /// The member's phase alone is changed.
-fn set_phase(driver: &mut Driver, phase: u8, outgoing: u32) {
+pub fn set_phase(driver: &mut Driver, phase: u8, outgoing: u32) {
     let book = &driver.bench.member.book;
     let line = format!(
         "m-state {} {} {} {} {} {} {}",

@@ -54,7 +54,8 @@ fn each_question_gets_each_refusal() {
             "m-state", "m-break", "m-book", "v-state", "v-break", "v-book",
         ];
         if answer != "?" && !silent.contains(&call) {
-            let number = answer.split(' ').next().unwrap().parse().unwrap();
+            let number = answer.split(' ').next().unwrap();
+            let number = ask::number_of(number).parse().unwrap();
             seen.entry(call.to_string()).or_default().insert(number);
         }
     }
@@ -144,7 +145,8 @@ fn gets_in_each_phase() {
         for (question, answer) in script {
             let call = question.split(' ').next().unwrap().to_string();
             if answer != "?" && GETS.contains(&&call[..]) {
-                let number = answer.split(' ').next().unwrap().parse().unwrap();
+                let number = answer.split(' ').next().unwrap();
+                let number = ask::number_of(number).parse().unwrap();
                 seen.entry((call, phase)).or_default().insert(number);
             }
             phase = phase_of(&question, &answer).unwrap_or(phase);

@@ -34,7 +34,7 @@ returns-2 : tie.Need-returns-2
 returns-2 c =
     let a = c .before .before .before .before .before .args in (
       there (now (a .msg)) (a .width) (a .kind) (judging (a .t)) (omega arith)
-          (c .worse .ensures ∙ ap (worseOf (a .t .wrong)) (c .before .agrees .ensures)),
+          (c .worse .ensures ∙ ap (worseOf (a .t .at) (a .t .wrong)) (c .before .agrees .ensures)),
       omega arith,
     )
 

@@ -16,7 +16,7 @@ returns c =
     let start = c .before .before .before .before in
     let a = start .args in
     let m = judgeEntry (now (a .msg)) in (
-      byte-given m (a .message) (a .count) (now (a .bits)) (a .byte) _ (judging (a .t)) _ (omega arith) (omega arith) (c .before .byte-of .ensures) (byte-clear m (a .message) (a .byte) _ (judging (a .t)) (c .if1 .taken)),
+      byte-given m (a .message) (a .count) (now (a .bits)) (a .byte) _ (judging (a .t)) _ (omega arith) (omega arith) (c .before .byte-of .ensures) (byte-clear (m (a .byte)) (a .message) (a .byte) _ (judging (a .t)) (c .if1 .taken)),
       omega arith,
     )
 

@@ -4,7 +4,7 @@ use mathlib.Core.Path.{refl, ap}
 use Prim.Native.Nat.{ℕ}
 use native.Mathlib.Omega.{arith}
 use denote.Ref.{now}
-use Rattle.block.specs.Walk.{storeEntry}
+use Rattle.block.specs.Walk.{anyByte, storeEntry}
 use Rattle.block.specs.Loops.{bytes-end}
 use Rattle.block.specs.Fits.{left}
 use Rattle.block.specs.Sizes.{allPlaces}
@@ -17,7 +17,7 @@ use Rattle.block_store.proofs.store_all.Tie as tie
 returns : tie.Need-returns
 returns c =
     let a = c .before .before .before .before .args in
-    bytes-end (storeEntry (now (a .msg))) (a .message) (a .count) (now (a .bits)) 0 (storing 0 (now (a .layout))) _ (omega arith) refl
+    bytes-end (anyByte (storeEntry (now (a .msg)))) (a .message) (a .count) (now (a .bits)) 0 (storing 0 (now (a .layout))) _ (omega arith) refl
 
 new-order-bytes-requires : tie.Need-new-order-bytes-requires
 new-order-bytes-requires c κs =

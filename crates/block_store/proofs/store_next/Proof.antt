@@ -2,7 +2,7 @@
 -- fields and those of the bytes after it. Assumes nothing.
 use native.Mathlib.Omega.{arith}
 use denote.Ref.{now}
-use Rattle.block.specs.Walk.{storeEntry}
+use Rattle.block.specs.Walk.{anyByte, storeEntry}
 use Rattle.block.specs.Loops.{byte-clear, byte-given}
 use Rattle.block.specs.Fits.{left-byte}
 use Rattle.block_store.specs.State.{storing}
@@ -19,7 +19,7 @@ returns c =
     let start = got .before .before .before .before in
     let a = start .args in
     let st = storing (a .at) (now (a .layout)) in (
-      byte-given (storeEntry (now (a .msg))) (a .message) (a .count) (now (a .bits)) (a .byte) _ st st (start .pre .3) (start .pre .2) (got .byte-of .ensures)
+      byte-given (anyByte (storeEntry (now (a .msg)))) (a .message) (a .count) (now (a .bits)) (a .byte) _ st st (start .pre .3) (start .pre .2) (got .byte-of .ensures)
           (byte-clear (storeEntry (now (a .msg))) (a .message) (a .byte) _ st (c .if1 .taken)),
       omega (arith, left-byte (a .message) (a .count) (now (a .bits)) (a .byte) _ (start .pre .3) (start .pre .4) (got .byte-of .ensures)),
     )
@@ -40,7 +40,7 @@ returns-2 c =
     let got = put .before .before .before in
     let start = got .before .before .before .before in
     let a = start .args in (
-      byte-given (storeEntry (now (a .msg))) (a .message) (a .count) (now (a .bits)) (a .byte) _ (storing (a .at) (now (a .layout))) _ (start .pre .3) (start .pre .2) (got .byte-of .ensures)
+      byte-given (anyByte (storeEntry (now (a .msg)))) (a .message) (a .count) (now (a .bits)) (a .byte) _ (storing (a .at) (now (a .layout))) _ (start .pre .3) (start .pre .2) (got .byte-of .ensures)
           (put .store-bits .ensures .0),
       omega (arith, put .store-bits .ensures .1, left-byte (a .message) (a .count) (now (a .bits)) (a .byte) _ (start .pre .3) (start .pre .4) (got .byte-of .ensures)),
     )

@@ -6,7 +6,7 @@ use borrow.Author.Tests.{eq-eqb, ne-eqb}
 use denote.Ref.{now}
 use Rattle.block.specs.Dictionaries.{field-fits}
 use Rattle.block.specs.Loops.{bit-set, bit-unset}
-use Rattle.block.specs.Walk.{lookEntry}
+use Rattle.block.specs.Walk.{lookHere}
 use Rattle.block_write.specs.State.{looking}
 use borrow.Author.Needs.{needs}
 use Rattle.block_write.proofs.look_bit.Statement.{statement}
@@ -29,11 +29,11 @@ look-field-requires c κs =
     (omega (arith, field-fits _ _ _ (sym (known .e .given .1) ∙ looked .entry-of .ensures)), start .pre .1)
 
 returns : tie.Need-returns
-unfolding lookEntry
+unfolding lookHere
 returns c =
     let looked = c .before .before in
     let a = looked .before .before .before .args in (
-      bit-set lookEntry _ _ (looking (a .s) (now (a .rest))) (eq-eqb _ _ (looked .before .if1 .taken)) (sym (c .enum-told .given .1) ∙ looked .entry-of .ensures) refl,
+      bit-set (lookHere (a .byte)) _ _ (looking (a .s) (now (a .rest))) (eq-eqb _ _ (looked .before .if1 .taken)) (sym (c .enum-told .given .1) ∙ looked .entry-of .ensures) refl,
       omega arith,
     )
 
@@ -41,20 +41,21 @@ same-length : tie.Need-same-length
 same-length c = search needs
 
 returns-2 : tie.Need-returns-2
+unfolding lookHere
 returns-2 c =
     let given = c .before .before in
     let known = given .before .before .before in
     let looked = known .before .before in
     let a = looked .before .before .before .args in
     let field = given .look-field .ensures in (
-      bit-set lookEntry _ _ (looking (a .s) (now (a .rest))) (eq-eqb _ _ (looked .before .if1 .taken)) (sym (known .e .given .1) ∙ looked .entry-of .ensures) (field .0),
+      bit-set (lookHere (a .byte)) _ _ (looking (a .s) (now (a .rest))) (eq-eqb _ _ (looked .before .if1 .taken)) (sym (known .e .given .1) ∙ looked .entry-of .ensures) (field .0),
       field .1,
     )
 
 returns-3 : tie.Need-returns-3
 returns-3 c =
     let a = c .before .before .args in
-    (bit-unset lookEntry _ _ (looking (a .s) (now (a .rest))) (ne-eqb _ _ (c .if1 .left)), omega arith)
+    (bit-unset (lookHere (a .byte)) _ _ (looking (a .s) (now (a .rest))) (ne-eqb _ _ (c .if1 .left)), omega arith)
 
 pub look-bit-spec : {M : Type 1} → statement M
 look-bit-spec =

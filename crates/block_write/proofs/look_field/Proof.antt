@@ -52,7 +52,7 @@ returns c =
     let after-agrees = after-clear .before .before in
     let a = after-agrees .before .before .before .before .args in (
       looked-is (now (a .rest)) (a .width) (a .place) (a .kind) (a .s .total) (a .s .wrong) (a .s .bad)
-          (c .worse .ensures ∙ ap (worseOf (a .s .wrong)) (after-agrees .agrees .ensures))
+          (c .worse .ensures ∙ ap (worseOf (a .s .total) (a .s .wrong)) (after-agrees .agrees .ensures))
           (lent-patched (now (a .rest)) (a .place) _ (omega arith) (after-clear .clear .ensures)),
       omega arith,
     )

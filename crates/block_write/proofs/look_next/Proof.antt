@@ -20,7 +20,7 @@ returns c =
     let a = start .args in
     let st = looking (a .s) (now (a .rest)) in (
       byte-given lookEntry (a .message) (a .count) (now (a .bits)) (a .byte) _ st st (start .pre .0) (start .pre .3 .few) (told .byte-of .ensures)
-          (byte-clear lookEntry (a .message) (a .byte) _ st (c .if1 .taken)),
+          (byte-clear (lookEntry (a .byte)) (a .message) (a .byte) _ st (c .if1 .taken)),
       record { sized = start .pre .3 .sized; there = start .pre .3 .there; few = start .pre .3 .few; bound = omega arith },
     )
 

@@ -1,8 +1,11 @@
 -- `order_writer::top_refusal` meets its contract. Assumes nothing.
 use borrow.Author.Tests.{lt-ltb, le-ltb, not-true, not-false}
-use mathlib.Core.Path.{_≡_, sym, _∙_}
+use mathlib.Core.Path.{_≡_, sym, ap, _∙_}
+use Rattle.refusals.specs.Names.{tooManyBitfields}
+use Rattle.refusals.specs.Told.{told}
 use Rattle.order_writer.specs.Stages.{topRefusal}
 use Rattle.orders.specs.Shapes.{mostOf}
+use Rattle.orders.specs.OrderLaws.{count-bounds}
 use native.Mathlib.Omega.{arith}
 use borrow.Author.Needs.{needs}
 use Rattle.order_writer.proofs.top_refusal.Statement.{statement}
@@ -25,12 +28,25 @@ returns-2 c = rw (sym (c .before .before .before .is-known .ensures) ∙ not-fal
 most-of-requires : tie.Need-most-of-requires
 most-of-requires c κs = search needs
 
+count-at-requires : tie.Need-count-at-requires
+count-at-requires c κs = search needs
+
+told-requires : tie.Need-told-requires
+told-requires c κs =
+    let a = c .before .before .before .before .before .before .before .args in
+    (omega arith, omega (arith, c .count-at .ensures, count-bounds (a .message) .high))
+
 returns-3 : tie.Need-returns-3
 unfolding topRefusal
 returns-3 c =
-    let a = c .before .before .before .before .before .before .args in
-    let n : _ ≡ mostOf (a .message) = c .before .most-of .ensures in
-    rw (sym (c .before .before .before .before .before .is-known .ensures) ∙ not-false _ (c .before .before .before .before .if1 .left), sym (c .before .before .before .unit-good .ensures) ∙ not-false _ (c .before .before .if2 .left), lt-ltb (mostOf (a .message)) (a .count) (omega arith))
+    let most = c .before .before .before in
+    let good = most .before .before in
+    let known = good .before .before in
+    let a = known .before .args in
+    let n : _ ≡ mostOf (a .message) = most .most-of .ensures in
+    c .told .ensures
+    ∙ ap (told tooManyBitfields) (c .before .count-at .ensures)
+    ∙ rw (sym (known .is-known .ensures) ∙ not-false _ (good .before .if1 .left), sym (good .unit-good .ensures) ∙ not-false _ (most .before .if2 .left), lt-ltb (mostOf (a .message)) (a .count) (omega (arith, n, c .before .before .if3 .taken)))
 
 returns-4 : tie.Need-returns-4
 unfolding topRefusal
@@ -48,5 +64,7 @@ top-refusal-spec =
     unit-good-requires
     returns-2
     most-of-requires
+    count-at-requires
+    told-requires
     returns-3
     returns-4)

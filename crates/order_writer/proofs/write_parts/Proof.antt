@@ -1,6 +1,6 @@
 -- `order_writer::write_parts` meets its contract. Assumes nothing.
 use Rattle.order_writer.specs.Stages.{topRefusal, recordFrom}
-use Rattle.order_writer.proofs.Writing.{count-fits, seen-stops, room-decides, size-is, total-small, buffer-kept, buffer-written, bytes-are, top-stops}
+use Rattle.order_writer.proofs.Writing.{count-fits, bad-near, wrong-near, seen-stops, room-decides, size-is, total-small, buffer-kept, buffer-written, bytes-are, top-stops}
 use Rattle.refusals.specs.Names.{noRoom}
 use Rattle.numbers.specs.Numbers.{patched}
 use Rattle.numbers.specs.NumberLaws.{patched-whole}
@@ -112,7 +112,10 @@ slice-aggregate-seen-refusal c = search needs
 seen-refusal-requires : tie.Need-seen-refusal-requires
 seen-refusal-requires c κs =
     let look = c .before .before in
-    (start-of look .pre .0, start-of look .pre .2, few (past-top look))
+    let start = start-of look in
+    let near = bad-near (parts start) (look .look-all .result) _ (start .pre .1) (looked-at look) in
+    let close = wrong-near (parts start) (look .look-all .result) _ (start .pre .1) (looked-at look) in
+    (start .pre .0, start .pre .2, few (past-top look), near, close)
 
 returns-2 : tie.Need-returns-2
 returns-2 c =

@@ -1,5 +1,6 @@
 -- `orders::execution_rest` meets its contract. Assumes nothing.
 use mathlib.Core.Path.{sym, _∙_}
+use borrow.Author.Tests.{not-true, not-false}
 use borrow.Author.Needs.{needs}
 use Rattle.orders.proofs.execution_rest.Statement.{statement}
 use Rattle.orders.proofs.execution_rest.Tie as tie
@@ -16,6 +17,9 @@ part-agrees-end c = search needs
 agrees-requires : tie.Need-agrees-requires
 agrees-requires c κs = search needs
 
+returns : tie.Need-returns
+returns c = rw (sym (c .before .agrees .ensures) ∙ not-true _ (c .if1 .taken))
+
 sub-agrees-2 : tie.Need-sub-agrees-2
 sub-agrees-2 c = search needs
 
@@ -27,6 +31,12 @@ part-agrees-end-2 c = search needs
 
 agrees-requires-2 : tie.Need-agrees-requires-2
 agrees-requires-2 c κs = search needs
+
+returns-2 : tie.Need-returns-2
+returns-2 c =
+    let second = c .before in
+    let first = second .before .before .before in
+    rw (sym (first .agrees .ensures) ∙ not-false _ (second .before .before .if1 .left), sym (second .agrees2 .ensures) ∙ not-true _ (c .if2 .taken))
 
 sub-agrees-3 : tie.Need-sub-agrees-3
 sub-agrees-3 c = search needs
@@ -40,20 +50,19 @@ part-agrees-end-3 c = search needs
 agrees-requires-3 : tie.Need-agrees-requires-3
 agrees-requires-3 c κs = search needs
 
-returns : tie.Need-returns
-returns c =
-    let second = c .before .before .before in
-    let first = second .before .before .before in
-    rw (sym (first .agrees .ensures) ∙ second .before .before .if1 .taken, sym (second .agrees2 .ensures) ∙ c .before .before .if2 .taken) (c .agrees3 .ensures)
-
-returns-2 : tie.Need-returns-2
-returns-2 c =
-    let second = c .before in
-    let first = second .before .before .before in
-    rw (sym (first .agrees .ensures) ∙ second .before .before .if1 .taken, sym (second .agrees2 .ensures) ∙ c .if2 .left)
-
 returns-3 : tie.Need-returns-3
-returns-3 c = rw (sym (c .before .agrees .ensures) ∙ c .if1 .left)
+returns-3 c =
+    let third = c .before in
+    let second = third .before .before .before in
+    let first = second .before .before .before in
+    rw (sym (first .agrees .ensures) ∙ not-false _ (second .before .before .if1 .left), sym (second .agrees2 .ensures) ∙ not-false _ (third .before .before .if2 .left), sym (third .agrees3 .ensures) ∙ not-true _ (c .if3 .taken))
+
+returns-4 : tie.Need-returns-4
+returns-4 c =
+    let third = c .before in
+    let second = third .before .before .before in
+    let first = second .before .before .before in
+    rw (sym (first .agrees .ensures) ∙ not-false _ (second .before .before .if1 .left), sym (second .agrees2 .ensures) ∙ not-false _ (third .before .before .if2 .left), sym (third .agrees3 .ensures) ∙ not-false _ (c .if3 .left))
 
 pub execution-rest-spec : {M : Type 1} → statement M
 execution-rest-spec =
@@ -63,14 +72,15 @@ execution-rest-spec =
     part-agrees-start
     part-agrees-end
     agrees-requires
+    returns
     sub-agrees-2
     part-agrees-start-2
     part-agrees-end-2
     agrees-requires-2
+    returns-2
     sub-agrees-3
     part-agrees-start-3
     part-agrees-end-3
     agrees-requires-3
-    returns
-    returns-2
-    returns-3)
+    returns-3
+    returns-4)

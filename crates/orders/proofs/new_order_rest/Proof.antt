@@ -1,13 +1,12 @@
 -- `orders::new_order_rest` meets its contract. Assumes nothing.
 use Rattle.numbers.specs.Numbers.{numberAt}
 use denote.Ref.{now}
-use borrow.Author.Tests.{le-leb, lt-leb}
-use lib.Dec.{leb}
+use borrow.Author.Tests.{le-leb, lt-leb, not-true, not-false}
 use lib.ListN.{getD, take, drop}
 use lib.Seq.{getD-take, getD-drop}
 use native.Mathlib.Omega.{arith}
 use Prim.Native.Nat.{ℕ, _+_, _<_}
-use mathlib.Core.Path.{_≡_, sym, ap, _∙_}
+use mathlib.Core.Path.{_≡_, sym, _∙_}
 use mathlib.Core.List.{List}
 use borrow.Author.Needs.{needs}
 use Rattle.orders.proofs.new_order_rest.Statement.{statement}
@@ -31,6 +30,9 @@ part-agrees-filled-end c = search needs
 agrees-filled-requires : tie.Need-agrees-filled-requires
 agrees-filled-requires c κs = search needs
 
+returns : tie.Need-returns
+returns c = rw (sym (c .before .agrees-filled .ensures) ∙ not-true _ (c .if1 .taken))
+
 sub-read-u32 : tie.Need-sub-read-u32
 sub-read-u32 c = search needs
 
@@ -43,22 +45,29 @@ part-read-u32-end c = search needs
 read-u32-requires : tie.Need-read-u32-requires
 read-u32-requires c κs = search needs
 
-returns : tie.Need-returns
-returns c =
-    let first = c .before .before .before .before in
-    let f = now (first .before .before .before .args .f) in
-    let n = c .before .read-u32 .ensures ∙ quantity-is f in
-    rw (sym (first .agrees-filled .ensures) ∙ c .before .before .before .if1 .taken, le-leb 1 (numberAt 4 21 f) (omega (arith, n, c .if2 .taken))) (ap (λ (x : ℕ). leb x 999999) n)
-
 returns-2 : tie.Need-returns-2
 returns-2 c =
-    let first = c .before .before .before .before in
+    let read = c .before in
+    let first = read .before .before .before in
     let f = now (first .before .before .before .args .f) in
-    let n = c .before .read-u32 .ensures ∙ quantity-is f in
-    rw (sym (first .agrees-filled .ensures) ∙ c .before .before .before .if1 .taken, lt-leb 1 (numberAt 4 21 f) (omega (arith, n, c .if2 .left)))
+    let n = read .read-u32 .ensures ∙ quantity-is f in
+    rw (sym (first .agrees-filled .ensures) ∙ not-false _ (read .before .before .if1 .left), lt-leb 1 (numberAt 4 21 f) (omega (arith, n, c .if2 .taken)))
 
 returns-3 : tie.Need-returns-3
-returns-3 c = rw (sym (c .before .agrees-filled .ensures) ∙ c .if1 .left)
+returns-3 c =
+    let read = c .before .before in
+    let first = read .before .before .before in
+    let f = now (first .before .before .before .args .f) in
+    let n = read .read-u32 .ensures ∙ quantity-is f in
+    rw (sym (first .agrees-filled .ensures) ∙ not-false _ (read .before .before .if1 .left), le-leb 1 (numberAt 4 21 f) (omega (arith, n, c .before .if2 .left)), lt-leb (numberAt 4 21 f) 999999 (omega (arith, n, c .if3 .taken)))
+
+returns-4 : tie.Need-returns-4
+returns-4 c =
+    let read = c .before .before in
+    let first = read .before .before .before in
+    let f = now (first .before .before .before .args .f) in
+    let n = read .read-u32 .ensures ∙ quantity-is f in
+    rw (sym (first .agrees-filled .ensures) ∙ not-false _ (read .before .before .if1 .left), le-leb 1 (numberAt 4 21 f) (omega (arith, n, c .before .if2 .left)), le-leb (numberAt 4 21 f) 999999 (omega (arith, n, c .if3 .left)))
 
 pub new-order-rest-spec : {M : Type 1} → statement M
 new-order-rest-spec =
@@ -68,10 +77,11 @@ new-order-rest-spec =
     part-agrees-filled-start
     part-agrees-filled-end
     agrees-filled-requires
+    returns
     sub-read-u32
     part-read-u32-start
     part-read-u32-end
     read-u32-requires
-    returns
     returns-2
-    returns-3)
+    returns-3
+    returns-4)

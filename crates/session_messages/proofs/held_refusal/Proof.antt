@@ -1,5 +1,7 @@
 -- `session_messages::held_refusal` meets its contract. Assumes nothing.
-use Rattle.session_messages.proofs.Stages.{held-of, bad-values, bad-groups, not-zero, is-held}
+use Rattle.refusals.specs.Names.{badValue}
+use Rattle.refusals.specs.Told.{told}
+use Rattle.session_messages.proofs.Stages.{are-good, are-bad, are-near, held-of, bad-values, bad-groups, not-zero, is-held}
 use Rattle.session_messages.specs.Sessions.{fixedSize, valuesGood, heldRefusal}
 use borrow.Author.Tests.{lt-ltb, not-true, not-false}
 use lib.ListN.{length}
@@ -7,7 +9,7 @@ use Prim.Native.Nat.{_-_, _≤_, _<_}
 use mathlib.Core.Bool.{true}
 use denote.Ref.{now}
 use native.Mathlib.Omega.{arith}
-use mathlib.Core.Path.{_≡_, sym, _∙_}
+use mathlib.Core.Path.{_≡_, sym, ap, _∙_}
 use borrow.Author.Needs.{needs}
 use Rattle.session_messages.proofs.held_refusal.Statement.{statement}
 use Rattle.session_messages.proofs.held_refusal.Tie as tie
@@ -20,7 +22,7 @@ long : (c : tie.Else1) → fixedSize (c .before .before .before .args .message) 
 long c = omega (arith, c .before .fixed-size .ensures, c .if1 .left)
 
 values : (c : tie.Else2) → valuesGood (c .before .before .before .before .before .args .message) (now (c .before .before .before .before .before .args .b)) ≡ true
-values c = sym (c .before .values-good .ensures) ∙ not-false _ (c .if2 .left)
+values c = let a = c .before .before .before .before .before .args in are-good (a .message) (now (a .b)) (c .before .values-wrong .ensures) (c .if2 .left)
 
 inside : (c : tie.Else3) → c .before .body-end .result - 1 ≤ length (now (c .before .before .before .before .before .before .before .args .b))
 inside c =
@@ -37,13 +39,20 @@ returns : tie.Need-returns
 unfolding heldRefusal
 returns c = rw (lt-ltb _ _ (short c))
 
-values-good-requires : tie.Need-values-good-requires
-values-good-requires c κs = search needs
+values-wrong-requires : tie.Need-values-wrong-requires
+values-wrong-requires c κs = search needs
+
+told-requires : tie.Need-told-requires
+told-requires c κs =
+    let a = c .before .before .before .before .before .args in
+    (omega arith, omega (arith, are-near (a .message) (now (a .b)) (c .before .values-wrong .ensures)))
 
 returns-2 : tie.Need-returns-2
 returns-2 c =
-    let a = c .before .before .before .before .before .args in
-    bad-values (a .message) (now (a .b)) (long (c .before .before)) (sym (c .before .values-good .ensures) ∙ not-true _ (c .if2 .taken))
+    let two = c .before in
+    let a = two .before .before .before .before .before .args in
+    let e = two .before .values-wrong .ensures in
+    c .told .ensures ∙ ap (told badValue) e ∙ bad-values (a .message) (now (a .b)) (long (two .before .before)) (are-bad (a .message) (now (a .b)) e (two .if2 .taken))
 
 body-end-requires : tie.Need-body-end-requires
 body-end-requires c κs = search needs
@@ -93,7 +102,8 @@ held-refusal-spec =
     (tie.spec
     fixed-size-requires
     returns
-    values-good-requires
+    values-wrong-requires
+    told-requires
     returns-2
     body-end-requires
     returns-3

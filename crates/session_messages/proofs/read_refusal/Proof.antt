@@ -1,6 +1,7 @@
 -- `session_messages::read_refusal` meets its contract. Assumes nothing.
 use Rattle.session_messages.proofs.Stages.{head-stops, too-short, by-body}
 use Rattle.session_messages.specs.SessionLaws.{fixed-small}
+use mathlib.Core.Path.{_∙_}
 use denote.Ref.{now}
 use native.Mathlib.Omega.{arith}
 use borrow.Author.Needs.{needs}
@@ -34,14 +35,18 @@ fixed-size-requires c κs = search needs
 add-if2 : tie.Need-add-if2
 add-if2 c = omega (arith, c .fixed-size .ensures, fixed-small (c .before .before .before .before .before .type-of .result))
 
+wrong-total-requires : tie.Need-wrong-total-requires
+wrong-total-requires c κs = search needs
+
 returns-2 : tie.Need-returns-2
 returns-2 c =
-    let head = c .before .before .before in
+    let head = c .before .before .before .before in
     let number = head .before in
     let unit = number .before in
     let type = unit .before in
     let start = type .before .before in
-    too-short (now (start .args .m)) (type .type-of .result) (unit .unit-of .result) (number .number-of .result) (type .type-of .ensures) (unit .unit-of .ensures) (number .number-of .ensures) (head .head-refusal .result) (head .head-refusal .ensures) (c .before .before .if1 .left) (omega (arith, c .before .fixed-size .ensures, c .if2 .taken))
+    c .wrong-total .ensures
+    ∙ too-short (now (start .args .m)) (type .type-of .result) (unit .unit-of .result) (number .number-of .result) (type .type-of .ensures) (unit .unit-of .ensures) (number .number-of .ensures) (head .head-refusal .result) (head .head-refusal .ensures) (c .before .before .before .if1 .left) (omega (arith, c .before .before .fixed-size .ensures, c .before .if2 .taken))
 
 sub-body-refusal : tie.Need-sub-body-refusal
 sub-body-refusal c = search needs
@@ -75,6 +80,7 @@ read-refusal-spec =
     returns
     fixed-size-requires
     add-if2
+    wrong-total-requires
     returns-2
     sub-body-refusal
     part-body-refusal-start

@@ -95,7 +95,8 @@ fn listings_and_restarts() {
                     (19, false) => 18,
                     (number, _) => number,
                 };
-                assert_eq!(last, number.to_string());
+                // A place may follow 18.
+                assert_eq!(last.split(' ').next(), Some(&number.to_string()[..]));
                 refused += 1;
             }
         }

@@ -300,8 +300,9 @@ mod tests {
             for which in LISTED {
                 for sample in left(&mut random, which) {
                     let direction = sample.session.direction;
-                    let answer = read::message(direction, &sample.bytes());
-                    assert_eq!(answer, Err(Refusal::Total));
+                    let message = sample.bytes();
+                    let answer = read::message(direction, &message);
+                    assert_eq!(answer, Err(Refusal::Total(message.len())));
                     let answer = write::record(direction, &sample.record(), &mut [0; 2_000]);
                     assert_eq!(answer, Err(Refusal::Group));
                 }

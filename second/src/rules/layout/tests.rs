@@ -208,8 +208,8 @@ fn required_fields() {
             assert_eq!(result.is_ok(), good, "{:?}", bitfields);
         }
     }
-    assert_eq!(new_order.check_required(&[]), Err(Refusal::Missing));
-    assert_eq!(new_order.check_required(&[0x14]), Err(Refusal::Missing));
+    assert_eq!(new_order.check_required(&[]), Err(Refusal::Missing(35)));
+    assert_eq!(new_order.check_required(&[0x14]), Err(Refusal::Missing(36)));
     for type_byte in [0x39, 0x25, 0x2C] {
         assert_eq!(layout(type_byte).check_required(&[]), Ok(()));
     }

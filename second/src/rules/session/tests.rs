@@ -174,6 +174,36 @@ fn ends_of_the_fixed_parts() {
     }
 }
 
+/// The first byte of the first bad field, read and written, and the message's end.
+#[test]
+fn places() {
+    let told = |direction: u8, message: &[u8]| read::message(direction, message).unwrap_err();
+    let mut login = examples::options_login();
+    let mut record = read::message(0, &login).unwrap();
+    login.push(0);
+    measure(&mut login);
+    assert_eq!(login[2], 0x3E);
+    assert_eq!(told(0, &login), Refusal::Total(64));
+    for (place, first) in [(27, 18), (18, 18), (17, 14), (14, 14), (10, 10)] {
+        login[place] = 0x2D;
+        assert_eq!(told(0, &login), Refusal::Value(first));
+        record[place - 4] = 0x2D;
+        let written = write::record(0, &record, &mut []);
+        assert_eq!(written, Err(Refusal::Value(first)));
+    }
+    let mut logout = examples::logout_with_its_length();
+    logout[30] = 7;
+    assert_eq!(told(1, &logout), Refusal::Value(11));
+    logout[10] = b'"';
+    assert_eq!(told(1, &logout), Refusal::Value(10));
+    logout[2..4].copy_from_slice(&[73, 0]);
+    assert_eq!(told(1, &logout), Refusal::Total(75));
+    let mut heartbeat = examples::client_heartbeat();
+    heartbeat.push(0);
+    measure(&mut heartbeat);
+    assert_eq!(told(0, &heartbeat), Refusal::Total(11));
+}
+
 #[test]
 fn order_of_writing() {
     let message = examples::logout_with_its_length();

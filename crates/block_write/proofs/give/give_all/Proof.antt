@@ -2,7 +2,7 @@
 use mathlib.Core.Path.{refl}
 use native.Mathlib.Omega.{arith}
 use denote.Ref.{now}
-use Rattle.block.specs.Walk.{giveEntry}
+use Rattle.block.specs.Walk.{anyByte, giveEntry}
 use Rattle.block.specs.Loops.{bytes-end}
 use Rattle.block_write.specs.State.{giving}
 use Rattle.block_write.proofs.Given.{left-of}
@@ -13,7 +13,7 @@ use Rattle.block_write.proofs.give.give_all.Tie as tie
 returns : tie.Need-returns
 returns c =
     let a = c .before .before .before .before .args in
-    bytes-end (giveEntry (now (a .layout))) (a .message) (a .count) (now (a .bits)) 0 (giving (a .start) (now (a .out))) _ (omega arith) refl
+    bytes-end (anyByte (giveEntry (now (a .layout)))) (a .message) (a .count) (now (a .bits)) 0 (giving (a .start) (now (a .out))) _ (omega arith) refl
 
 new-order-bytes-requires : tie.Need-new-order-bytes-requires
 new-order-bytes-requires c κs =

@@ -5,7 +5,7 @@ use Prim.Native.Nat.{_+_, _*_, _-_, _≤_}
 use native.Mathlib.Omega.{arith}
 use lib.ListN.{length}
 use denote.Ref.{now}
-use Rattle.block.specs.Walk.{giveEntry}
+use Rattle.block.specs.Walk.{anyByte, giveEntry}
 use Rattle.block.specs.Loops.{byte-turn, bytes-end}
 use Rattle.block.specs.Fits.{left}
 use Rattle.block_write.specs.State.{giving, giveWalk}
@@ -60,7 +60,7 @@ loop-again c =
       omega arith,
       given .give-any .kept .1 .1 .1 .1 .0 ∙ inv .1,
       omega (arith, given .give-any .ensures .1, inv .2, left-turn (a .message) (a .count) (now (a .bits)) (at-loop .loop .j) _ (in-loop .loop-test .taken) (start .pre .2) refl),
-      byte-turn (giveEntry (now (a .layout))) (a .message) (a .count) (now (a .bits)) (at-loop .loop .j) _ (giving (at-loop .loop .at) (at-loop .loop .out)) _ _ (in-loop .loop-test .taken) (start .pre .2) refl (given .give-any .ensures .0) (inv .3),
+      byte-turn (anyByte (giveEntry (now (a .layout)))) (a .message) (a .count) (now (a .bits)) (at-loop .loop .j) _ (giving (at-loop .loop .at) (at-loop .loop .out)) _ _ (in-loop .loop-test .taken) (start .pre .2) refl (given .give-any .ensures .0) (inv .3),
     )
 
 same-length : tie.Need-same-length Inv-loop μ-loop
@@ -70,7 +70,7 @@ returns : tie.Need-returns Inv-loop μ-loop
 returns c =
     let at-loop = c .before in
     let a = at-loop .before .before .before .before .args in
-    bytes-end (giveEntry (now (a .layout))) (a .message) (a .count) (now (a .bits)) (at-loop .loop .j) (giving (at-loop .loop .at) (at-loop .loop .out)) _ (c .loop-test .left) (at-loop .loop .inv .3)
+    bytes-end (anyByte (giveEntry (now (a .layout)))) (a .message) (a .count) (now (a .bits)) (at-loop .loop .j) (giving (at-loop .loop .at) (at-loop .loop .out)) _ (c .loop-test .left) (at-loop .loop .inv .3)
 
 pub give-loop-spec : {M : Type 1} → statement M
 give-loop-spec =

@@ -3,7 +3,7 @@
 use native.Mathlib.Omega.{arith}
 use Rattle.block.specs.Loops.{byte-clear, byte-given}
 use Rattle.block.specs.Fits.{left-byte}
-use Rattle.block.specs.Walk.{giveEntry}
+use Rattle.block.specs.Walk.{anyByte, giveEntry}
 use Rattle.block_write.specs.State.{giving}
 use denote.Ref.{now}
 use borrow.Author.Needs.{needs}
@@ -19,7 +19,7 @@ returns c =
     let start = told .before .before .before .before in
     let a = start .args in
     let st = giving (a .at) (now (a .out)) in (
-      byte-given (giveEntry (now (a .layout))) (a .message) (a .count) (now (a .bits)) (a .byte) _ st st (start .pre .3) (start .pre .2) (told .byte-of .ensures)
+      byte-given (anyByte (giveEntry (now (a .layout)))) (a .message) (a .count) (now (a .bits)) (a .byte) _ st st (start .pre .3) (start .pre .2) (told .byte-of .ensures)
           (byte-clear (giveEntry (now (a .layout))) (a .message) (a .byte) _ st (c .if1 .taken)),
       omega (arith, start .pre .6, left-byte (a .message) (a .count) (now (a .bits)) (a .byte) _ (start .pre .3) (start .pre .4) (told .byte-of .ensures)),
     )
@@ -40,7 +40,7 @@ returns-2 c =
     let told = given .before .before .before in
     let start = told .before .before .before .before in
     let a = start .args in (
-      byte-given (giveEntry (now (a .layout))) (a .message) (a .count) (now (a .bits)) (a .byte) _ (giving (a .at) (now (a .out))) _ (start .pre .3) (start .pre .2) (told .byte-of .ensures)
+      byte-given (anyByte (giveEntry (now (a .layout)))) (a .message) (a .count) (now (a .bits)) (a .byte) _ (giving (a .at) (now (a .out))) _ (start .pre .3) (start .pre .2) (told .byte-of .ensures)
           (given .give-bits .ensures .0),
       omega (arith, start .pre .6, given .give-bits .ensures .1, left-byte (a .message) (a .count) (now (a .bits)) (a .byte) _ (start .pre .3) (start .pre .4) (told .byte-of .ensures)),
     )

@@ -1,10 +1,12 @@
--- `orders::fixed_good` meets its contract: every fixed part is its identifier and, in two types, more to test. Assumes nothing.
-use Rattle.orders.specs.Shapes.{countAt, newOrderGood, cancelOrderGood, acknowledgmentGood, executionGood, fixedGood}
+-- `orders::fixed_wrong` meets its contract: every fixed part is its identifier and, in two types, more to test. Assumes nothing.
+use Rattle.orders.specs.Shapes.{countAt}
+use Rattle.orders.specs.FixedFields.{newOrderFields, cancelOrderFields, acknowledgmentFields, executionFields, fixedFields, fixedWrong}
+use Rattle.refusals.specs.FirstBad.{firstBad}
 use Rattle.orders.specs.Rests.{nameAt, newOrderRest, executionRest}
 use Rattle.kinds.specs.declared.Kind.the-variants.{Identifier}
 use Rattle.kinds.specs.Kinds.{agreesFilledOf}
 use mathlib.Core.Path.{_≡_, refl, sym, ap, ap₂, _∙_}
-use mathlib.Core.Bool.{Bool, true, false, cond, _&&_}
+use mathlib.Core.Bool.{Bool, true, false, cond}
 use mathlib.Core.List.{List}
 use Prim.Native.Nat.{ℕ, _+_, _-_, _≤_}
 use native.Mathlib.Omega.{arith}
@@ -14,8 +16,8 @@ use denote.Ref.{now}
 use borrow.Author.Needs.{needs}
 use borrow.Author.Tests.{ne-eqb, not-true, not-false}
 use Rattle.orders.specs.OrderLaws.{in-new-order, in-others}
-use Rattle.orders.proofs.fixed_good.Statement.{statement}
-use Rattle.orders.proofs.fixed_good.Tie as tie
+use Rattle.orders.proofs.fixed_wrong.Statement.{statement}
+use Rattle.orders.proofs.fixed_wrong.Tie as tie
 
 -- the identifier lies within the fixed part
 name-fits : (message n : ℕ) → countAt message ≤ n + 10 → nameAt message + 20 ≤ n
@@ -37,33 +39,29 @@ name-near message = by (eqb message 0x38) (eqb message 0x39)
     by false true = omega arith
     by false false = omega arith
 
--- what is tested after it
-unfoldable restGood : ℕ → List ℕ → Bool
-restGood message f = cond (eqb message 0x38) (newOrderRest f) (cond (eqb message 0x39) true (cond (eqb message 0x25) true (executionRest f)))
+-- the first bad field after it
+unfoldable restWrong : ℕ → List ℕ → ℕ
+restWrong message f = cond (eqb message 0x38) (newOrderRest f) (cond (eqb message 0x39) 0 (cond (eqb message 0x25) 0 (executionRest f)))
 
-and-true : (b : Bool) → b ≡ (b && true)
-and-true true = refl
-and-true false = refl
-
-in-two : (message : ℕ) (f : List ℕ) → fixedGood message f ≡ (agreesFilledOf Identifier (take 20 (drop (nameAt message) f)) && restGood message f)
-unfolding fixedGood nameAt restGood
+in-two : (message : ℕ) (f : List ℕ) → fixedWrong message f ≡ cond (agreesFilledOf Identifier (take 20 (drop (nameAt message) f))) (restWrong message f) (10 + nameAt message)
+unfolding fixedWrong fixedFields nameAt restWrong
 in-two message f = by (eqb message 0x38) (eqb message 0x39) (eqb message 0x25)
   where
     by : (a b d : Bool)
-        → cond a (newOrderGood f) (cond b (cancelOrderGood f) (cond d (acknowledgmentGood f) (executionGood f)))
-        ≡ (agreesFilledOf Identifier (take 20 (drop (cond a 0 (cond b 0 8)) f)) && cond a (newOrderRest f) (cond b true (cond d true (executionRest f))))
+        → firstBad (cond a (newOrderFields f) (cond b (cancelOrderFields f) (cond d (acknowledgmentFields f) (executionFields f))))
+        ≡ cond (agreesFilledOf Identifier (take 20 (drop (cond a 0 (cond b 0 8)) f))) (cond a (newOrderRest f) (cond b 0 (cond d 0 (executionRest f)))) (10 + cond a 0 (cond b 0 8))
     by true b d = refl
-    by false true d = and-true _
-    by false false true = and-true _
+    by false true d = refl
+    by false false true = refl
     by false false false = refl
 
--- so once the identifier is tested, the rest decides
+-- so once the identifier is tested, it is told or the rest decides
 once-named : (message at : ℕ) (f : List ℕ) (r b : Bool) → at ≡ nameAt message → r ≡ agreesFilledOf Identifier (take (at + 20 - at) (drop at f)) → r ≡ b
-    → fixedGood message f ≡ (b && restGood message f)
+    → fixedWrong message f ≡ cond b (restWrong message f) (10 + nameAt message)
 once-named message at f r b e h t =
     let n : at + 20 - at ≡ 20 = omega arith in
     in-two message f
-    ∙ ap (λ (x : Bool). x && restGood message f) (sym (ap₂ (λ (k i : ℕ). agreesFilledOf Identifier (take k (drop i f))) n e) ∙ sym h ∙ t)
+    ∙ ap (λ (x : Bool). cond x (restWrong message f) (10 + nameAt message)) (sym (ap₂ (λ (k i : ℕ). agreesFilledOf Identifier (take k (drop i f))) n e) ∙ sym h ∙ t)
 
 name-at-requires : tie.Need-name-at-requires
 name-at-requires c κs = search needs
@@ -83,12 +81,15 @@ part-identifies-end c = omega (arith, c .name-at .ensures, name-fits _ _ (c .bef
 identifies-requires : tie.Need-identifies-requires
 identifies-requires c κs = search needs
 
+add-result : tie.Need-add-result
+add-result c = omega (arith, c .before .before .before .name-at .ensures, name-near (c .before .before .before .before .before .args .message))
+
 returns : tie.Need-returns
 returns c =
     let named = c .before in
     let a = named .before .before .before .before .args in
     let whole = once-named (a .message) _ (now (a .f)) _ false (named .before .before .name-at .ensures) (named .identifies .ensures) (not-true _ (c .if1 .taken)) in
-    sym whole
+    ap (λ (i : ℕ). 10 + i) (named .before .before .name-at .ensures) ∙ sym whole
 
 new-order-rest-requires : tie.Need-new-order-rest-requires
 new-order-rest-requires c κs = omega (arith, c .before .before .before .before .before .before .pre, in-new-order _ (c .match .keys1))
@@ -97,7 +98,7 @@ execution-rest-requires : tie.Need-execution-rest-requires
 execution-rest-requires c κs = omega (arith, c .before .before .before .before .before .before .pre, in-others _ (c .match .rest .0 .0 .1) (c .match .rest .0 .1) (c .match .rest .1))
 
 returns-2 : tie.Need-returns-2
-unfolding restGood
+unfolding restWrong
 returns-2 c =
     let named = c .before .before .before in
     let a = named .before .before .before .before .args in
@@ -105,7 +106,7 @@ returns-2 c =
     c .new-order-rest .ensures ∙ sym (whole ∙ rw (c .before .match .keys1))
 
 returns-3 : tie.Need-returns-3
-unfolding restGood
+unfolding restWrong
 returns-3 c =
     let named = c .before .before in
     let a = named .before .before .before .before .args in
@@ -113,7 +114,7 @@ returns-3 c =
     sym (whole ∙ rw (c .match .keys2))
 
 returns-4 : tie.Need-returns-4
-unfolding restGood
+unfolding restWrong
 returns-4 c =
     let named = c .before .before in
     let a = named .before .before .before .before .args in
@@ -121,15 +122,15 @@ returns-4 c =
     sym (whole ∙ rw (c .match .keys3))
 
 returns-5 : tie.Need-returns-5
-unfolding restGood
+unfolding restWrong
 returns-5 c =
     let named = c .before .before .before in
     let a = named .before .before .before .before .args in
     let whole = once-named (a .message) _ (now (a .f)) _ true (named .before .before .name-at .ensures) (named .identifies .ensures) (not-false _ (c .before .before .if1 .left)) in
     c .execution-rest .ensures ∙ sym (whole ∙ simp (ne-eqb _ _ (c .before .match .rest .1), ne-eqb _ _ (c .before .match .rest .0 .1), ne-eqb _ _ (c .before .match .rest .0 .0 .1)))
 
-pub fixed-good-spec : {M : Type 1} → statement M
-fixed-good-spec =
+pub fixed-wrong-spec : {M : Type 1} → statement M
+fixed-wrong-spec =
     tie.close
     (tie.spec
     name-at-requires
@@ -138,6 +139,7 @@ fixed-good-spec =
     part-identifies-start
     part-identifies-end
     identifies-requires
+    add-result
     returns
     new-order-rest-requires
     execution-rest-requires

@@ -1,0 +1,94 @@
+/* The names of refusals and fields, and which field of a message begins at a place. */
+#include "places.h"
+
+static const char *const names[BOE_REFUSALS + 1] = {
+#define NAME(name) [BOE_##name] = #name
+    NAME(BAD_START), NAME(BAD_LENGTH), NAME(INCOMPLETE), NAME(UNKNOWN_TYPE), NAME(BAD_UNIT), NAME(WRONG_TOTAL), NAME(TOO_MANY_BITFIELDS),
+    NAME(UNLISTED_BIT), NAME(NOT_SELECTED), NAME(BAD_VALUE), NAME(BAD_GROUP), NAME(NOT_ZERO), NAME(NO_ROOM), NAME(ALREADY_TAKEN), NAME(GAP),
+    NAME(OUT_OF_PHASE), NAME(OTHER_DATE), NAME(BAD_BOOK), NAME(NOT_A_DAY), NAME(NUMBERS_USED_UP), NAME(OLD_NUMBER), NAME(NO_FIRST_MARK)};
+
+const char *refusal_name(uint32_t refusal) { return names[BOE_NUMBER(refusal)]; }
+
+/* How much further on a byte of a fixed part, or of a session message's body, stands in the message than in the record. */
+enum { FURTHER = 4 };
+
+/* The fields of each type in the order of the message, with the protocol's names: the fixed ones that can be bad, and all optional ones, since
+ * each moves those after it. A fixed one has its place, an optional one its bitfield byte, its bit and its width. */
+static const struct field {
+    uint8_t type, place, byte, bit, len;
+    const char *name;
+} fields[] = {
+#define FIXED(message, field, name) {BOE_##message, BOE_##message##_##field##_AT + FURTHER, 0, 0, 0, name}
+#define FIELD(message, field, name) \
+    {BOE_##message, 0, BOE_##message##_##field##_BYTE, BOE_##message##_##field##_BIT, BOE_##message##_##field##_LEN, name}
+/* as far as the two have them alike */
+#define VENUE_FIELDS(message) \
+    FIELD(message, SIDE, "Side"), FIELD(message, PRICE, "Price"), FIELD(message, EXEC_INST, "ExecInst"), FIELD(message, ORD_TYPE, "OrdType"), \
+    FIELD(message, TIME_IN_FORCE, "TimeInForce"), FIELD(message, MIN_QTY, "MinQty"), FIELD(message, SYMBOL, "Symbol"), \
+    FIELD(message, SYMBOL_SFX, "SymbolSfx"), FIELD(message, CAPACITY, "Capacity"), FIELD(message, ACCOUNT, "Account"), \
+    FIELD(message, CLEARING_FIRM, "ClearingFirm"), FIELD(message, CLEARING_ACCOUNT, "ClearingAccount"), \
+    FIELD(message, MAX_FLOOR, "MaxFloor"), FIELD(message, ORDER_QTY, "OrderQty")
+
+    FIXED(NEW_ORDER, CL_ORD_ID, "ClOrdID"), FIXED(NEW_ORDER, SIDE, "Side"), FIXED(NEW_ORDER, ORDER_QTY, "OrderQty"),
+    FIELD(NEW_ORDER, CLEARING_FIRM, "ClearingFirm"), FIELD(NEW_ORDER, CLEARING_ACCOUNT, "ClearingAccount"), FIELD(NEW_ORDER, PRICE, "Price"),
+    FIELD(NEW_ORDER, EXEC_INST, "ExecInst"), FIELD(NEW_ORDER, ORD_TYPE, "OrdType"), FIELD(NEW_ORDER, TIME_IN_FORCE, "TimeInForce"),
+    FIELD(NEW_ORDER, MIN_QTY, "MinQty"), FIELD(NEW_ORDER, MAX_FLOOR, "MaxFloor"), FIELD(NEW_ORDER, SYMBOL, "Symbol"),
+    FIELD(NEW_ORDER, SYMBOL_SFX, "SymbolSfx"), FIELD(NEW_ORDER, CAPACITY, "Capacity"), FIELD(NEW_ORDER, ROUTING_INST, "RoutingInst"),
+    FIELD(NEW_ORDER, ACCOUNT, "Account"), FIELD(NEW_ORDER, LOCATE_REQD, "LocateReqd"), FIELD(NEW_ORDER, EXPIRE_TIME, "ExpireTime"),
+    FIELD(NEW_ORDER, DISPLAY_RANGE, "DisplayRange"), FIELD(NEW_ORDER, STOP_PX, "StopPx"), FIELD(NEW_ORDER, EX_DESTINATION, "ExDestination"),
+    FIELD(NEW_ORDER, ECHO_TEXT, "EchoText"), FIELD(NEW_ORDER, LOCATE_BROKER, "LocateBroker"),
+    FIXED(CANCEL_ORDER, ORIG_CL_ORD_ID, "OrigClOrdID"), FIELD(CANCEL_ORDER, CLEARING_FIRM, "ClearingFirm"),
+    FIXED(ACKNOWLEDGMENT, CL_ORD_ID, "ClOrdID"), VENUE_FIELDS(ACKNOWLEDGMENT), FIELD(ACKNOWLEDGMENT, LEAVES_QTY, "LeavesQty"),
+    FIELD(ACKNOWLEDGMENT, LAST_SHARES, "LastShares"), FIELD(ACKNOWLEDGMENT, LAST_PX, "LastPx"), FIELD(ACKNOWLEDGMENT, EXPIRE_TIME, "ExpireTime"),
+    FIXED(EXECUTION, CL_ORD_ID, "ClOrdID"), FIXED(EXECUTION, BASE_LIQUIDITY_INDICATOR, "BaseLiquidityIndicator"),
+    FIXED(EXECUTION, SUB_LIQUIDITY_INDICATOR, "SubLiquidityIndicator"), FIXED(EXECUTION, CONTRA_BROKER, "ContraBroker"), VENUE_FIELDS(EXECUTION),
+    FIXED(LOGIN_REQUEST, SESSION_SUB_ID, "SessionSubID"), FIXED(LOGIN_REQUEST, USERNAME, "Username"), FIXED(LOGIN_REQUEST, PASSWORD, "Password"),
+    FIXED(LOGIN_RESPONSE, STATUS, "LoginResponseStatus"), FIXED(LOGIN_RESPONSE, TEXT, "LoginResponseText"),
+    FIXED(LOGOUT, REASON, "LogoutReason"), FIXED(LOGOUT, TEXT, "LogoutReasonText")};
+
+/* The place of the count byte in an order message. */
+static unsigned count_place(uint8_t type) {
+    return type == BOE_NEW_ORDER ? 35 : type == BOE_CANCEL_ORDER ? 30 : type == BOE_ACKNOWLEDGMENT ? 47 : type == BOE_EXECUTION ? 69 : 0;
+}
+
+/* The field that begins at a place of a message. The count byte and the bitfields are given: `count[n]` is bitfield n. The optional fields stand
+ * one after the other behind the bitfields, in the order of the set bits. */
+static const char *field_at(unsigned place, uint8_t type, const uint8_t *count) {
+    unsigned next = count_place(type) + 1;
+    for (size_t i = 0; i < sizeof fields / sizeof *fields; i++) {
+        const struct field *f = &fields[i];
+        if (f->type != type) continue;
+        if (f->byte == 0) {
+            if (f->place == place) return f->name;
+        } else if (f->byte <= *count && count[f->byte] & f->bit) {
+            if (next + *count == place) return f->name;
+            next += f->len;
+        }
+    }
+    return "no field";
+}
+
+/* The place of a refusal other than 6, and what is there. */
+static void print_place(FILE *to, uint32_t refusal, uint8_t type, const uint8_t *count) {
+    unsigned place = BOE_PLACE(refusal), bitfield = place - count_place(type);
+    fprintf(to, " at byte %u, ", place);
+    if (BOE_NUMBER(refusal) == BOE_BAD_VALUE)
+        fprintf(to, "%s", field_at(place, type, count));
+    else if (bitfield == 0)
+        fprintf(to, "the count of bitfields");
+    else
+        fprintf(to, "bitfield %u", bitfield);
+}
+
+void print_refused(FILE *to, uint32_t refusal, const uint8_t *message) {
+    fprintf(to, "%u %s", BOE_NUMBER(refusal), refusal_name(refusal));
+    if (BOE_NUMBER(refusal) == BOE_WRONG_TOTAL)
+        fprintf(to, " at byte %u, the end", BOE_PLACE(refusal));
+    else if (BOE_PLACE(refusal))
+        print_place(to, refusal, message[4], message + count_place(message[4]));
+}
+
+void print_unwritten(FILE *to, uint32_t refusal, const struct boe_record *record) {
+    fprintf(to, "%u %s", BOE_NUMBER(refusal), refusal_name(refusal));
+    if (BOE_PLACE(refusal)) print_place(to, refusal, record->bytes[BOE_RECORD_TYPE_AT], record->bytes + BOE_RECORD_COUNT_AT);
+}
