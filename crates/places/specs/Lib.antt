@@ -1,0 +1,5 @@
+pub mod Chains
+pub mod NumbersStay
+pub mod Reading
+pub mod Within
+pub mod Writing

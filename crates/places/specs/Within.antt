@@ -1,0 +1,132 @@
+-- EACH PLACE LIES IN THE MESSAGE OR AT ITS END, and exactly 6 to 10 have one. Assumes nothing.
+use mathlib.Core.Logic.{_⊎_, inl, inr}
+use mathlib.Core.Path.{_≡_, refl, sym, ap, _∙_}
+use mathlib.Core.Bool.{Bool, true, false, cond, _&&_}
+use mathlib.Core.List.{List, [], _∷_, _++_, append-nil}
+use Prim.Native.Nat.{ℕ, _+_, _/_, _≤_, _<_}
+use native.Mathlib.Omega.{arith}
+use lib.Dec.{eqb, leb, ltb}
+use lib.ListN.{length, getD}
+use borrow.Author.Tests.{ltb-true, eqb-true}
+use Rattle.refusals.specs.Names.{unknownType}
+use Rattle.refusals.specs.Told.{told, numberIn, placeIn}
+use Rattle.refusals.specs.ToldLaws.{number-of-told, place-of-told, number-alone, no-place}
+use Rattle.wire.specs.Header.{typeOf, totalOf}
+use Rattle.wire.specs.Frame.{startsBad, lengthBad, cutShort, frameRefusal, framed}
+use Rattle.wire.specs.FrameLaws.{whole, framed-length, framed-accepted, framed-again}
+use Rattle.dictionary.specs.declared.Entry.the-variants.{Field}
+use Rattle.block.specs.Slots.{slot, takes, sum}
+use Rattle.block.specs.SlotLaws.{both-true, sum-append}
+use Rattle.block.specs.Places.{selectedAt, slotsOf}
+use Rattle.orders.specs.Shapes.{ofVenue, countAt}
+use Rattle.orders.specs.OrderLaws.{count-bounds}
+use Rattle.orders.specs.Orders as orders
+use Rattle.session_messages.specs.Sessions as sessions
+use Rattle.messages.specs.Messages.{isSession, carries, ownRefusal, readRefusal}
+use Rattle.book.specs.Books.{messageRefusal}
+use Rattle.places.specs.Reading as reading
+
+-- a refusal's place, of a message of so many bytes: 6 to 10 have one, from 1 to the message's length; all others have none
+pub data Placed (size : ℕ) : ℕ → Type 0 where
+  none : (refusal : ℕ) → placeIn refusal ≡ 0 → (numberIn refusal ≤ 5) ⊎ (11 ≤ numberIn refusal) → Placed size refusal
+  one : (refusal : ℕ) → 6 ≤ numberIn refusal → numberIn refusal ≤ 10 → 1 ≤ placeIn refusal → placeIn refusal ≤ size → Placed size refusal
+
+-- a number without a place, under 6 or over 10
+bare : (size n : ℕ) → n < 256 → (n ≤ 5) ⊎ (11 ≤ n) → Placed size n
+bare size n h (inl l) = none n (no-place n h) (inl (omega (arith, number-alone n h, l)))
+bare size n h (inr l) = none n (no-place n h) (inr (omega (arith, number-alone n h, l)))
+
+-- and one with a place
+with-place : (size n p : ℕ) → 6 ≤ n → n ≤ 10 → 1 ≤ p → p ≤ size → Placed size (told n p)
+with-place size n p a b c d =
+    let e = number-of-told n p (omega (arith, b)) in
+    let f = place-of-told n p (omega (arith, b)) in
+    one (told n p) (omega (arith, a, e)) (omega (arith, b, e)) (omega (arith, c, f)) (omega (arith, d, f))
+
+-- a session message that has a fixed part has 19 bytes of it at least
+fixed-long : (m : List ℕ) → 0 < sessions.fixedSize (typeOf m) → 19 ≤ sessions.fixedSize (typeOf m)
+unfolding sessions.fixedSize
+fixed-long m = by (eqb (typeOf m) 0x37) (eqb (typeOf m) 0x24) (eqb (typeOf m) 0x08)
+  where
+    by : (x y z : Bool) → 0 < cond x 19 (cond y 67 (cond z 66 0)) → 19 ≤ cond x 19 (cond y 67 (cond z 66 0))
+    by true y z h = omega arith
+    by false true z h = omega arith
+    by false false true h = omega arith
+    by false false false h = absurd (omega (arith, h))
+
+-- a selected place lies in the bitfields that are there
+selected-there : (count : ℕ) (bits : List ℕ) (k : ℕ) → selectedAt count bits k ≡ true → k / 8 < count
+unfolding selectedAt
+selected-there count bits k h = ltb-true (k / 8) count (both-true (ltb (k / 8) count) _ h .0)
+
+module _ (m : List ℕ) (exact : length m ≡ totalOf m) (long : 10 ≤ length m) where
+  order-placed : (r : ℕ) → reading.Tells m r → Placed (length m) r
+  order-placed r (reading.placeless n h) = bare (length m) n (omega (arith, h)) (inl h)
+  order-placed r reading.six = with-place (length m) 6 (totalOf m) (omega arith) (omega arith) (omega (arith, exact, long)) (omega (arith, exact))
+  order-placed r (reading.seven h k) = with-place (length m) 7 (countAt (typeOf m)) (omega arith) (omega arith) (omega (arith, count-bounds (typeOf m) .low)) (omega (arith, h))
+  order-placed r (reading.eight h byte b) =
+      let l = selected-there (orders.countOf m) (orders.bitsOf m) (b .place) (b .set) in
+      with-place (length m) 8 (countAt (typeOf m) + byte) (omega arith) (omega arith) (omega (arith, b .told)) (omega (arith, h, l, b .told))
+  order-placed r (reading.nine h) = with-place (length m) 9 (countAt (typeOf m) + orders.countOf m) (omega arith) (omega arith) (omega (arith, count-bounds (typeOf m) .low)) (omega (arith, h))
+  order-placed r (reading.ten-fixed h place f l k) = with-place (length m) 10 place (omega arith) (omega arith) l (omega (arith, h, k))
+  order-placed r (reading.ten-optional h place n) =
+      let ss = slotsOf (typeOf m) (orders.countOf m) (orders.bitsOf m) in
+      let s : sum takes ss ≡ sum takes (n .field .earlier) + sum takes (slot true (Field (n .field .wide) (n .field .kind) (n .field .home)) ∷ n .field .later) =
+      ap (sum takes) (n .field .split) ∙ sum-append takes (n .field .earlier) (slot true (Field (n .field .wide) (n .field .kind) (n .field .home)) ∷ n .field .later) in
+      with-place (length m) 10 place (omega arith) (omega arith) (omega (arith, n .there)) (omega (arith, h, n .there, s))
+
+  session-placed : (r : ℕ) → reading.SessionTells m r → Placed (length m) r
+  session-placed r (reading.SessionTells.placeless n h) = bare (length m) n (omega (arith, h)) (inl h)
+  session-placed r reading.eleven = bare (length m) 11 (omega arith) (inr (omega arith))
+  session-placed r reading.SessionTells.six = with-place (length m) 6 (totalOf m) (omega arith) (omega arith) (omega (arith, exact, long)) (omega (arith, exact))
+  session-placed r (reading.ten h k place f l q) = with-place (length m) 10 place (omega arith) (omega arith) l (omega (arith, h, k, q, fixed-long m k))
+
+-- ---- whatever the bytes
+
+frame-placed : (size : ℕ) (s : List ℕ) → Placed size (frameRefusal s)
+unfolding frameRefusal
+frame-placed size s = by (startsBad s) (lengthBad s) (cutShort s)
+  where
+    by : (a b c : Bool) → Placed size (cond a 1 (cond b 2 (cond c 3 0)))
+    by true b c = bare size 1 (omega arith) (inl (omega arith))
+    by false true c = bare size 2 (omega arith) (inl (omega arith))
+    by false false true = bare size 3 (omega arith) (inl (omega arith))
+    by false false false = bare size 0 (omega arith) (inl (omega arith))
+
+-- a framed message is as long as its header says
+module _ (s : List ℕ) (z : frameRefusal s ≡ 0) where
+  alone : frameRefusal (framed s) ≡ 0
+  alone = ap frameRefusal (sym (append-nil (framed s))) ∙ framed-accepted s [] z
+
+  as-long : length (framed s) ≡ totalOf (framed s)
+  as-long = ap length (sym (ap framed (sym (append-nil (framed s))) ∙ framed-again s [] z)) ∙ framed-length (framed s) alone
+
+  ten-at-least : 10 ≤ length (framed s)
+  unfolding totalOf
+  ten-at-least = omega (arith, as-long, whole (framed s) alone .least)
+
+-- EACH PLACE LIES IN THE MESSAGE OR AT ITS END: of what reading answers, and of what a book, a log and the listing are told
+pub place-within : (direction : ℕ) (s : List ℕ) → Placed (length (framed s)) (readRefusal direction s)
+unfolding readRefusal ownRefusal
+place-within direction s = by (eqb (frameRefusal s) 0) refl (carries direction (typeOf (framed s))) (isSession (typeOf (framed s)))
+  where
+    by : (a : Bool) → eqb (frameRefusal s) 0 ≡ a → (b c : Bool) → Placed (length (framed s)) (cond a (cond b (cond c (sessions.readRefusal (framed s)) (orders.readRefusal (framed s))) unknownType) (frameRefusal s))
+    by false e b c = frame-placed (length (framed s)) s
+    by true e false c = bare (length (framed s)) 4 (omega arith) (inl (omega arith))
+    by true e true true =
+        let z = eqb-true (frameRefusal s) 0 e in
+        session-placed (framed s) (as-long s z) (ten-at-least s z) _ (reading.session-tells (framed s))
+    by true e true false =
+        let z = eqb-true (frameRefusal s) 0 e in
+        order-placed (framed s) (as-long s z) (ten-at-least s z) _ (reading.reading-tells (framed s))
+
+pub booked-within : (s : List ℕ) → Placed (length (framed s)) (messageRefusal s)
+unfolding messageRefusal
+booked-within s = by (eqb (frameRefusal s) 0) refl (ofVenue (typeOf (framed s)))
+  where
+    by : (a : Bool) → eqb (frameRefusal s) 0 ≡ a → (b : Bool) → Placed (length (framed s)) (cond a (cond b (orders.readRefusal (framed s)) unknownType) (frameRefusal s))
+    by false e b = frame-placed (length (framed s)) s
+    by true e false = bare (length (framed s)) 4 (omega arith) (inl (omega arith))
+    by true e true =
+        let z = eqb-true (frameRefusal s) 0 e in
+        order-placed (framed s) (as-long s z) (ten-at-least s z) _ (reading.reading-tells (framed s))
