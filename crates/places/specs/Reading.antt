@@ -1,16 +1,17 @@
 -- WHAT READING TELLS: which of 6 to 10 a message with bitfields or a session message is refused with, and what stands at the place that is told.
 -- Assumes nothing.
 use mathlib.Core.Path.{_≡_, refl, sym, ap, _∙_}
-use mathlib.Core.Bool.{Bool, true, false, true≢false, cond, not, _||_}
-use mathlib.Core.List.{List}
+use mathlib.Core.Bool.{Bool, true, false, true≢false, cond, not, and-eq-true-iff, _&&_, _||_}
+use mathlib.Core.List.{List, [], _∷_}
 use Prim.Native.Nat.{ℕ, _+_, _≤_, _<_}
 use native.Mathlib.Omega.{arith}
 use lib.Dec.{eqb, leb, ltb}
 use lib.ListN.{length, take, drop, length-drop}
 use lib.Seq.{drop-drop}
-use borrow.Author.Tests.{leb-false, ltb-true, ltb-false, eqb-true, eqb-false}
+use borrow.Author.Tests.{leb-true, leb-false, ltb-true, ltb-false, eqb-true}
 use Rattle.refusals.specs.Names.{unknownType, badUnit, wrongTotal, tooManyBitfields, unlistedBit, notSelected, badValue, badGroup}
 use Rattle.refusals.specs.Told.{told}
+use Rattle.refusals.specs.FirstBad.{Tested, allGood, firstBad, placesWithin}
 use Rattle.refusals.specs.FirstBadLaws.{First}
 use Rattle.kinds.specs.Kinds.{agreesOf}
 use Rattle.wire.specs.Header.{typeOf, unitOf, numberOf, totalOf}
@@ -19,17 +20,58 @@ use Rattle.block.specs.Places.{selectedAt, entryAt, slotsOf, hasRequired}
 use Rattle.block.specs.FirstBad.{BadBit, BadField, eight-names-the-first-bad-byte, ten-names-the-first-bad-field}
 use Rattle.block.specs.Sizes.{allPlaces}
 use Rattle.orders.specs.Shapes.{ofMember, ofVenue, countAt, mostOf, unitGood, fixedGood}
-use Rattle.orders.specs.FixedFields.{fixedFields, fixedWrong}
-use Rattle.orders.specs.FixedFieldLaws.{fixed-found, fixed-within, fixed-names-the-first}
+use Rattle.orders.specs.FixedFields.{newOrderFields, cancelOrderFields, acknowledgmentFields, executionFields, fixedFields, fixedWrong}
+use Rattle.orders.specs.FixedFieldLaws.{fields-good, fixed-within, fixed-names-the-first}
 use Rattle.orders.specs.Orders.{countOf, bitsOf, fixedOf, optionalOf, headRefusal, blockRefusal, readRefusal}
-use Rattle.session_messages.specs.ValueFields.{valueFields, valuesWrong}
-use Rattle.session_messages.specs.ValueFieldLaws.{values-found, values-within, values-name-the-first}
+use Rattle.session_messages.specs.ValueFields.{nameFields, statusFields, reasonFields, valueFields, valuesWrong}
+use Rattle.session_messages.specs.ValueFieldLaws.{values-within, values-name-the-first}
+use Rattle.session_messages.specs.ValueFieldLaws as values
 use Rattle.order_reader.proofs.Heads.{good-head}
 use Rattle.session_messages.specs.Sessions as sessions
 
--- a number that is not 0
-not-zero : (n : ℕ) → eqb n 0 ≡ false → 1 ≤ n
-not-zero n h = omega (arith, eqb-false n 0 h)
+-- ---- no place is below 10, where the header ends
+
+-- what is told of tested fields whose places are from a number on
+first-from : (least most : ℕ) (ts : List Tested) → placesWithin least most ts ≡ true → allGood ts ≡ false → least ≤ firstBad ts
+first-from least most [] h g = absurd (true≢false g)
+first-from least most (t ∷ ts) h g =
+    let b = and-eq-true-iff (leb least (t .place) && leb (t .place) most) (placesWithin least most ts) .0 h in
+    let p = and-eq-true-iff (leb least (t .place)) (leb (t .place) most) .0 (b .0) in
+    by (t .good) (leb-true least (t .place) (p .0)) g (first-from least most ts (b .1))
+  where
+    by : (a : Bool) → least ≤ t .place → (a && allGood ts) ≡ false → (allGood ts ≡ false → least ≤ firstBad ts) → least ≤ cond a (firstBad ts) (t .place)
+    by true l z more = more z
+    by false l z more = l
+
+fixed-places : (message : ℕ) (f : List ℕ) → placesWithin 10 69 (fixedFields message f) ≡ true
+unfolding fixedFields
+fixed-places message f = by (eqb message 0x38) (eqb message 0x39) (eqb message 0x25)
+  where
+    by : (a b c : Bool) → placesWithin 10 69 (cond a (newOrderFields f) (cond b (cancelOrderFields f) (cond c (acknowledgmentFields f) (executionFields f)))) ≡ true
+    by true b c = refl
+    by false true c = refl
+    by false false true = refl
+    by false false false = refl
+
+fixed-from : (message : ℕ) (f : List ℕ) → fixedGood message f ≡ false → 10 ≤ fixedWrong message f
+unfolding fixedWrong
+fixed-from message f g = first-from 10 69 (fixedFields message f) (fixed-places message f) (fields-good message f ∙ g)
+
+value-places : (message : ℕ) (b : List ℕ) → placesWithin 10 69 (valueFields message b) ≡ true
+unfolding valueFields
+value-places message b = by (eqb message 0x37) (eqb message 0x24) (eqb message 0x08)
+  where
+    by : (x y z : Bool) → placesWithin 10 69 (cond x (nameFields b) (cond y (statusFields b) (cond z (reasonFields b) []))) ≡ true
+    by true y z = refl
+    by false true z = refl
+    by false false true = refl
+    by false false false = refl
+
+values-from : (message : ℕ) (b : List ℕ) → sessions.valuesGood message b ≡ false → 10 ≤ valuesWrong message b
+unfolding valuesWrong
+values-from message b g = first-from 10 69 (valueFields message b) (value-places message b) (values.fields-good message b ∙ g)
+
+-- ---- what is told
 
 -- the first bad optional field of a message, by its place in the message and its bytes there
 pub record OptionalNamed (m : List ℕ) (place : ℕ) : Type 0 where
@@ -51,7 +93,7 @@ pub data Tells (m : List ℕ) : ℕ → Type 0 where
   -- 9: the last bitfield byte, or the count byte where there are none
   nine : countAt (typeOf m) + 1 + countOf m ≤ length m → Tells m (told notSelected (countAt (typeOf m) + countOf m))
   -- 10: the first field of the fixed part that is bad
-  ten-fixed : countAt (typeOf m) + 1 + countOf m ≤ length m → (place : ℕ) → First (fixedFields (typeOf m) (fixedOf m)) place → 1 ≤ place → place ≤ countAt (typeOf m) → Tells m (told badValue place)
+  ten-fixed : countAt (typeOf m) + 1 + countOf m ≤ length m → (place : ℕ) → First (fixedFields (typeOf m) (fixedOf m)) place → 10 ≤ place → place ≤ countAt (typeOf m) → Tells m (told badValue place)
   -- or, where the fixed part is good, the first optional field that is bad
   ten-optional : countAt (typeOf m) + 1 + countOf m + sum takes (slotsOf (typeOf m) (countOf m) (bitsOf m)) ≡ length m → (place : ℕ) → OptionalNamed m place → Tells m (told badValue place)
 
@@ -90,7 +132,7 @@ module _ (m : List ℕ) where
       by true b c d e p q r s = eight h _ (eight-names-the-first-bad-byte (selectedAt (countOf m) (bitsOf m)) (entryAt (typeOf m)) allPlaces 0 p)
       by false false c d e p q r s = nine h
       by false true false d e p q r s = six
-      by false true true false e p q r s = ten-fixed h _ (fixed-names-the-first (typeOf m) (fixedOf m) r) (not-zero (fixedWrong (typeOf m) (fixedOf m)) (fixed-found (typeOf m) (fixedOf m) ∙ r)) (fixed-within (typeOf m) (fixedOf m))
+      by false true true false e p q r s = ten-fixed h _ (fixed-names-the-first (typeOf m) (fixedOf m) r) (fixed-from (typeOf m) (fixedOf m) r) (fixed-within (typeOf m) (fixedOf m))
       by false true true true false p q r s = ten-optional (exact h q) _ (optional-named s r)
       by false true true true true p q r s = placeless 0 (omega arith)
 
@@ -123,7 +165,7 @@ pub data SessionTells (m : List ℕ) : ℕ → Type 0 where
   placeless : (n : ℕ) → n ≤ 5 → SessionTells m n
   eleven : SessionTells m badGroup
   six : SessionTells m (told wrongTotal (totalOf m))
-  ten : 10 + sessions.fixedSize (typeOf m) ≤ length m → 0 < sessions.fixedSize (typeOf m) → (place : ℕ) → First (valueFields (typeOf m) (drop 10 m)) place → 1 ≤ place → place ≤ 18 → SessionTells m (told badValue place)
+  ten : 10 + sessions.fixedSize (typeOf m) ≤ length m → 0 < sessions.fixedSize (typeOf m) → (place : ℕ) → First (valueFields (typeOf m) (drop 10 m)) place → 10 ≤ place → place ≤ 18 → SessionTells m (told badValue place)
 
 module _ (m : List ℕ) where
   -- a header alone has no values
@@ -148,7 +190,7 @@ module _ (m : List ℕ) where
       by false b c d e f p q = placeless 4 (omega arith)
       by true false c d e f p q = placeless 5 (omega arith)
       by true true true d e f p q = six
-      by true true false false e f p q = ten (ltb-false _ _ p) (some q) _ (values-name-the-first (typeOf m) (drop 10 m) q) (not-zero (valuesWrong (typeOf m) (drop 10 m)) (values-found (typeOf m) (drop 10 m) ∙ q)) (values-within (typeOf m) (drop 10 m))
+      by true true false false e f p q = ten (ltb-false _ _ p) (some q) _ (values-name-the-first (typeOf m) (drop 10 m) q) (values-from (typeOf m) (drop 10 m) q) (values-within (typeOf m) (drop 10 m))
       by true true false true true f p q = eleven
       by true true false true false false p q = six
       by true true false true false true p q = placeless 0 (omega arith)

@@ -26,10 +26,10 @@ use Rattle.messages.specs.Messages.{isSession, carries, ownRefusal, readRefusal
 use Rattle.book.specs.Books.{messageRefusal}
 use Rattle.places.specs.Reading as reading
 
--- a refusal's place, of a message of so many bytes: 6 to 10 have one, from 1 to the message's length; all others have none
+-- a refusal's place, of a message of so many bytes: 6 to 10 have one, from 10, where the header ends, to the message's length; all others have none
 pub data Placed (size : ℕ) : ℕ → Type 0 where
   none : (refusal : ℕ) → placeIn refusal ≡ 0 → (numberIn refusal ≤ 5) ⊎ (11 ≤ numberIn refusal) → Placed size refusal
-  one : (refusal : ℕ) → 6 ≤ numberIn refusal → numberIn refusal ≤ 10 → 1 ≤ placeIn refusal → placeIn refusal ≤ size → Placed size refusal
+  one : (refusal : ℕ) → 6 ≤ numberIn refusal → numberIn refusal ≤ 10 → 10 ≤ placeIn refusal → placeIn refusal ≤ size → Placed size refusal
 
 -- a number without a place, under 6 or over 10
 bare : (size n : ℕ) → n < 256 → (n ≤ 5) ⊎ (11 ≤ n) → Placed size n
@@ -37,7 +37,7 @@ bare size n h (inl l) = none n (no-place n h) (inl (omega (arith, number-alone n
 bare size n h (inr l) = none n (no-place n h) (inr (omega (arith, number-alone n h, l)))
 
 -- and one with a place
-with-place : (size n p : ℕ) → 6 ≤ n → n ≤ 10 → 1 ≤ p → p ≤ size → Placed size (told n p)
+with-place : (size n p : ℕ) → 6 ≤ n → n ≤ 10 → 10 ≤ p → p ≤ size → Placed size (told n p)
 with-place size n p a b c d =
     let e = number-of-told n p (omega (arith, b)) in
     let f = place-of-told n p (omega (arith, b)) in
@@ -66,14 +66,14 @@ module _ (m : List ℕ) (exact : length m ≡ totalOf m) (long : 10 ≤ length m
   order-placed r (reading.seven h k) = with-place (length m) 7 (countAt (typeOf m)) (omega arith) (omega arith) (omega (arith, count-bounds (typeOf m) .low)) (omega (arith, h))
   order-placed r (reading.eight h byte b) =
       let l = selected-there (orders.countOf m) (orders.bitsOf m) (b .place) (b .set) in
-      with-place (length m) 8 (countAt (typeOf m) + byte) (omega arith) (omega arith) (omega (arith, b .told)) (omega (arith, h, l, b .told))
+      with-place (length m) 8 (countAt (typeOf m) + byte) (omega arith) (omega arith) (omega (arith, count-bounds (typeOf m) .low)) (omega (arith, h, l, b .told))
   order-placed r (reading.nine h) = with-place (length m) 9 (countAt (typeOf m) + orders.countOf m) (omega arith) (omega arith) (omega (arith, count-bounds (typeOf m) .low)) (omega (arith, h))
   order-placed r (reading.ten-fixed h place f l k) = with-place (length m) 10 place (omega arith) (omega arith) l (omega (arith, h, k))
   order-placed r (reading.ten-optional h place n) =
       let ss = slotsOf (typeOf m) (orders.countOf m) (orders.bitsOf m) in
       let s : sum takes ss ≡ sum takes (n .field .earlier) + sum takes (slot true (Field (n .field .wide) (n .field .kind) (n .field .home)) ∷ n .field .later) =
       ap (sum takes) (n .field .split) ∙ sum-append takes (n .field .earlier) (slot true (Field (n .field .wide) (n .field .kind) (n .field .home)) ∷ n .field .later) in
-      with-place (length m) 10 place (omega arith) (omega arith) (omega (arith, n .there)) (omega (arith, h, n .there, s))
+      with-place (length m) 10 place (omega arith) (omega arith) (omega (arith, n .there, count-bounds (typeOf m) .low)) (omega (arith, h, n .there, s))
 
   session-placed : (r : ℕ) → reading.SessionTells m r → Placed (length m) r
   session-placed r (reading.SessionTells.placeless n h) = bare (length m) n (omega (arith, h)) (inl h)
