@@ -53,7 +53,7 @@ fixed-places message f = by (eqb message 0x38) (eqb message 0x39) (eqb message 0
     by false false true = refl
     by false false false = refl
 
-fixed-from : (message : ℕ) (f : List ℕ) → fixedGood message f ≡ false → 10 ≤ fixedWrong message f
+pub fixed-from : (message : ℕ) (f : List ℕ) → fixedGood message f ≡ false → 10 ≤ fixedWrong message f
 unfolding fixedWrong
 fixed-from message f g = first-from 10 69 (fixedFields message f) (fixed-places message f) (fields-good message f ∙ g)
 
@@ -67,7 +67,7 @@ value-places message b = by (eqb message 0x37) (eqb message 0x24) (eqb message 0
     by false false true = refl
     by false false false = refl
 
-values-from : (message : ℕ) (b : List ℕ) → sessions.valuesGood message b ≡ false → 10 ≤ valuesWrong message b
+pub values-from : (message : ℕ) (b : List ℕ) → sessions.valuesGood message b ≡ false → 10 ≤ valuesWrong message b
 unfolding valuesWrong
 values-from message b g = first-from 10 69 (valueFields message b) (value-places message b) (values.fields-good message b ∙ g)
 
@@ -167,18 +167,18 @@ pub data SessionTells (m : List ℕ) : ℕ → Type 0 where
   six : SessionTells m (told wrongTotal (totalOf m))
   ten : 10 + sessions.fixedSize (typeOf m) ≤ length m → 0 < sessions.fixedSize (typeOf m) → (place : ℕ) → First (valueFields (typeOf m) (drop 10 m)) place → 10 ≤ place → place ≤ 18 → SessionTells m (told badValue place)
 
-module _ (m : List ℕ) where
-  -- a header alone has no values
-  some : sessions.valuesGood (typeOf m) (drop 10 m) ≡ false → 0 < sessions.fixedSize (typeOf m)
-  unfolding sessions.valuesGood sessions.fixedSize
-  some h = by (eqb (typeOf m) 0x37) (eqb (typeOf m) 0x24) (eqb (typeOf m) 0x08) h
-    where
-      by : (x y z : Bool) → cond x (sessions.namesGood (drop 10 m)) (cond y (sessions.statusGood (drop 10 m)) (cond z (sessions.reasonGood (drop 10 m)) true)) ≡ false → 0 < cond x 19 (cond y 67 (cond z 66 0))
-      by true y z q = omega arith
-      by false true z q = omega arith
-      by false false true q = omega arith
-      by false false false q = absurd (true≢false q)
+-- a header alone has no values
+pub some : (message : ℕ) (b : List ℕ) → sessions.valuesGood message b ≡ false → 0 < sessions.fixedSize message
+unfolding sessions.valuesGood sessions.fixedSize
+some message b h = by (eqb message 0x37) (eqb message 0x24) (eqb message 0x08) h
+  where
+    by : (x y z : Bool) → cond x (sessions.namesGood b) (cond y (sessions.statusGood b) (cond z (sessions.reasonGood b) true)) ≡ false → 0 < cond x 19 (cond y 67 (cond z 66 0))
+    by true y z q = omega arith
+    by false true z q = omega arith
+    by false false true q = omega arith
+    by false false false q = absurd (true≢false q)
 
+module _ (m : List ℕ) where
   pub session-tells : SessionTells m (sessions.readRefusal m)
   unfolding sessions.readRefusal
   session-tells =
@@ -190,7 +190,7 @@ module _ (m : List ℕ) where
       by false b c d e f p q = placeless 4 (omega arith)
       by true false c d e f p q = placeless 5 (omega arith)
       by true true true d e f p q = six
-      by true true false false e f p q = ten (ltb-false _ _ p) (some q) _ (values-name-the-first (typeOf m) (drop 10 m) q) (values-from (typeOf m) (drop 10 m) q) (values-within (typeOf m) (drop 10 m))
+      by true true false false e f p q = ten (ltb-false _ _ p) (some (typeOf m) (drop 10 m) q) _ (values-name-the-first (typeOf m) (drop 10 m) q) (values-from (typeOf m) (drop 10 m) q) (values-within (typeOf m) (drop 10 m))
       by true true false true true f p q = eleven
       by true true false true false false p q = six
       by true true false true false true p q = placeless 0 (omega arith)

@@ -1,26 +1,34 @@
 -- EACH PLACE LIES IN THE MESSAGE OR AT ITS END, and exactly 6 to 10 have one. Assumes nothing.
 use mathlib.Core.Logic.{_⊎_, inl, inr}
 use mathlib.Core.Path.{_≡_, refl, sym, ap, _∙_}
-use mathlib.Core.Bool.{Bool, true, false, cond, _&&_}
-use mathlib.Core.List.{List, [], _∷_, _++_, append-nil}
+use mathlib.Core.Bool.{Bool, true, false, cond, not, _||_}
+use mathlib.Core.List.{List, [], _∷_, append-nil}
 use Prim.Native.Nat.{ℕ, _+_, _/_, _≤_, _<_}
 use native.Mathlib.Omega.{arith}
-use lib.Dec.{eqb, leb, ltb}
-use lib.ListN.{length, getD}
+use lib.Dec.{eqb, ltb}
+use lib.ListN.{length, drop}
 use borrow.Author.Tests.{ltb-true, eqb-true}
-use Rattle.refusals.specs.Names.{unknownType}
+use Rattle.refusals.specs.Names.{unknownType, badUnit, tooManyBitfields, unlistedBit, notSelected, badValue, badGroup, notZero, noRoom}
 use Rattle.refusals.specs.Told.{told, numberIn, placeIn}
 use Rattle.refusals.specs.ToldLaws.{number-of-told, place-of-told, number-alone, no-place}
+use Rattle.kinds.specs.Kinds.{allNul}
 use Rattle.wire.specs.Header.{typeOf, totalOf}
 use Rattle.wire.specs.Frame.{startsBad, lengthBad, cutShort, frameRefusal, framed}
 use Rattle.wire.specs.FrameLaws.{whole, framed-length, framed-accepted, framed-again}
 use Rattle.dictionary.specs.declared.Entry.the-variants.{Field}
-use Rattle.block.specs.Slots.{slot, takes, sum}
+use Rattle.block.specs.Slots.{slot, takes, sum, anyBad, badByte, agreeHeld, wrongHeld}
 use Rattle.block.specs.SlotLaws.{both-true, sum-append}
-use Rattle.block.specs.Places.{selectedAt, slotsOf}
-use Rattle.orders.specs.Shapes.{ofVenue, countAt}
+use Rattle.block.specs.Places.{selectedAt, entryAt, slotsOf, hasRequired}
+use Rattle.block.specs.Sizes.{allPlaces}
+use Rattle.block.specs.FirstBad.{eight-names-the-first-bad-byte, held-within}
+use Rattle.orders.specs.Shapes.{ofMember, ofVenue, countAt, mostOf, unitGood, fixedGood}
+use Rattle.orders.specs.FixedFields.{fixedWrong}
+use Rattle.orders.specs.FixedFieldLaws.{fixed-within}
 use Rattle.orders.specs.OrderLaws.{count-bounds}
 use Rattle.orders.specs.Orders as orders
+use Rattle.orders.specs.declared.Record.{Record}
+use Rattle.session_messages.specs.ValueFields.{valuesWrong}
+use Rattle.session_messages.specs.ValueFieldLaws.{values-within}
 use Rattle.session_messages.specs.Sessions as sessions
 use Rattle.messages.specs.Messages.{isSession, carries, ownRefusal, readRefusal}
 use Rattle.book.specs.Books.{messageRefusal}
@@ -44,9 +52,9 @@ with-place size n p a b c d =
     one (told n p) (omega (arith, a, e)) (omega (arith, b, e)) (omega (arith, c, f)) (omega (arith, d, f))
 
 -- a session message that has a fixed part has 19 bytes of it at least
-fixed-long : (m : List ℕ) → 0 < sessions.fixedSize (typeOf m) → 19 ≤ sessions.fixedSize (typeOf m)
+fixed-long : (message : ℕ) → 0 < sessions.fixedSize message → 19 ≤ sessions.fixedSize message
 unfolding sessions.fixedSize
-fixed-long m = by (eqb (typeOf m) 0x37) (eqb (typeOf m) 0x24) (eqb (typeOf m) 0x08)
+fixed-long message = by (eqb message 0x37) (eqb message 0x24) (eqb message 0x08)
   where
     by : (x y z : Bool) → 0 < cond x 19 (cond y 67 (cond z 66 0)) → 19 ≤ cond x 19 (cond y 67 (cond z 66 0))
     by true y z h = omega arith
@@ -79,7 +87,7 @@ module _ (m : List ℕ) (exact : length m ≡ totalOf m) (long : 10 ≤ length m
   session-placed r (reading.SessionTells.placeless n h) = bare (length m) n (omega (arith, h)) (inl h)
   session-placed r reading.eleven = bare (length m) 11 (omega arith) (inr (omega arith))
   session-placed r reading.SessionTells.six = with-place (length m) 6 (totalOf m) (omega arith) (omega arith) (omega (arith, exact, long)) (omega (arith, exact))
-  session-placed r (reading.ten h k place f l q) = with-place (length m) 10 place (omega arith) (omega arith) l (omega (arith, h, k, q, fixed-long m k))
+  session-placed r (reading.ten h k place f l q) = with-place (length m) 10 place (omega arith) (omega arith) l (omega (arith, h, k, q, fixed-long (typeOf m) k))
 
 -- ---- whatever the bytes
 
@@ -130,3 +138,61 @@ booked-within s = by (eqb (frameRefusal s) 0) refl (ofVenue (typeOf (framed s)))
     by true e true =
         let z = eqb-true (frameRefusal s) 0 e in
         order-placed (framed s) (as-long s z) (ten-at-least s z) _ (reading.reading-tells (framed s))
+
+-- ---- whatever the record: of what writing answers, in the message that would be written
+
+pub order-written-within : (r : Record) (room : ℕ) → Placed (orders.sizeOf r) (orders.writeRefusal r room)
+unfolding orders.writeRefusal orders.sizeOf orders.writeSlots
+order-written-within r room =
+    by (ofMember (r .message) || ofVenue (r .message)) (unitGood (r .message) (r .unit)) (ltb (mostOf (r .message)) (r .count)) (anyBad (orders.writeSlots r)) (hasRequired (r .message) (r .count) (r .bits))
+    (fixedGood (r .message) (r .fixed)) (agreeHeld (orders.writeSlots r) (r .slots)) (orders.zeroUnused r) (ltb room (orders.sizeOf r)) refl refl
+  where
+    low : 10 ≤ countAt (r .message)
+    low = omega (arith, count-bounds (r .message) .low)
+
+    by : (a b c d e f g h i : Bool) → anyBad (orders.writeSlots r) ≡ d → fixedGood (r .message) (r .fixed) ≡ f
+        → Placed (orders.sizeOf r) (cond (not a) unknownType (cond (not b) badUnit (cond c (told tooManyBitfields (countAt (r .message))) (cond d (told unlistedBit (countAt (r .message) + badByte 0 (orders.writeSlots r)))
+        (cond (not e) (told notSelected (countAt (r .message) + r .count)) (cond (not f) (told badValue (fixedWrong (r .message) (r .fixed)))
+        (cond (not g) (told badValue (countAt (r .message) + r .count + wrongHeld 0 (orders.writeSlots r) (r .slots))) (cond (not h) notZero (cond i noRoom 0)))))))))
+    by false b c d e f g h i p q = bare (orders.sizeOf r) 4 (omega arith) (inl (omega arith))
+    by true false c d e f g h i p q = bare (orders.sizeOf r) 5 (omega arith) (inl (omega arith))
+    by true true true d e f g h i p q = with-place (orders.sizeOf r) 7 (countAt (r .message)) (omega arith) (omega arith) low (omega arith)
+    by true true false true e f g h i p q =
+        let b = eight-names-the-first-bad-byte (selectedAt (r .count) (r .bits)) (entryAt (r .message)) allPlaces 0 p in
+        let l = selected-there (r .count) (r .bits) (b .place) (b .set) in
+        with-place (orders.sizeOf r) 8 (countAt (r .message) + badByte 0 (orders.writeSlots r)) (omega arith) (omega arith) (omega (arith, low)) (omega (arith, l, b .told))
+    by true true false false false f g h i p q = with-place (orders.sizeOf r) 9 (countAt (r .message) + r .count) (omega arith) (omega arith) (omega (arith, low)) (omega arith)
+    by true true false false true false g h i p q =
+        with-place (orders.sizeOf r) 10 (fixedWrong (r .message) (r .fixed)) (omega arith) (omega arith) (reading.fixed-from (r .message) (r .fixed) q) (omega (arith, fixed-within (r .message) (r .fixed)))
+    by true true false false true true false h i p q =
+        with-place (orders.sizeOf r) 10 (countAt (r .message) + r .count + wrongHeld 0 (orders.writeSlots r) (r .slots)) (omega arith) (omega arith) (omega (arith, low)) (omega (arith, held-within 0 (orders.writeSlots r) (r .slots)))
+    by true true false false true true true false i p q = bare (orders.sizeOf r) 12 (omega arith) (inr (omega arith))
+    by true true false false true true true true true p q = bare (orders.sizeOf r) 13 (omega arith) (inr (omega arith))
+    by true true false false true true true true false p q = bare (orders.sizeOf r) 0 (omega arith) (inl (omega arith))
+
+-- a session message's fixed part holds every place that is told
+pub session-written-within : (message unit number : ℕ) (b : List ℕ) (room : ℕ) → Placed (10 + sessions.fixedSize message) (sessions.writeRefusal message unit number b room)
+unfolding sessions.writeRefusal
+session-written-within message unit number b room =
+    by (sessions.ofMember message || sessions.ofVenue message) (sessions.unitGood unit number) (ltb (length b) (sessions.fixedSize message)) (sessions.valuesGood message b) (eqb (sessions.bodyEnd message b) 0)
+    (allNul (drop (sessions.sizeOf message b) b)) (ltb room (10 + sessions.sizeOf message b)) refl
+  where
+    unused : Placed (10 + sessions.fixedSize message) (sessions.unusedRefusal message)
+    unused = go (eqb (sessions.fixedSize message) 0)
+      where
+        go : (x : Bool) → Placed (10 + sessions.fixedSize message) (cond x notZero badGroup)
+        go true = bare (10 + sessions.fixedSize message) 12 (omega arith) (inr (omega arith))
+        go false = bare (10 + sessions.fixedSize message) 11 (omega arith) (inr (omega arith))
+
+    by : (x y c d e f g : Bool) → sessions.valuesGood message b ≡ d
+        → Placed (10 + sessions.fixedSize message) (cond (not x) unknownType (cond (not y) badUnit (cond c badGroup (cond (not d) (told badValue (valuesWrong message b)) (cond e badGroup (cond (not f) (sessions.unusedRefusal message) (cond g noRoom 0)))))))
+    by false y c d e f g p = bare (10 + sessions.fixedSize message) 4 (omega arith) (inl (omega arith))
+    by true false c d e f g p = bare (10 + sessions.fixedSize message) 5 (omega arith) (inl (omega arith))
+    by true true true d e f g p = bare (10 + sessions.fixedSize message) 11 (omega arith) (inr (omega arith))
+    by true true false false e f g p =
+        with-place (10 + sessions.fixedSize message) 10 (valuesWrong message b) (omega arith) (omega arith) (reading.values-from message b p)
+        (omega (arith, values-within message b, fixed-long message (reading.some message b p)))
+    by true true false true true f g p = bare (10 + sessions.fixedSize message) 11 (omega arith) (inr (omega arith))
+    by true true false true false false g p = unused
+    by true true false true false true true p = bare (10 + sessions.fixedSize message) 13 (omega arith) (inr (omega arith))
+    by true true false true false true false p = bare (10 + sessions.fixedSize message) 0 (omega arith) (inl (omega arith))

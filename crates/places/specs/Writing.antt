@@ -5,27 +5,27 @@ use mathlib.Core.Bool.{Bool, true, false, cond, not, _&&_, _||_}
 use mathlib.Core.List.{List, [], _∷_, _++_, append-assoc, append-nil}
 use Prim.Native.Nat.{ℕ, zero, suc, _+_, _-_, _/_, _%_, _≤_, _<_}
 use native.Mathlib.Omega.{arith}
-use lib.Dec.{eqb, leb, ltb}
+use lib.Dec.{eqb, ltb}
 use lib.ListN.{length, getD, take, drop, length-append, length-drop, List·getD-append}
 use lib.Seq.{length-take-le, take-at, drop-at, getD-at, getD-take}
-use borrow.Author.Tests.{lt-leb, le-ltb, lt-ltb, ltb-true, ltb-false, eq-eqb}
-use Rattle.refusals.specs.Names.{unknownType, badUnit, wrongTotal, tooManyBitfields, unlistedBit, notSelected, badValue, notZero, noRoom}
+use borrow.Author.Tests.{lt-leb, le-ltb, ltb-true, ltb-false, eq-eqb}
+use Rattle.refusals.specs.Names.{unknownType, badUnit, tooManyBitfields, unlistedBit, notSelected, badValue, notZero, noRoom}
 use Rattle.refusals.specs.Told.{told, numberIn}
 use Rattle.refusals.specs.ToldLaws.{told-refuses, number-alone}
 use Rattle.kinds.specs.Kinds.{agreesOf}
-use Rattle.wire.specs.Header.{headerBytes, typeOf, unitOf, totalOf}
+use Rattle.wire.specs.Header.{headerBytes, typeOf, totalOf}
 use Rattle.dictionary.specs.declared.Entry.{Entry}
 use Rattle.dictionary.specs.declared.Entry.the-variants.{Refused, Field}
 use Rattle.block.specs.Slots.{zeros, Slot, slot, widthOf, takes, width, sum, anyBad, badByte, gathered, agreeSlot, agreeSent, agreeHeld, wrongSent, wrongHeld}
 use Rattle.block.specs.SlotLaws.{gathered-length, agree-gathered}
 use Rattle.block.specs.Places.{bitSet, selectedAt, entryAt, slotsFrom, slotsOf, hasRequired}
 use Rattle.block.specs.Dictionaries.{widths-fit}
-use Rattle.block.specs.Sizes.{allPlaces, fixedEnd, fixedSize, layoutSize}
+use Rattle.block.specs.Sizes.{allPlaces, fixedEnd}
 use Rattle.orders.specs.Shapes.{ofMember, ofVenue, countAt, mostOf, unitGood, fixedGood}
 use Rattle.orders.specs.FixedFields.{fixedWrong}
 use Rattle.orders.specs.OrderLaws.{count-bounds, most-bound}
 use Rattle.orders.specs.Orders.{countOf, bitsOf, fixedOf, optionalOf, headRefusal, blockRefusal, readRefusal, writeSlots, zeroUnused, sizeOf, orderBytes, writeRefusal}
-use Rattle.orders.specs.RoundTrip.{Sound, parts-length, parts-fixed, parts-count, parts-bits, parts-rest}
+use Rattle.orders.specs.RoundTrip.{Sound, parts-length, parts-fixed, parts-bits, parts-rest}
 use Rattle.orders.specs.declared.Record.{Record}
 use Rattle.order_reader.proofs.InPlace.{good-front, wrong-front}
 
