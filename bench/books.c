@@ -84,6 +84,24 @@ void ask_book(const char *what, uint32_t date, size_t len, size_t state_len) {
         books_differ(what);
 }
 
+/* No book has a rejection: a whole one is refused, whatever unit and number it carries. */
+static void compare_rejected(const struct books *b, const struct workload *w) {
+    uint8_t *at = book + b->length;
+    size_t len = b->length + w->total;
+    memcpy(at, w->message, w->total);
+    for (size_t cut = b->length; cut <= len; cut++)
+        ask_book("the sides differ on a book with a rejection, cut", DATE, cut, STATE);
+    for (unsigned unit = 0; unit < 256; unit++)
+        for (unsigned number = 0; number < 4; number++) {
+            uint8_t state[STATE];
+            at[5] = (uint8_t)unit;
+            at[6] = (uint8_t)number;
+            ask_book("the sides differ on a book with a rejection", DATE, len, STATE);
+            if (base_restart(DATE, book, len, state, STATE) != BOE_BAD_BOOK)
+                books_differ("a book with a rejection is taken");
+        }
+}
+
 void compare_books(void) {
     struct books b = make_book(330, 2);
     for (size_t len = 0; len <= b.length; len++)
@@ -100,4 +118,6 @@ void compare_books(void) {
         }
         book[at] = kept;
     }
+    for (size_t i = WORKLOADS; i < WORKLOADS + REJECTIONS; i++)
+        compare_rejected(&b, &workloads[i]);
 }

@@ -26,7 +26,8 @@ void books_differ(const char *what);
 /* Asks both sides for a restart of the first bytes of `book`, and compares the refusals and all bytes of the two states. */
 void ask_book(const char *what, uint32_t date, size_t len, size_t state_len);
 
-/* The same on a small book: every cut, every byte with each of its other values, other dates, every size of the state. */
+/* The same on a small book: every cut, every byte with each of its other values, other dates, every size of the state; and with each
+ * rejection after its messages, whole, torn, and with a unit and a number. */
 void compare_books(void);
 
 #endif

@@ -1,9 +1,9 @@
-/* The messages a to e. */
+/* The messages a to e, and the three rejections. */
 #include "messages.h"
 
 #include <string.h>
 
-struct workload workloads[WORKLOADS];
+struct workload workloads[WORKLOADS + REJECTIONS];
 
 void add(struct workload *w, const char *bytes, size_t n, size_t width) {
     memcpy(w->message + w->total, bytes, n);
@@ -117,5 +117,74 @@ void make_workloads(void) {
     ADD("TEST", 4);
     ADD("123C", 4);
     ADD("\x78", 4);
+    finish(w);
+
+    /* Order Rejected with 19 bitfields and all listed bits, its texts filled */
+    w = start(5, "Order Rejected", 1);
+    ADD("\xBA\xBA\x00\x00\x26\x00\x00\x00\x00\x00", 10);
+    ADD("\xE0\xFA\x20\xF7\x36\x71\xF8\x11", 8);
+    ADD("ABCDEFGHIJ0123456789", 20);
+    ADD("D", 1);
+    ADD("A reason in words that takes up all sixty characters of Text", 60);
+    ADD("\x00\x13\x7F\x43\xFF\x00\x00\x19\x00\x7E", 2 + 19);
+    ADD("1", 1);                                                                /* Side */
+    ADD("\x44\xD6\x12", 8);                                                     /* PegDifference */
+    ADD("\x44\xD6\x12", 8);                                                     /* Price */
+    ADD("G", 1);                                                                /* ExecInst */
+    ADD("2", 1);                                                                /* OrdType */
+    ADD("0", 1);                                                                /* TimeInForce */
+    ADD("\x64", 4);                                                             /* MinQty */
+    ADD("MSFTMSFT", 8);                                                         /* Symbol */
+    ADD("SUFFIXES", 8);                                                         /* SymbolSfx */
+    ADD("P", 1);                                                                /* Capacity */
+    ADD("DEFGHIJKLMNOPQRS", 16);                                                /* Account */
+    ADD("TEST", 4);                                                             /* ClearingFirm */
+    ADD("123C", 4);                                                             /* ClearingAccount */
+    ADD("V", 1);                                                                /* DisplayIndicator */
+    ADD("\xC8", 4);                                                             /* MaxFloor */
+    ADD("\x0A", 2);                                                             /* DiscretionAmount */
+    ADD("\xE8\x03", 4);                                                         /* OrderQty */
+    ADD("NM1", 3);                                                              /* PreventMatch */
+    ADD("\x05\x10\x1E\xB7\x5E\x39\x2F\x02", 8);                                 /* SecondaryOrderID */
+    ADD("Y", 1);                                                                /* AttributedQuote */
+    ADD("N", 1);                                                                /* ExtExecInst */
+    ADD("Text of sixty-four characters that the venue sends back as it is", 64); /* EchoText */
+    ADD("\x08\xE2\x01", 8);                                                     /* StopPx */
+    ADD("R123", 4);                                                             /* RoutingInst */
+    ADD("ROUTES", 6);                                                           /* RoutStrategy */
+    ADD("RTF", 3);                                                              /* RouteDeliveryMethod */
+    ADD("X", 1);                                                                /* ExDestination */
+    finish(w);
+
+    /* Cancel Rejected with all listed bits */
+    w = start(6, "Cancel Rejected", 1);
+    ADD("\xBA\xBA\x00\x00\x2B\x00\x00\x00\x00\x00", 10);
+    ADD("\xE0\xFA\x20\xF7\x36\x71\xF8\x11", 8);
+    ADD("ABC123", 20);
+    ADD("J", 1);
+    ADD("TOO LATE", 60);
+    ADD("\x00\x08\x7F\x43\x00\x00\x00\x00\x00\x06", 2 + 8);
+    ADD("1", 1);                                                                /* Side */
+    ADD("\x44\xD6\x12", 8);                                                     /* PegDifference */
+    ADD("\x44\xD6\x12", 8);                                                     /* Price */
+    ADD("G", 1);                                                                /* ExecInst */
+    ADD("2", 1);                                                                /* OrdType */
+    ADD("0", 1);                                                                /* TimeInForce */
+    ADD("\x64", 4);                                                             /* MinQty */
+    ADD("MSFT", 8);                                                             /* Symbol */
+    ADD("", 8);                                                                 /* SymbolSfx */
+    ADD("P", 1);                                                                /* Capacity */
+    ADD("Text of sixty-four characters that the venue sends back as it is", 64); /* EchoText */
+    ADD("\x08\xE2\x01", 8);                                                     /* StopPx */
+    finish(w);
+
+    /* User Modify Rejected, which lists no bit, with two bitfields */
+    w = start(7, "User Modify Rejected", 1);
+    ADD("\xBA\xBA\x00\x00\x29\x00\x00\x00\x00\x00", 10);
+    ADD("\xE0\xFA\x20\xF7\x36\x71\xF8\x11", 8);
+    ADD("ABC123", 20);
+    ADD("P", 1);
+    ADD("Pending", 60);
+    ADD("\x00\x02\x00\x00", 2 + 2);
     finish(w);
 }

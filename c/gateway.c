@@ -1,5 +1,6 @@
 /* A small gateway over the C entry points. It restarts from its day book, reads the venue's bytes in whatever pieces they come, books each
- * message that is the next of its unit, and keeps the book in a file that a restart takes after any kill.
+ * message that is the next of its unit, and keeps the book in a file that a restart takes after any kill. A rejection, which has no unit and no
+ * number, it hands to the desk and does not book.
  *
  * usage: gateway DATE BOOKFILE [LOGIN] < LINE    DATE as YYYYMMDD; LINE is what the venue sends on one line, from the Login Response on;
  *                                                LOGIN, a new file, gets the bytes of the login, which a gateway sends on that line
@@ -7,8 +8,9 @@
  *        gateway --help
  *
  * Standard output is the desk: it gets a line for each message of the book, first those of earlier starts, and each new one when the file
- * has it; and at the session's end one line more: the book's messages, its length, and how many messages were refused, in all and by number.
- * Standard error tells what is wrong. */
+ * has it; a line for each rejection, between them as it came: its type, ClOrdID, reason and text; and at the session's end one line more: the
+ * book's messages, its length, how many rejections were handed to the desk on this line, and how many messages were refused, in all and by
+ * number. A rejection is in no book: no later start hands it on again. Standard error tells what is wrong. */
 #define _XOPEN_SOURCE 700
 #include "places.h"
 
@@ -35,11 +37,14 @@ static uint8_t book[BOE_BOOK_MOST_BYTES + 1];
 static struct boe_state state;
 static int file;
 
+/* How many of the book's bytes the file has and the desk was handed. */
+static size_t settled;
+
 /* Whether a Login Response of status A has come on this line. */
 static bool accepted;
 
-/* How many messages were refused, by the number of refusal. */
-static unsigned long refused[BOE_REFUSALS + 1];
+/* How many rejections were handed to the desk on this line, and how many messages were refused, by the number of refusal. */
+static unsigned long handed, refused[BOE_REFUSALS + 1];
 
 /* A system call has failed, or a file is not what it must be. The program ends without a mark: what the file holds then is a book or a torn
  * one, and the next start restarts from it. */
@@ -143,6 +148,13 @@ static void hand_on(size_t at) {
     if (fflush(stdout) != 0) fail("standard output");
 }
 
+/* What was booked since the last time is stored and flushed, then handed on. */
+static void settle(void) {
+    store(settled);
+    hand_on(settled);
+    settled = book_length();
+}
+
 static void write_messages(void) {
     size_t at = 0;
     for (size_t length; (length = next_message(&at)) != 0; at += length) fwrite(book + at, 1, length, stdout);
@@ -203,9 +215,12 @@ static unsigned send_login(const char *path) {
 
 /* ---- a session */
 
-/* Tells a status or reason of the venue's, which may be any byte, and its text. */
+/* A status or reason of the venue's, which may be blank, as a character of a line. */
+static char shown(uint8_t code) { return code > ' ' && code <= '~' ? (char)code : '?'; }
+
+/* Tells a status or reason of the venue's, and its text. */
 static void tell_text(const char *what, uint8_t code, const uint8_t *text, int most) {
-    fprintf(stderr, "gateway: %s: %c: %.*s\n", what, code > ' ' && code <= '~' ? code : '?', most, (const char *)text);
+    fprintf(stderr, "gateway: %s: %c: %.*s\n", what, shown(code), most, (const char *)text);
 }
 
 /* A Login Response: the first alone is in phase. Only status A lets messages be booked; any other ends the session. */
@@ -219,24 +234,39 @@ static unsigned respond(const struct boe_record *record, int *status) {
     return 0;
 }
 
-/* What a whole message from the venue does: its refusal, or 0 where it is booked or passed over; the status where it ends the session. */
+/* Hands a rejection to the desk: a line with type, ClOrdID, reason and text, after the lines of what was booked before it. The three types have
+ * these fields at the same places. */
+static void hand_rejection(const struct boe_record *record) {
+    const char *fields = (const char *)record->bytes, *text = fields + BOE_REJECTION_TEXT_AT;
+    settle();
+    printf("%02X %.*s %c%s%.*s\n", record->bytes[BOE_RECORD_TYPE_AT], BOE_REJECTION_CL_ORD_ID_LEN, fields + BOE_REJECTION_CL_ORD_ID_AT,
+           shown(record->bytes[BOE_REJECTION_ORDER_REJECT_REASON_AT]), *text ? " " : "", BOE_REJECTION_TEXT_LEN, text);
+    if (fflush(stdout) != 0) fail("standard output");
+    handed++;
+}
+
+/* What a whole message from the venue does: its refusal, or 0 where it is booked, handed to the desk or passed over; the status where it ends the
+ * session. */
 static unsigned receive(const uint8_t *message, size_t length, int *status) {
     struct boe_record record;
     unsigned refusal = boe_read(BOE_FROM_VENUE, message, length, &record, sizeof record);
     if (refusal) return refusal;
-    switch (record.bytes[BOE_RECORD_TYPE_AT]) {
-    case BOE_LOGIN_RESPONSE:
-        return respond(&record, status);
-    case BOE_LOGOUT:
+    uint8_t type = record.bytes[BOE_RECORD_TYPE_AT];
+    if (type == BOE_LOGIN_RESPONSE) return respond(&record, status);
+    if (type == BOE_LOGOUT) {
         tell_text("Logout", record.bytes[BOE_LOGOUT_REASON_AT], record.bytes + BOE_LOGOUT_TEXT_AT, BOE_LOGOUT_TEXT_LEN);
         *status = accepted ? 0 : LOG_IN_AGAIN;
         return 0;
-    case BOE_ACKNOWLEDGMENT:
-    case BOE_EXECUTION:
-        if (!accepted) return BOE_OUT_OF_PHASE;
+    }
+    if (!accepted) return BOE_OUT_OF_PHASE;
+    switch (boe_told(type)) {
+    case BOE_BOOKED:
         return boe_book_append(message, length, book, BOE_BOOK_MOST_BYTES, &state, sizeof state);
+    case BOE_HANDED:
+        hand_rejection(&record);
+        return 0;
     default: /* Replay Complete and heartbeats */
-        return accepted ? 0 : BOE_OUT_OF_PHASE;
+        return 0;
     }
 }
 
@@ -270,7 +300,7 @@ static size_t work_off(const uint8_t *line, size_t held, int *status) {
     return at;
 }
 
-/* Follows the line until the session is over, and answers the exit status. What was booked is stored and flushed, then handed on. */
+/* Follows the line until the session is over, and answers the exit status. */
 static int follow(void) {
     uint8_t line[2 * BOE_MESSAGE_MOST_BYTES];
     size_t held = 0;
@@ -283,9 +313,8 @@ static int follow(void) {
             return LOG_IN_AGAIN;
         }
         held += (size_t)n;
-        size_t from = book_length(), at = work_off(line, held, &status);
-        store(from);
-        hand_on(from);
+        size_t at = work_off(line, held, &status);
+        settle();
         /* the rest is the front of a message, at most 2,047 bytes, so that there is always room for more */
         held -= at;
         memmove(line, line + at, held);
@@ -303,7 +332,7 @@ static void close_book(void) {
 static void report(void) {
     unsigned long all = 0;
     for (unsigned i = 0; i <= BOE_REFUSALS; i++) all += refused[i];
-    printf("messages %lu length %zu refused %lu", (unsigned long)number_at(state.bytes + BOE_STATE_MESSAGES_AT), book_length(), all);
+    printf("messages %lu length %zu handed %lu refused %lu", (unsigned long)number_at(state.bytes + BOE_STATE_MESSAGES_AT), book_length(), handed, all);
     for (unsigned i = 0; i <= BOE_REFUSALS; i++)
         if (refused[i]) printf(" %u:%lu", i, refused[i]);
     printf("\n");
@@ -326,6 +355,7 @@ static int run(uint32_t date, const char *path, const char *login) {
     unsigned refusal = take_up(date, path);
     if (refusal) return (int)BOE_NUMBER(refusal);
     hand_on(0);
+    settled = book_length();
     if (login) refusal = send_login(login);
     int status = refusal ? (int)BOE_NUMBER(refusal) : follow();
     close_book();

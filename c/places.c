@@ -21,13 +21,18 @@ static const struct field {
 #define FIXED(message, field, name) {BOE_##message, BOE_##message##_##field##_AT + FURTHER, 0, 0, 0, name}
 #define FIELD(message, field, name) \
     {BOE_##message, 0, BOE_##message##_##field##_BYTE, BOE_##message##_##field##_BIT, BOE_##message##_##field##_LEN, name}
-/* as far as the two have them alike */
+/* as far as Order Acknowledgment and Order Execution have them alike */
 #define VENUE_FIELDS(message) \
     FIELD(message, SIDE, "Side"), FIELD(message, PRICE, "Price"), FIELD(message, EXEC_INST, "ExecInst"), FIELD(message, ORD_TYPE, "OrdType"), \
     FIELD(message, TIME_IN_FORCE, "TimeInForce"), FIELD(message, MIN_QTY, "MinQty"), FIELD(message, SYMBOL, "Symbol"), \
     FIELD(message, SYMBOL_SFX, "SymbolSfx"), FIELD(message, CAPACITY, "Capacity"), FIELD(message, ACCOUNT, "Account"), \
     FIELD(message, CLEARING_FIRM, "ClearingFirm"), FIELD(message, CLEARING_ACCOUNT, "ClearingAccount"), \
     FIELD(message, MAX_FLOOR, "MaxFloor"), FIELD(message, ORDER_QTY, "OrderQty")
+/* bytes 1 and 2 of Order Rejected and of Cancel Rejected */
+#define REJECTION_FIELDS(message) \
+    FIELD(message, SIDE, "Side"), FIELD(message, PEG_DIFFERENCE, "PegDifference"), FIELD(message, PRICE, "Price"), \
+    FIELD(message, EXEC_INST, "ExecInst"), FIELD(message, ORD_TYPE, "OrdType"), FIELD(message, TIME_IN_FORCE, "TimeInForce"), \
+    FIELD(message, MIN_QTY, "MinQty"), FIELD(message, SYMBOL, "Symbol"), FIELD(message, SYMBOL_SFX, "SymbolSfx"), FIELD(message, CAPACITY, "Capacity")
 
     FIXED(NEW_ORDER, CL_ORD_ID, "ClOrdID"), FIXED(NEW_ORDER, SIDE, "Side"), FIXED(NEW_ORDER, ORDER_QTY, "OrderQty"),
     FIELD(NEW_ORDER, CLEARING_FIRM, "ClearingFirm"), FIELD(NEW_ORDER, CLEARING_ACCOUNT, "ClearingAccount"), FIELD(NEW_ORDER, PRICE, "Price"),
@@ -42,13 +47,35 @@ static const struct field {
     FIELD(ACKNOWLEDGMENT, LAST_SHARES, "LastShares"), FIELD(ACKNOWLEDGMENT, LAST_PX, "LastPx"), FIELD(ACKNOWLEDGMENT, EXPIRE_TIME, "ExpireTime"),
     FIXED(EXECUTION, CL_ORD_ID, "ClOrdID"), FIXED(EXECUTION, BASE_LIQUIDITY_INDICATOR, "BaseLiquidityIndicator"),
     FIXED(EXECUTION, SUB_LIQUIDITY_INDICATOR, "SubLiquidityIndicator"), FIXED(EXECUTION, CONTRA_BROKER, "ContraBroker"), VENUE_FIELDS(EXECUTION),
+    FIXED(REJECTION, CL_ORD_ID, "ClOrdID"), FIXED(REJECTION, ORDER_REJECT_REASON, "OrderRejectReason"), FIXED(REJECTION, TEXT, "Text"),
+    REJECTION_FIELDS(REJECTION), FIELD(REJECTION, ACCOUNT, "Account"), FIELD(REJECTION, CLEARING_FIRM, "ClearingFirm"),
+    FIELD(REJECTION, CLEARING_ACCOUNT, "ClearingAccount"), FIELD(REJECTION, DISPLAY_INDICATOR, "DisplayIndicator"),
+    FIELD(REJECTION, MAX_FLOOR, "MaxFloor"), FIELD(REJECTION, DISCRETION_AMOUNT, "DiscretionAmount"), FIELD(REJECTION, ORDER_QTY, "OrderQty"),
+    FIELD(REJECTION, PREVENT_MATCH, "PreventMatch"), FIELD(REJECTION, SECONDARY_ORDER_ID, "SecondaryOrderID"),
+    FIELD(REJECTION, ATTRIBUTED_QUOTE, "AttributedQuote"), FIELD(REJECTION, EXT_EXEC_INST, "ExtExecInst"), FIELD(REJECTION, ECHO_TEXT, "EchoText"),
+    FIELD(REJECTION, STOP_PX, "StopPx"), FIELD(REJECTION, ROUTING_INST, "RoutingInst"), FIELD(REJECTION, ROUT_STRATEGY, "RoutStrategy"),
+    FIELD(REJECTION, ROUTE_DELIVERY_METHOD, "RouteDeliveryMethod"), FIELD(REJECTION, EX_DESTINATION, "ExDestination"),
+    FIXED(CANCEL_REJECTION, CL_ORD_ID, "ClOrdID"), FIXED(CANCEL_REJECTION, CANCEL_REJECT_REASON, "CancelRejectReason"),
+    FIXED(CANCEL_REJECTION, TEXT, "Text"), REJECTION_FIELDS(CANCEL_REJECTION), FIELD(CANCEL_REJECTION, ECHO_TEXT, "EchoText"),
+    FIELD(CANCEL_REJECTION, STOP_PX, "StopPx"),
+    FIXED(MODIFY_REJECTION, CL_ORD_ID, "ClOrdID"), FIXED(MODIFY_REJECTION, MODIFY_REJECT_REASON, "ModifyRejectReason"),
+    FIXED(MODIFY_REJECTION, TEXT, "Text"),
     FIXED(LOGIN_REQUEST, SESSION_SUB_ID, "SessionSubID"), FIXED(LOGIN_REQUEST, USERNAME, "Username"), FIXED(LOGIN_REQUEST, PASSWORD, "Password"),
     FIXED(LOGIN_RESPONSE, STATUS, "LoginResponseStatus"), FIXED(LOGIN_RESPONSE, TEXT, "LoginResponseText"),
     FIXED(LOGOUT, REASON, "LogoutReason"), FIXED(LOGOUT, TEXT, "LogoutReasonText")};
 
 /* The place of the count byte in an order message. */
 static unsigned count_place(uint8_t type) {
-    return type == BOE_NEW_ORDER ? 35 : type == BOE_CANCEL_ORDER ? 30 : type == BOE_ACKNOWLEDGMENT ? 47 : type == BOE_EXECUTION ? 69 : 0;
+    switch (type) {
+    case BOE_NEW_ORDER: return 35;
+    case BOE_CANCEL_ORDER: return 30;
+    case BOE_ACKNOWLEDGMENT: return 47;
+    case BOE_EXECUTION: return 69;
+    case BOE_REJECTION:
+    case BOE_CANCEL_REJECTION:
+    case BOE_MODIFY_REJECTION: return 100;
+    default: return 0;
+    }
 }
 
 /* The field that begins at a place of a message. The count byte and the bitfields are given: `count[n]` is bitfield n. The optional fields stand

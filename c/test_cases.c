@@ -24,6 +24,17 @@ static const uint8_t execution[85] = {
     0, 0, 0x08, 0xE2, 0x01, 0, 0, 0, 0, 0, 0x14, 0, 0, 0, 0x41, 0,
     0x42, 0x41, 0x54, 0x53, 0, 0x03, 0, 0, 0x46, 0x54, 0x45, 0x53, 0x54, 0x31, 0x32, 0x33,
     0x43, 0x78, 0, 0, 0};
+/* 000's rejections, tables 37, 43 and 47, texts filled to their width. */
+static const uint8_t rejection[120] = {
+    0xBA, 0xBA, 0x76, 0, 0x26, 0, 0, 0, 0, 0, 0xE0, 0xFA, 0x20, 0xF7, 0x36, 0x71, 0xF8, 0x11, 'A', 'B', 'C', '1', '2', '3',
+    [38] = 'D', 'D', 'u', 'p', 'l', 'i', 'c', 'a', 't', 'e', ' ', 'C', 'l', 'O', 'r', 'd', 'I', 'D',
+    [100] = 3, 0, 0x01, 0x06, 'M', 'S', 'F', 'T', [112] = 'T', 'E', 'S', 'T'};
+static const uint8_t cancel_rejection[101] = {
+    0xBA, 0xBA, 0x63, 0, 0x2B, 0, 0, 0, 0, 0, 0xE0, 0xFA, 0x20, 0xF7, 0x36, 0x71, 0xF8, 0x11, 'A', 'B', 'C', '1', '2', '3',
+    [38] = 'J', 'T', 'O', 'O', ' ', 'L', 'A', 'T', 'E'};
+static const uint8_t modify_rejection[101] = {
+    0xBA, 0xBA, 0x63, 0, 0x29, 0, 0, 0, 0, 0, 0xE0, 0xFA, 0x20, 0xF7, 0x36, 0x71, 0xF8, 0x11, 'A', 'B', 'C', '1', '2', '3',
+    [38] = 'P', 'P', 'e', 'n', 'd', 'i', 'n', 'g'};
 
 /* 000's session examples: its login, its response with the units of its notes, and its Logout with the length of its bytes. */
 static const uint8_t login[69] = {
@@ -163,6 +174,232 @@ static void messages(void) {
     record.bytes[BOE_NEW_ORDER_STOP_PX_AT] = 0;
     record.bytes[BOE_RECORD_BITFIELDS_AT + BOE_NEW_ORDER_SYMBOL_BYTE - 1] &= (uint8_t)~BOE_NEW_ORDER_SYMBOL_BIT;
     check(boe_write(BOE_FROM_MEMBER, &record, sizeof record, out, sizeof out) == refused_at(BOE_NOT_SELECTED, 38), "Symbol is required");
+}
+
+/* ---- rejections */
+
+/* The fixed part of a rejection by the names of its type: each where it is on the wire, and the count after it. */
+#define REJECTION_FIXED(name, reason, message) \
+    do { \
+        struct boe_record record; \
+        const uint8_t *wire = (message), *at = record.bytes; \
+        check(boe_read(BOE_FROM_VENUE, wire, sizeof(message), &record, sizeof record) == 0, "a rejection"); \
+        check(at[BOE_RECORD_TYPE_AT] == BOE_##name && all_are(at + BOE_RECORD_UNIT_AT, 5, 0), "its type, and no unit or number"); \
+        check(memcmp(at + BOE_##name##_TRANSACTION_TIME_AT, wire + 10, BOE_##name##_TRANSACTION_TIME_LEN) == 0, "TransactionTime is at 10"); \
+        check(memcmp(at + BOE_##name##_CL_ORD_ID_AT, wire + 18, BOE_##name##_CL_ORD_ID_LEN) == 0, "ClOrdID is at 18"); \
+        check(at[BOE_##name##_##reason##_AT] == wire[38] && BOE_##name##_##reason##_LEN == 1, "its reason is at 38"); \
+        check(memcmp(at + BOE_##name##_TEXT_AT, wire + 39, BOE_##name##_TEXT_LEN) == 0, "Text is at 39"); \
+        check(at[BOE_##name##_TEXT_AT] == wire[39] && at[BOE_##name##_TEXT_AT + BOE_##name##_TEXT_LEN] == wire[99], "and a byte after it at 99"); \
+        check(at[BOE_RECORD_COUNT_AT] == wire[100], "the count is at 100"); \
+    } while (0)
+
+/* The optional fields by their names, in the order of the message. */
+struct optional {
+    uint16_t at;
+    uint8_t len, byte, bit;
+};
+#define OPTIONAL(message, name) \
+    {BOE_##message##_##name##_AT, BOE_##message##_##name##_LEN, BOE_##message##_##name##_BYTE, BOE_##message##_##name##_BIT}
+#define BYTES_1_AND_2(message) \
+    OPTIONAL(message, SIDE), OPTIONAL(message, PEG_DIFFERENCE), OPTIONAL(message, PRICE), OPTIONAL(message, EXEC_INST), \
+    OPTIONAL(message, ORD_TYPE), OPTIONAL(message, TIME_IN_FORCE), OPTIONAL(message, MIN_QTY), OPTIONAL(message, SYMBOL), \
+    OPTIONAL(message, SYMBOL_SFX), OPTIONAL(message, CAPACITY)
+static const struct optional rejection_fields[] = {
+    BYTES_1_AND_2(REJECTION), OPTIONAL(REJECTION, ACCOUNT), OPTIONAL(REJECTION, CLEARING_FIRM), OPTIONAL(REJECTION, CLEARING_ACCOUNT),
+    OPTIONAL(REJECTION, DISPLAY_INDICATOR), OPTIONAL(REJECTION, MAX_FLOOR), OPTIONAL(REJECTION, DISCRETION_AMOUNT),
+    OPTIONAL(REJECTION, ORDER_QTY), OPTIONAL(REJECTION, PREVENT_MATCH), OPTIONAL(REJECTION, SECONDARY_ORDER_ID),
+    OPTIONAL(REJECTION, ATTRIBUTED_QUOTE), OPTIONAL(REJECTION, EXT_EXEC_INST), OPTIONAL(REJECTION, ECHO_TEXT), OPTIONAL(REJECTION, STOP_PX),
+    OPTIONAL(REJECTION, ROUTING_INST), OPTIONAL(REJECTION, ROUT_STRATEGY), OPTIONAL(REJECTION, ROUTE_DELIVERY_METHOD),
+    OPTIONAL(REJECTION, EX_DESTINATION)};
+static const struct optional cancel_rejection_fields[] = {
+    BYTES_1_AND_2(CANCEL_REJECTION), OPTIONAL(CANCEL_REJECTION, ECHO_TEXT), OPTIONAL(CANCEL_REJECTION, STOP_PX)};
+enum { REJECTION_FIELDS = sizeof rejection_fields / sizeof *rejection_fields };
+enum { CANCEL_REJECTION_FIELDS = sizeof cancel_rejection_fields / sizeof *cancel_rejection_fields };
+
+/* A rejection of all its fields and the most bitfields, made by name: each field stands where the widths before it put it, the message reads back,
+ * and a byte less of room is 13. Then each field alone, without its bit: 12; and with its bit alone. Answers the longest message's length. */
+static size_t by_name(const uint8_t *message, size_t len, const struct optional *fields, size_t count) {
+    enum { FIRST = 101 + BOE_RECORD_BITFIELDS_LEN };
+    struct boe_record record, bare, some, back;
+    uint8_t out[600];
+    size_t place = FIRST, slot = BOE_RECORD_FIELDS_AT;
+    check(boe_read(BOE_FROM_VENUE, message, len, &bare, sizeof bare) == 0, "a rejection");
+    memset(bare.bytes + BOE_RECORD_COUNT_AT, 0, sizeof bare - BOE_RECORD_COUNT_AT);
+    bare.bytes[BOE_RECORD_COUNT_AT] = BOE_RECORD_BITFIELDS_LEN;
+    record = bare;
+    for (size_t i = 0; i < count; i++) {
+        const struct optional *f = &fields[i];
+        check(f->at == slot, "the fields fill the full layout, in their order");
+        slot += f->len;
+        memset(record.bytes + f->at, 'A' + (int)i, f->len);
+        record.bytes[BOE_RECORD_BITFIELDS_AT + f->byte - 1] |= f->bit;
+
+        some = bare;
+        memset(some.bytes + f->at, 'A' + (int)i, f->len);
+        check(boe_write(BOE_FROM_VENUE, &some, sizeof some, out, sizeof out) == BOE_NOT_ZERO, "a field without its bit");
+        some.bytes[BOE_RECORD_BITFIELDS_AT + f->byte - 1] = f->bit;
+        check(boe_write(BOE_FROM_VENUE, &some, sizeof some, out, sizeof out) == 0, "a field with its bit");
+        check(boe_frame_length(out, sizeof out) == (size_t)FIRST + f->len && all_are(out + FIRST, f->len, (uint8_t)('A' + i)), "is the message's last");
+    }
+    size_t total = FIRST + slot - BOE_RECORD_FIELDS_AT;
+    memset(out, 0x5A, sizeof out);
+    check(boe_write(BOE_FROM_VENUE, &record, BOE_ORDER_RECORD_LEN, out, total - 1) == BOE_NO_ROOM && all_are(out, sizeof out, 0x5A), "one byte short");
+    check(boe_write(BOE_FROM_VENUE, &record, BOE_ORDER_RECORD_LEN, out, total) == 0, "all fields");
+    check(boe_frame_length(out, sizeof out) == total && all_are(out + total, sizeof out - total, 0x5A), "their widths, and no byte more");
+    for (size_t i = 0; i < count; place += fields[i++].len) check(all_are(out + place, fields[i].len, (uint8_t)('A' + i)), "each at its place");
+    check(boe_read(BOE_FROM_VENUE, out, total, &back, sizeof back) == 0, "read again");
+    check(memcmp(back.bytes, record.bytes, BOE_ORDER_RECORD_LEN) == 0, "as they were");
+    return total;
+}
+
+/* 5 for each byte of unit and number that is not 0, read and written; what comes before it, and what after. */
+static void units(const uint8_t *message, size_t len) {
+    uint8_t bytes[600], out[600];
+    struct boe_record good, record, filled;
+    check(boe_read(BOE_FROM_VENUE, message, len, &good, sizeof good) == 0, "a rejection");
+    memset(&filled, 0x5A, sizeof filled);
+    memset(out, 0x5A, sizeof out);
+    for (size_t i = 0; i < 5; i++) {
+        memcpy(bytes, message, len);
+        bytes[5 + i] = 1;
+        record = filled;
+        check(boe_read(BOE_FROM_VENUE, bytes, len, &record, sizeof record) == BOE_BAD_UNIT, "a rejection with a unit or a number");
+        check(boe_read(BOE_FROM_VENUE, bytes, len - 1, &record, sizeof record) == BOE_INCOMPLETE, "3 comes before 5");
+        check(boe_read(BOE_FROM_MEMBER, bytes, len, &record, sizeof record) == BOE_UNKNOWN_TYPE, "4 comes before 5");
+        check(boe_read(BOE_FROM_VENUE, bytes, len, &record, 0) == BOE_BAD_UNIT, "5 comes before 13");
+        bytes[2]++;
+        bytes[len] = 0;
+        check(boe_read(BOE_FROM_VENUE, bytes, len + 1, &record, sizeof record) == BOE_BAD_UNIT, "5 comes before 6");
+        check(memcmp(&record, &filled, sizeof record) == 0, "refusals stored nothing");
+
+        record = good;
+        record.bytes[BOE_RECORD_UNIT_AT + i] = 1;
+        check(boe_write(BOE_FROM_VENUE, &record, sizeof record, out, sizeof out) == BOE_BAD_UNIT, "its record");
+        check(boe_write(BOE_FROM_VENUE, &record, BOE_ORDER_RECORD_LEN - 1, out, sizeof out) == BOE_NO_ROOM, "13 for a short record comes before 5");
+        record.bytes[BOE_RECORD_COUNT_AT] = 20;
+        check(boe_write(BOE_FROM_VENUE, &record, sizeof record, out, sizeof out) == BOE_BAD_UNIT, "5 comes before 7");
+        check(all_are(out, sizeof out, 0x5A), "refusals stored nothing");
+    }
+}
+
+/* A rejection with a count, one bitfield that is not zero, and so many bytes of fields. */
+static uint32_t read_bits(const uint8_t *message, unsigned count, unsigned bitfield, uint8_t bits, size_t fields) {
+    uint8_t bytes[600] = {0};
+    struct boe_record record;
+    size_t total = 101 + count + fields;
+    memcpy(bytes, message, 100);
+    bytes[2] = (uint8_t)(total - 2);
+    bytes[3] = (uint8_t)((total - 2) >> 8);
+    bytes[100] = (uint8_t)count;
+    if (bitfield) bytes[100 + bitfield] = bits;
+    return boe_read(BOE_FROM_VENUE, bytes, total, &record, sizeof record);
+}
+
+/* No book has a rejection: append is 4, whatever else is wrong with it, and restart is 18 once it is whole. */
+static void unbooked(const uint8_t *message, size_t len) {
+    enum { DATE = 20250819, ROOM = 400 };
+    uint8_t buffer[ROOM], held[ROOM], first[sizeof acknowledgment], bytes[600];
+    struct boe_state state, kept, filled, restarted;
+    memset(&filled, 0x5A, sizeof filled);
+    memset(buffer, 0x5A, sizeof buffer);
+    memcpy(first, acknowledgment, sizeof first);
+    first[6] = 1;
+    check(boe_book_open(DATE, buffer, sizeof buffer, &state, sizeof state) == 0, "a book is opened");
+    for (unsigned booked = 0; booked < 2; booked++) {
+        size_t end = number_at(state.bytes + BOE_STATE_LENGTH_AT);
+        kept = state;
+        memcpy(held, buffer, sizeof buffer);
+        memcpy(bytes, message, len);
+        check(boe_book_append(bytes, len, buffer, sizeof buffer, &state, BOE_STATE_BYTES - 1) == BOE_NO_ROOM, "13 for a short state comes first");
+        check(boe_book_append(bytes, len - 1, buffer, sizeof buffer, &state, sizeof state) == BOE_INCOMPLETE, "3 comes before 4");
+        check(boe_book_append(bytes, len, buffer, sizeof buffer, &state, sizeof state) == BOE_UNKNOWN_TYPE, "a rejection is not booked");
+        check(boe_book_append(bytes, len, buffer, 0, &state, sizeof state) == BOE_UNKNOWN_TYPE, "4 comes before 13");
+        bytes[5] = first[5];
+        bytes[6] = (uint8_t)(booked + 1);
+        check(boe_book_append(bytes, len, buffer, sizeof buffer, &state, sizeof state) == BOE_UNKNOWN_TYPE, "nor with its unit's next number");
+        bytes[100] = 20;
+        check(boe_book_append(bytes, len, buffer, sizeof buffer, &state, sizeof state) == BOE_UNKNOWN_TYPE, "4 comes before 5 and 7");
+        check(memcmp(&state, &kept, sizeof state) == 0 && memcmp(buffer, held, sizeof buffer) == 0, "changed nothing");
+
+        memcpy(held + end, message, len);
+        restarted = filled;
+        check(boe_restart(DATE, held, end + len, &restarted, sizeof restarted) == BOE_BAD_BOOK, "a book that has a rejection");
+        held[end + 5] = first[5];
+        held[end + 6] = (uint8_t)(booked + 1);
+        check(boe_restart(DATE, held, end + len, &restarted, sizeof restarted) == BOE_BAD_BOOK, "also with its unit's next number");
+        check(memcmp(&restarted, &filled, sizeof restarted) == 0, "refusals stored nothing");
+        check(boe_restart(DATE, held, end + len - 1, &restarted, sizeof restarted) == 0, "a torn one is a torn tail");
+        check(memcmp(&restarted, &kept, sizeof restarted) == 0, "and the book is the one before it");
+        if (!booked) check(boe_book_append(first, sizeof first, buffer, sizeof buffer, &state, sizeof state) == 0, "an acknowledgment is booked");
+    }
+}
+
+/* An acknowledgment or execution: a unit of 1 to 32, any number. */
+static void sequenced_units(const uint8_t *message, size_t len) {
+    uint8_t bytes[600], out[600];
+    struct boe_record record;
+    memcpy(bytes, message, len);
+    for (unsigned unit = 0; unit < 256; unit++) {
+        unsigned expected = unit < 1 || unit > BOE_UNITS ? BOE_BAD_UNIT : 0;
+        bytes[5] = (uint8_t)unit;
+        check(boe_read(BOE_FROM_VENUE, bytes, len, &record, sizeof record) == expected, "a unit of 1 to 32");
+        check(boe_read(BOE_FROM_VENUE, message, len, &record, sizeof record) == 0, "an example");
+        record.bytes[BOE_RECORD_UNIT_AT] = (uint8_t)unit;
+        check(boe_write(BOE_FROM_VENUE, &record, sizeof record, out, sizeof out) == expected, "its record");
+    }
+    bytes[5] = 1;
+    memset(bytes + 6, 0, 4);
+    check(boe_read(BOE_FROM_VENUE, bytes, len, &record, sizeof record) == 0, "number 0");
+}
+
+static void rejections(void) {
+    static const struct {
+        const uint8_t *message;
+        size_t len;
+    } three[] = {{rejection, sizeof rejection}, {cancel_rejection, sizeof cancel_rejection}, {modify_rejection, sizeof modify_rejection}};
+    struct boe_record record;
+    for (size_t i = 0; i < 3; i++) {
+        again(BOE_FROM_VENUE, three[i].message, three[i].len);
+        units(three[i].message, three[i].len);
+        unbooked(three[i].message, three[i].len);
+    }
+    REJECTION_FIXED(REJECTION, ORDER_REJECT_REASON, rejection);
+    REJECTION_FIXED(CANCEL_REJECTION, CANCEL_REJECT_REASON, cancel_rejection);
+    REJECTION_FIXED(MODIFY_REJECTION, MODIFY_REJECT_REASON, modify_rejection);
+    check(boe_read(BOE_FROM_VENUE, rejection, sizeof rejection, &record, sizeof record) == 0, "Order Rejected");
+    check(memcmp(record.bytes + BOE_REJECTION_SYMBOL_AT, rejection + 104, BOE_REJECTION_SYMBOL_LEN) == 0, "Symbol is at 104");
+    check(memcmp(record.bytes + BOE_REJECTION_CLEARING_FIRM_AT, rejection + 112, BOE_REJECTION_CLEARING_FIRM_LEN) == 0, "ClearingFirm is at 112");
+    check(by_name(rejection, sizeof rejection, rejection_fields, REJECTION_FIELDS) == 295, "the longest message with bitfields");
+    check(BOE_RECORD_FIELDS_AT + BOE_RECORD_FIELDS_LEN == BOE_ORDER_RECORD_LEN, "the full layout ends with the record");
+    check(by_name(cancel_rejection, sizeof cancel_rejection, cancel_rejection_fields, CANCEL_REJECTION_FIELDS) == 233, "Cancel Rejected, all fields");
+    sequenced_units(acknowledgment, sizeof acknowledgment);
+    sequenced_units(execution, sizeof execution);
+
+    check(read_bits(modify_rejection, 1, 1, 0x01, 1) == refused_at(BOE_UNLISTED_BIT, 101), "User Modify Rejected lists no bit");
+    check(read_bits(cancel_rejection, 3, 3, 0x01, 16) == refused_at(BOE_UNLISTED_BIT, 103), "Cancel Rejected lists none of byte 3");
+    check(read_bits(cancel_rejection, 8, 8, 0x06, 72) == 0, "but EchoText and StopPx of byte 8");
+    for (unsigned i = 0; i < 3; i++) {
+        for (unsigned count = 0; count <= BOE_RECORD_BITFIELDS_LEN; count++)
+            check(read_bits(three[i].message, count, 0, 0, 0) == 0, "up to 19 bitfields");
+        check(read_bits(three[i].message, 20, 0, 0, 0) == refused_at(BOE_TOO_MANY_BITFIELDS, 100), "20 bitfields");
+    }
+}
+
+/* What becomes of each type. */
+static void fates(void) {
+    for (unsigned type = 0; type < 256; type++) {
+        unsigned expected = type == 0x25 || type == 0x2C ? BOE_BOOKED : type == 0x26 || type == 0x29 || type == 0x2B ? BOE_HANDED : BOE_NOTHING;
+        check(boe_told((uint8_t)type) == expected, "the fate of a type");
+    }
+    check(BOE_NOTHING == 0 && BOE_BOOKED == 1 && BOE_HANDED == 2, "the fates' numbers");
+    for (unsigned type = 0; type < 256; type++) { /* the other unsequenced types are not built */
+        uint8_t header[10] = {0xBA, 0xBA, 8, 0, (uint8_t)type};
+        struct boe_record record;
+        uint32_t refusal = boe_read(BOE_FROM_VENUE, header, sizeof header, &record, sizeof record);
+        int known = boe_told((uint8_t)type) != BOE_NOTHING || type == BOE_LOGIN_RESPONSE || type == BOE_LOGOUT || type == BOE_SERVER_HEARTBEAT ||
+                    type == BOE_REPLAY_COMPLETE;
+        check((BOE_NUMBER(refusal) != BOE_UNKNOWN_TYPE) == known, "what has a fate is read, and of the others session messages alone");
+    }
 }
 
 /* The body of a session message stands in its record as on the wire, with zeros after it. */
@@ -367,6 +604,26 @@ static const struct damage messages_damaged[] = {
     OF_VENUE(execution, 63, '-', BOE_BAD_VALUE, 63, "SubLiquidityIndicator"),
     OF_VENUE(execution, 66, 0, BOE_BAD_VALUE, 64, "ContraBroker"),
     OF_VENUE(execution, 73, ' ', BOE_BAD_VALUE, 73, "ClearingFirm"),
+    OF_VENUE(rejection, 18, 0, BOE_BAD_VALUE, 18, "ClOrdID"),
+    OF_VENUE(rejection, 19, ' ', BOE_BAD_VALUE, 18, "a later byte of ClOrdID"),
+    OF_VENUE(rejection, 38, 0x07, BOE_BAD_VALUE, 38, "OrderRejectReason"),
+    OF_VENUE(rejection, 98, 'X', BOE_BAD_VALUE, 39, "Text's last byte, after NULs"),
+    OF_VENUE(rejection, 104, '-', BOE_BAD_VALUE, 104, "Symbol"),
+    OF_VENUE(rejection, 115, '1', BOE_BAD_VALUE, 112, "ClearingFirm"),
+    OF_VENUE(rejection, 119, 0x80, BOE_BAD_VALUE, 116, "ClearingAccount"),
+    OF_VENUE(rejection, 100, 20, BOE_TOO_MANY_BITFIELDS, 100, "the count"),
+    OF_VENUE(rejection, 101, 0x80, BOE_UNLISTED_BIT, 101, "the first bitfield"),
+    OF_VENUE(rejection, 2, 0x77, BOE_WRONG_TOTAL, 121, "a length more by one"),
+    OF_VENUE(rejection, 2, 98, BOE_WRONG_TOTAL, 100, "no count byte"),
+    OF_VENUE(rejection, 2, 101, BOE_WRONG_TOTAL, 103, "two bitfields of three"),
+    OF_VENUE(cancel_rejection, 18, ',', BOE_BAD_VALUE, 18, "ClOrdID"),
+    OF_VENUE(cancel_rejection, 38, 0x7F, BOE_BAD_VALUE, 38, "CancelRejectReason"),
+    OF_VENUE(cancel_rejection, 40, 0, BOE_BAD_VALUE, 39, "Text"),
+    OF_VENUE(cancel_rejection, 100, 1, BOE_WRONG_TOTAL, 101, "a bitfield that is not there"),
+    OF_VENUE(modify_rejection, 18, 0, BOE_BAD_VALUE, 18, "ClOrdID"),
+    OF_VENUE(modify_rejection, 38, 0x1F, BOE_BAD_VALUE, 38, "ModifyRejectReason"),
+    OF_VENUE(modify_rejection, 39, 0, BOE_BAD_VALUE, 39, "Text"),
+    OF_VENUE(modify_rejection, 100, 255, BOE_TOO_MANY_BITFIELDS, 100, "the count"),
     OF_MEMBER(options_login, 10, ' ', BOE_BAD_VALUE, 10, "SessionSubID"),
     OF_MEMBER(options_login, 14, '-', BOE_BAD_VALUE, 14, "Username"),
     OF_MEMBER(options_login, 20, ' ', BOE_BAD_VALUE, 18, "Password"),
@@ -393,6 +650,14 @@ static const struct damage records_damaged[] = {
     OF_VENUE(acknowledgment, BOE_ACKNOWLEDGMENT_ACCOUNT_AT, 0x07, BOE_BAD_VALUE, 60, "Account"),
     OF_VENUE(execution, BOE_EXECUTION_CONTRA_BROKER_AT, ' ', BOE_BAD_VALUE, 64, "ContraBroker"),
     OF_VENUE(execution, BOE_EXECUTION_CLEARING_FIRM_AT, ' ', BOE_BAD_VALUE, 73, "ClearingFirm"),
+    OF_VENUE(rejection, BOE_REJECTION_CL_ORD_ID_AT, 0, BOE_BAD_VALUE, 18, "ClOrdID"),
+    OF_VENUE(rejection, BOE_REJECTION_ORDER_REJECT_REASON_AT, 0x07, BOE_BAD_VALUE, 38, "OrderRejectReason"),
+    OF_VENUE(rejection, BOE_REJECTION_TEXT_AT + 59, 'X', BOE_BAD_VALUE, 39, "Text"),
+    OF_VENUE(rejection, BOE_REJECTION_SYMBOL_AT, '-', BOE_BAD_VALUE, 104, "Symbol"),
+    OF_VENUE(rejection, BOE_REJECTION_CLEARING_ACCOUNT_AT, 0x07, BOE_BAD_VALUE, 116, "ClearingAccount"),
+    OF_VENUE(rejection, BOE_RECORD_COUNT_AT, 20, BOE_TOO_MANY_BITFIELDS, 100, "the count"),
+    OF_VENUE(cancel_rejection, BOE_CANCEL_REJECTION_CANCEL_REJECT_REASON_AT, 0x07, BOE_BAD_VALUE, 38, "CancelRejectReason"),
+    OF_VENUE(modify_rejection, BOE_MODIFY_REJECTION_TEXT_AT, 0, BOE_BAD_VALUE, 39, "Text"),
     OF_MEMBER(login, BOE_LOGIN_REQUEST_USERNAME_AT, '-', BOE_BAD_VALUE, 14, "Username"),
     OF_VENUE(login_response, BOE_LOGIN_RESPONSE_TEXT_AT + 59, 'X', BOE_BAD_VALUE, 11, "its text"),
     OF_VENUE(logout, BOE_LOGOUT_REASON_AT, 0x07, BOE_BAD_VALUE, 10, "its reason"),
@@ -497,6 +762,8 @@ static void most(void) {
     out[2]++;
     check(boe_frame_refusal(out, sizeof out) == BOE_BAD_LENGTH, "one byte longer");
     check(BOE_TABLE_BYTES == 4 * BOE_UNITS && BOE_REFUSALS == BOE_NO_FIRST_MARK, "units and refusals");
+    check(BOE_RECORD_FIXED_AT + BOE_RECORD_FIXED_LEN == BOE_RECORD_COUNT_AT && BOE_RECORD_COUNT_AT + 1 == BOE_RECORD_BITFIELDS_AT, "a record's fixed part");
+    check(BOE_RECORD_BITFIELDS_AT + BOE_RECORD_BITFIELDS_LEN == BOE_RECORD_FIELDS_AT, "and its bitfields");
 
     struct boe_record record = {{0}};
     record.bytes[BOE_RECORD_TYPE_AT] = BOE_LOGIN_REQUEST;
@@ -522,6 +789,8 @@ void hand_made_cases(void) {
     framing();
     steps();
     messages();
+    rejections();
+    fates();
     logins();
     header_alone(BOE_FROM_MEMBER, client_heartbeat);
     header_alone(BOE_FROM_VENUE, server_heartbeat);

@@ -36,6 +36,9 @@ size_t record_len(uint8_t type) {
     case BOE_CANCEL_ORDER:
     case BOE_ACKNOWLEDGMENT:
     case BOE_EXECUTION:
+    case BOE_REJECTION:
+    case BOE_CANCEL_REJECTION:
+    case BOE_MODIFY_REJECTION:
         return BOE_ORDER_RECORD_LEN;
     default:
         return BOE_RECORD_LEN;

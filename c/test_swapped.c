@@ -9,7 +9,7 @@ uint32_t call(const uint8_t *bytes, uint8_t *buffer, struct boe_record *record, 
 #if SWAPPED == 0
     return boe_table_step(1, 1, buffer, 1) || boe_read(0, bytes, 1, record, sizeof *record) || boe_write(0, record, sizeof *record, buffer, 1) ||
            boe_book_open(1, buffer, 1, state, sizeof *state) || boe_book_append(bytes, 1, buffer, 1, state, sizeof *state) ||
-           boe_book_close(buffer, 1, state, sizeof *state) || boe_restart(1, bytes, 1, state, sizeof *state);
+           boe_book_close(buffer, 1, state, sizeof *state) || boe_restart(1, bytes, 1, state, sizeof *state) || boe_told(1);
 #elif SWAPPED == 1
     return boe_read(0, record, sizeof *record, bytes, 1);
 #elif SWAPPED == 2
@@ -32,6 +32,10 @@ uint32_t call(const uint8_t *bytes, uint8_t *buffer, struct boe_record *record, 
     return boe_restart(1, bytes, 1, record, sizeof *record);
 #elif SWAPPED == 11
     return boe_table_step(1, 1, state, sizeof *state);
+#elif SWAPPED == 12
+    return boe_told(bytes);
+#elif SWAPPED == 13
+    return boe_told(record);
 #else
 #error "no such number"
 #endif

@@ -184,7 +184,25 @@ static void try_step(uint8_t unit, uint32_t value, const uint8_t *data, size_t n
 
 /* The bytes of a record of a type. */
 static size_t record_len(uint8_t type) {
-    return type == BOE_NEW_ORDER || type == BOE_CANCEL_ORDER || type == BOE_ACKNOWLEDGMENT || type == BOE_EXECUTION ? BOE_ORDER_RECORD_LEN : BOE_RECORD_LEN;
+    switch (type) {
+    case BOE_NEW_ORDER:
+    case BOE_CANCEL_ORDER:
+    case BOE_ACKNOWLEDGMENT:
+    case BOE_EXECUTION:
+    case BOE_REJECTION:
+    case BOE_CANCEL_REJECTION:
+    case BOE_MODIFY_REJECTION: return BOE_ORDER_RECORD_LEN;
+    default: return BOE_RECORD_LEN;
+    }
+}
+
+static void try_told(uint8_t type) {
+    uint32_t fate = boe_told(type);
+    name(&question, "told");
+    number(&question, type);
+    number(&proved, fate);
+    must(fate == BOE_NOTHING || fate == BOE_BOOKED || fate == BOE_HANDED, "a fate that there is not");
+    ask();
 }
 
 static void try_read(uint8_t direction, uint8_t choice, const uint8_t *data, size_t n) {
@@ -349,6 +367,7 @@ static void try_append(uint32_t date, uint16_t after, const uint8_t *message, si
         refused(refusal, boe_frame_length(bytes.at, k));
         number(&proved, length);
         hex(&proved, out.at, out.len);
+        must(refusal != 0 || boe_told(bytes.at[4]) == BOE_BOOKED, "a message is booked whose fate is another");
         must(stayed(&bytes), "appending has stored into the message");
         must(stayed_from(&state, refusal ? 0 : BOE_STATE_BYTES), "appending has stored past the state, or a refused one at all");
         must(memcmp(out.at, out.was, at) == 0 && stayed_from(&out, refusal ? 0 : length), "appending has stored elsewhere");
@@ -444,7 +463,7 @@ static void try_append_on(uint8_t choice, uint16_t out_len, const uint8_t *data,
         must(stayed(&state) && stayed(&out) && stayed(&bytes), "appending with a short state has stored");
         return;
     }
-    int booked = k < 5 || message[4] == BOE_ACKNOWLEDGMENT || message[4] == BOE_EXECUTION;
+    int booked = k < 5 || boe_told(message[4]) == BOE_BOOKED;
     if (booked) ask_state();
     uint32_t refusal = boe_book_append(bytes.at, k, out.at, out.len, state_in(&state), state.len);
     size_t length = number_at(state.at + BOE_STATE_LENGTH_AT), total = boe_frame_length(bytes.at, k);
@@ -456,6 +475,7 @@ static void try_append_on(uint8_t choice, uint16_t out_len, const uint8_t *data,
         hex(&question, message, k);
         number(&question, out.len);
         refused(refusal, total);
+        number(&proved, refusal ? BOE_NOTHING : BOE_BOOKED);
         member_words(3);
         if (refusal == 0) {
             must(length <= out.len && total <= length && memcmp(out.at, out.was, length - total) == 0, "appending has stored elsewhere");
@@ -507,6 +527,7 @@ static uint16_t short_at(const uint8_t *at) { return (uint16_t)(at[0] | at[1] <<
 /* The bytes of a call's arguments that come before the last. */
 static const size_t before[CALLS] = {
     [FRAME] = 0, [STEP] = 5, [READ] = 2, [WRITE] = 4, [OPEN] = 5, [RESTART] = 5, [APPEND] = 8, [CLOSE] = 6, [APPEND_ON] = 3, [CLOSE_ON] = 3,
+    [TOLD] = 1,
 };
 
 /* The bytes of an append's message among those that follow its numbers. */
@@ -534,6 +555,7 @@ void try_input(const uint8_t *data, size_t size) {
     case CLOSE: try_close(number_at(args), short_at(args + 4), rest, n); break;
     case APPEND_ON: try_append_on(args[0], short_at(args + 1), rest, n); break;
     case CLOSE_ON: try_close_on(args[0], short_at(args + 1), rest, n); break;
+    case TOLD: try_told(args[0]); break;
     case CALLS: break;
     }
 }
@@ -545,6 +567,7 @@ static void mend_message(uint8_t *message, size_t n) {
     message[0] = message[1] = 0xBA;
     message[2] = (uint8_t)((n - 2) % 256);
     message[3] = (uint8_t)((n - 2) / 256);
+    if (boe_told(message[4]) == BOE_HANDED) memset(message + 5, 0, 5); /* neither unit nor number */
 }
 
 /* Marks get the date and what goes before them, messages their unit's next number; the numbers reached are left in `reached`. */

@@ -20,6 +20,7 @@ enum call {
     CLOSE,       /* date (4), room (2), book */
     APPEND_ON,   /* room of the state, room (2), state (144), message */
     CLOSE_ON,    /* room of the state, room (2), state (144) */
+    TOLD,        /* type */
     CALLS
 };
 

@@ -62,7 +62,10 @@ enum boe_refusal {
  *
  * Writing tells the place in the message that would be written: a byte of a record's fixed part, or of a session message's body, stands there 4
  * bytes further on. Compare the number with the names above, and not the whole; use it alone as an index or an exit status. A caller that keeps
- * the answer in a uint8_t has the number. */
+ * the answer in a uint8_t has the number.
+ *
+ * Of a message, 5 is for a unit other than 0 from the member; for a unit outside 1 to 32 in an acknowledgment or execution; and for a unit or a
+ * number other than 0 in a rejection or a session message. */
 #define BOE_NUMBER(refusal) ((uint32_t)(refusal) & 0xFF)
 #define BOE_PLACE(refusal) ((uint32_t)(refusal) >> 8)
 
@@ -119,8 +122,8 @@ uint32_t boe_book_open(uint32_t date, uint8_t *buffer, size_t buffer_len, struct
 
 /* Appends the first whole message of the bytes to the book. 0: its bytes stand at the book's end, and the state has the message: its unit's
  * number, the length, the messages. Otherwise buffer and state are as they were: 13 for a state under 144 bytes, which comes first, since
- * there is no book to judge by; then 1 to 10 by the message (4 for a type other than 0x25 and 0x2C; places are counted in the message, not in
- * the book), 14 and 15 by the table, and last 13 if the message finds no room in the buffer or within 16,777,216 bytes. */
+ * there is no book to judge by; then 1 to 10 by the message (4 for a type other than 0x25 and 0x2C, so for a rejection too; places are counted in
+ * the message, not in the book), 14 and 15 by the table, and last 13 if the message finds no room in the buffer or within 16,777,216 bytes. */
 uint32_t boe_book_append(const uint8_t *bytes, size_t len, uint8_t *buffer, size_t buffer_len, struct boe_state *state, size_t state_len);
 
 /* The mark at a session's end. 0: the mark stands at the book's end, and the state has it; or it found no room, and buffer and state are as
@@ -130,8 +133,20 @@ uint32_t boe_book_close(uint8_t *buffer, size_t buffer_len, struct boe_state *st
 /* Restarts from the book in the bytes, all of them, for a date. 0: the state is that of the book without its torn tail, if it has one. The
  * bytes of a torn tail are to be cut off the file: the next message or mark goes where they start. Otherwise the state is as it was: 19, 22,
  * 18 for a bad first mark, 17, 18, and after all of these 13 for a state under 144 bytes. An 18 has no place, also where it is for a message
- * that reading refuses with one. */
+ * that reading refuses with one. A book that has a rejection is 18. */
 uint32_t boe_restart(uint32_t date, const uint8_t *bytes, size_t len, struct boe_state *state, size_t state_len);
+
+/* What becomes of a message from the venue that a session takes. */
+enum boe_fate {
+    BOE_NOTHING = 0, /* there is nothing in it for the desk: session messages */
+    BOE_BOOKED = 1,  /* it is booked, and its number counts in its unit: 0x25 and 0x2C */
+    BOE_HANDED = 2   /* it is handed to the desk, and neither booked nor counted: the rejections, 0x26, 0x29 and 0x2B */
+};
+
+/* The fate of a message, by its type: 1, 2, or 0 for every other type. A rejection is unsequenced: it carries unit 0 and number 0. It comes at any
+ * time while a session runs, between replayed messages too; one that is lost by a break is never sent again, and no table tells that it is
+ * missing. boe_book_append refuses it with 4: hand it to the desk when it is read. */
+uint32_t boe_told(uint8_t type);
 
 /* The bytes of the longest record, a session message's: a buffer of as many has room for the record of any type here. */
 #define BOE_RECORD_LEN 439
@@ -145,25 +160,29 @@ struct boe_record {
 #define BOE_RECORD_UNIT_AT 1
 #define BOE_RECORD_NUMBER_AT 2
 
-/* A record of an order message (New Order, Cancel Order, Order Acknowledgment, Order Execution), the first BOE_ORDER_RECORD_LEN bytes of
- * its buffer. Prices are signed and in ten-thousandths.
+/* A record of an order message, the first BOE_ORDER_RECORD_LEN bytes of its buffer. Order messages are those with bitfields: New Order, Cancel
+ * Order, Order Acknowledgment, Order Execution, and the three rejections, Order Rejected, Cancel Rejected and User Modify Rejected. Prices are
+ * signed and in ten-thousandths.
  *
  *   place  bytes
  *       0      1   type
- *       1      1   unit: 0 from the member, 1 to 32 from the venue
- *       2      4   number
- *       6     59   the fixed part as on the wire, from byte 10 of the message up to its count byte; zero after it
- *      65      1   how many bitfields
- *      66     15   the bitfields; zero after the last
- *      81    154   the optional fields in the full layout: every listed bit has a place of its field's width, whether it is selected
+ *       1      1   unit: 0 from the member and in a rejection, else 1 to 32
+ *       2      4   number: 0 in a rejection
+ *       6     90   the fixed part as on the wire, from byte 10 of the message up to its count byte; zero after it
+ *      96      1   how many bitfields
+ *      97     19   the bitfields; zero after the last
+ *     116    175   the optional fields in the full layout: every listed bit has a place of its field's width, whether it is selected
  *                  or not; zero where it is not selected, and zero after the last
  *
  * A field is selected if its bit is set in its bitfield byte and that byte is one of the first `how many` bitfields. */
-#define BOE_ORDER_RECORD_LEN 235
+#define BOE_ORDER_RECORD_LEN 291
 #define BOE_RECORD_FIXED_AT 6
-#define BOE_RECORD_COUNT_AT 65
-#define BOE_RECORD_BITFIELDS_AT 66
-#define BOE_RECORD_FIELDS_AT 81
+#define BOE_RECORD_FIXED_LEN 90
+#define BOE_RECORD_COUNT_AT 96
+#define BOE_RECORD_BITFIELDS_AT 97
+#define BOE_RECORD_BITFIELDS_LEN 19
+#define BOE_RECORD_FIELDS_AT 116
+#define BOE_RECORD_FIELDS_LEN 175
 
 /* A record of a session message (Login Request, Client Heartbeat, Login Response, Logout, Server Heartbeat, Replay Complete), all
  * BOE_RECORD_LEN bytes of its buffer.
@@ -208,20 +227,20 @@ struct boe_record {
 #define BOE_FROM_MEMBER 0
 #define BOE_FROM_VENUE 1
 
-/* Reads the first whole message of the bytes into a record: 0, and the record stands in its buffer, in the first 235 bytes for an order
+/* Reads the first whole message of the bytes into a record: 0, and the record stands in its buffer, in the first 291 bytes for an order
  * message, in the first 439 for a session message; the bytes after these stay. Otherwise the buffer is as it was: 1 to 11 by the message
- * (4 also for a direction that is neither), and after all of these 13 for a buffer under the 235 or 439 bytes of this message's record. Bytes
+ * (4 also for a direction that is neither), and after all of these 13 for a buffer under the 291 or 439 bytes of this message's record. Bytes
  * after the message play no part. */
 uint32_t boe_read(uint8_t direction, const uint8_t *bytes, size_t len, struct boe_record *record, size_t record_len);
 
 /* Writes the message of a record: 0, and the message stands in the front of the buffer; its length less 2 is in its bytes 2 and 3.
  * Otherwise the buffer is as it was: 13 for an empty record, which has no type; 4 (also for a direction that is neither), however short the
- * record is; 13 for a record under the bytes of its own type, 235 for an order message and 439 for a session message; 5; and then in this
+ * record is; 13 for a record under the bytes of its own type, 291 for an order message and 439 for a session message; 5; and then in this
  * order
  *   for an order message 7, 8, 9, 10, 12;
  *   for Login Request, Login Response and Logout 10, 11 (also for a byte that is not zero after the last group or pair);
  *   for a heartbeat and Replay Complete 12 (a byte of the body that is not zero);
- * and last 13 for a buffer under the message's length. Bytes past 235 in the record of an order message, and past 439 in that of a session
+ * and last 13 for a buffer under the message's length. Bytes past 291 in the record of an order message, and past 439 in that of a session
  * message, play no part. */
 uint32_t boe_write(uint8_t direction, const struct boe_record *record, size_t record_len, uint8_t *out, size_t out_len);
 
@@ -233,83 +252,83 @@ uint32_t boe_write(uint8_t direction, const struct boe_record *record, size_t re
 #define BOE_NEW_ORDER_SIDE_LEN 1
 #define BOE_NEW_ORDER_ORDER_QTY_AT 27
 #define BOE_NEW_ORDER_ORDER_QTY_LEN 4
-#define BOE_NEW_ORDER_CLEARING_FIRM_AT 81
+#define BOE_NEW_ORDER_CLEARING_FIRM_AT (BOE_RECORD_FIELDS_AT + 0)
 #define BOE_NEW_ORDER_CLEARING_FIRM_LEN 4
 #define BOE_NEW_ORDER_CLEARING_FIRM_BYTE 1
 #define BOE_NEW_ORDER_CLEARING_FIRM_BIT 0x01
-#define BOE_NEW_ORDER_CLEARING_ACCOUNT_AT 85
+#define BOE_NEW_ORDER_CLEARING_ACCOUNT_AT (BOE_RECORD_FIELDS_AT + 4)
 #define BOE_NEW_ORDER_CLEARING_ACCOUNT_LEN 4
 #define BOE_NEW_ORDER_CLEARING_ACCOUNT_BYTE 1
 #define BOE_NEW_ORDER_CLEARING_ACCOUNT_BIT 0x02
-#define BOE_NEW_ORDER_PRICE_AT 89
+#define BOE_NEW_ORDER_PRICE_AT (BOE_RECORD_FIELDS_AT + 8)
 #define BOE_NEW_ORDER_PRICE_LEN 8
 #define BOE_NEW_ORDER_PRICE_BYTE 1
 #define BOE_NEW_ORDER_PRICE_BIT 0x04
-#define BOE_NEW_ORDER_EXEC_INST_AT 97
+#define BOE_NEW_ORDER_EXEC_INST_AT (BOE_RECORD_FIELDS_AT + 16)
 #define BOE_NEW_ORDER_EXEC_INST_LEN 1
 #define BOE_NEW_ORDER_EXEC_INST_BYTE 1
 #define BOE_NEW_ORDER_EXEC_INST_BIT 0x08
-#define BOE_NEW_ORDER_ORD_TYPE_AT 98
+#define BOE_NEW_ORDER_ORD_TYPE_AT (BOE_RECORD_FIELDS_AT + 17)
 #define BOE_NEW_ORDER_ORD_TYPE_LEN 1
 #define BOE_NEW_ORDER_ORD_TYPE_BYTE 1
 #define BOE_NEW_ORDER_ORD_TYPE_BIT 0x10
-#define BOE_NEW_ORDER_TIME_IN_FORCE_AT 99
+#define BOE_NEW_ORDER_TIME_IN_FORCE_AT (BOE_RECORD_FIELDS_AT + 18)
 #define BOE_NEW_ORDER_TIME_IN_FORCE_LEN 1
 #define BOE_NEW_ORDER_TIME_IN_FORCE_BYTE 1
 #define BOE_NEW_ORDER_TIME_IN_FORCE_BIT 0x20
-#define BOE_NEW_ORDER_MIN_QTY_AT 100
+#define BOE_NEW_ORDER_MIN_QTY_AT (BOE_RECORD_FIELDS_AT + 19)
 #define BOE_NEW_ORDER_MIN_QTY_LEN 4
 #define BOE_NEW_ORDER_MIN_QTY_BYTE 1
 #define BOE_NEW_ORDER_MIN_QTY_BIT 0x40
-#define BOE_NEW_ORDER_MAX_FLOOR_AT 104
+#define BOE_NEW_ORDER_MAX_FLOOR_AT (BOE_RECORD_FIELDS_AT + 23)
 #define BOE_NEW_ORDER_MAX_FLOOR_LEN 4
 #define BOE_NEW_ORDER_MAX_FLOOR_BYTE 1
 #define BOE_NEW_ORDER_MAX_FLOOR_BIT 0x80
-#define BOE_NEW_ORDER_SYMBOL_AT 108
+#define BOE_NEW_ORDER_SYMBOL_AT (BOE_RECORD_FIELDS_AT + 27)
 #define BOE_NEW_ORDER_SYMBOL_LEN 8
 #define BOE_NEW_ORDER_SYMBOL_BYTE 2
 #define BOE_NEW_ORDER_SYMBOL_BIT 0x01
-#define BOE_NEW_ORDER_SYMBOL_SFX_AT 116
+#define BOE_NEW_ORDER_SYMBOL_SFX_AT (BOE_RECORD_FIELDS_AT + 35)
 #define BOE_NEW_ORDER_SYMBOL_SFX_LEN 8
 #define BOE_NEW_ORDER_SYMBOL_SFX_BYTE 2
 #define BOE_NEW_ORDER_SYMBOL_SFX_BIT 0x02
-#define BOE_NEW_ORDER_CAPACITY_AT 124
+#define BOE_NEW_ORDER_CAPACITY_AT (BOE_RECORD_FIELDS_AT + 43)
 #define BOE_NEW_ORDER_CAPACITY_LEN 1
 #define BOE_NEW_ORDER_CAPACITY_BYTE 2
 #define BOE_NEW_ORDER_CAPACITY_BIT 0x40
-#define BOE_NEW_ORDER_ROUTING_INST_AT 125
+#define BOE_NEW_ORDER_ROUTING_INST_AT (BOE_RECORD_FIELDS_AT + 44)
 #define BOE_NEW_ORDER_ROUTING_INST_LEN 4
 #define BOE_NEW_ORDER_ROUTING_INST_BYTE 2
 #define BOE_NEW_ORDER_ROUTING_INST_BIT 0x80
-#define BOE_NEW_ORDER_ACCOUNT_AT 129
+#define BOE_NEW_ORDER_ACCOUNT_AT (BOE_RECORD_FIELDS_AT + 48)
 #define BOE_NEW_ORDER_ACCOUNT_LEN 16
 #define BOE_NEW_ORDER_ACCOUNT_BYTE 3
 #define BOE_NEW_ORDER_ACCOUNT_BIT 0x01
-#define BOE_NEW_ORDER_LOCATE_REQD_AT 145
+#define BOE_NEW_ORDER_LOCATE_REQD_AT (BOE_RECORD_FIELDS_AT + 64)
 #define BOE_NEW_ORDER_LOCATE_REQD_LEN 1
 #define BOE_NEW_ORDER_LOCATE_REQD_BYTE 3
 #define BOE_NEW_ORDER_LOCATE_REQD_BIT 0x40
-#define BOE_NEW_ORDER_EXPIRE_TIME_AT 146
+#define BOE_NEW_ORDER_EXPIRE_TIME_AT (BOE_RECORD_FIELDS_AT + 65)
 #define BOE_NEW_ORDER_EXPIRE_TIME_LEN 8
 #define BOE_NEW_ORDER_EXPIRE_TIME_BYTE 3
 #define BOE_NEW_ORDER_EXPIRE_TIME_BIT 0x80
-#define BOE_NEW_ORDER_DISPLAY_RANGE_AT 154
+#define BOE_NEW_ORDER_DISPLAY_RANGE_AT (BOE_RECORD_FIELDS_AT + 73)
 #define BOE_NEW_ORDER_DISPLAY_RANGE_LEN 4
 #define BOE_NEW_ORDER_DISPLAY_RANGE_BYTE 6
 #define BOE_NEW_ORDER_DISPLAY_RANGE_BIT 0x01
-#define BOE_NEW_ORDER_STOP_PX_AT 158
+#define BOE_NEW_ORDER_STOP_PX_AT (BOE_RECORD_FIELDS_AT + 77)
 #define BOE_NEW_ORDER_STOP_PX_LEN 8
 #define BOE_NEW_ORDER_STOP_PX_BYTE 6
 #define BOE_NEW_ORDER_STOP_PX_BIT 0x02
-#define BOE_NEW_ORDER_EX_DESTINATION_AT 166
+#define BOE_NEW_ORDER_EX_DESTINATION_AT (BOE_RECORD_FIELDS_AT + 85)
 #define BOE_NEW_ORDER_EX_DESTINATION_LEN 1
 #define BOE_NEW_ORDER_EX_DESTINATION_BYTE 6
 #define BOE_NEW_ORDER_EX_DESTINATION_BIT 0x10
-#define BOE_NEW_ORDER_ECHO_TEXT_AT 167
+#define BOE_NEW_ORDER_ECHO_TEXT_AT (BOE_RECORD_FIELDS_AT + 86)
 #define BOE_NEW_ORDER_ECHO_TEXT_LEN 64
 #define BOE_NEW_ORDER_ECHO_TEXT_BYTE 6
 #define BOE_NEW_ORDER_ECHO_TEXT_BIT 0x20
-#define BOE_NEW_ORDER_LOCATE_BROKER_AT 231
+#define BOE_NEW_ORDER_LOCATE_BROKER_AT (BOE_RECORD_FIELDS_AT + 150)
 #define BOE_NEW_ORDER_LOCATE_BROKER_LEN 4
 #define BOE_NEW_ORDER_LOCATE_BROKER_BYTE 10
 #define BOE_NEW_ORDER_LOCATE_BROKER_BIT 0x02
@@ -318,7 +337,7 @@ uint32_t boe_write(uint8_t direction, const struct boe_record *record, size_t re
 #define BOE_CANCEL_ORDER 0x39
 #define BOE_CANCEL_ORDER_ORIG_CL_ORD_ID_AT 6
 #define BOE_CANCEL_ORDER_ORIG_CL_ORD_ID_LEN 20
-#define BOE_CANCEL_ORDER_CLEARING_FIRM_AT 81
+#define BOE_CANCEL_ORDER_CLEARING_FIRM_AT (BOE_RECORD_FIELDS_AT + 0)
 #define BOE_CANCEL_ORDER_CLEARING_FIRM_LEN 4
 #define BOE_CANCEL_ORDER_CLEARING_FIRM_BYTE 1
 #define BOE_CANCEL_ORDER_CLEARING_FIRM_BIT 0x01
@@ -331,75 +350,75 @@ uint32_t boe_write(uint8_t direction, const struct boe_record *record, size_t re
 #define BOE_ACKNOWLEDGMENT_CL_ORD_ID_LEN 20
 #define BOE_ACKNOWLEDGMENT_ORDER_ID_AT 34
 #define BOE_ACKNOWLEDGMENT_ORDER_ID_LEN 8
-#define BOE_ACKNOWLEDGMENT_SIDE_AT 81
+#define BOE_ACKNOWLEDGMENT_SIDE_AT (BOE_RECORD_FIELDS_AT + 0)
 #define BOE_ACKNOWLEDGMENT_SIDE_LEN 1
 #define BOE_ACKNOWLEDGMENT_SIDE_BYTE 1
 #define BOE_ACKNOWLEDGMENT_SIDE_BIT 0x01
-#define BOE_ACKNOWLEDGMENT_PRICE_AT 82
+#define BOE_ACKNOWLEDGMENT_PRICE_AT (BOE_RECORD_FIELDS_AT + 1)
 #define BOE_ACKNOWLEDGMENT_PRICE_LEN 8
 #define BOE_ACKNOWLEDGMENT_PRICE_BYTE 1
 #define BOE_ACKNOWLEDGMENT_PRICE_BIT 0x04
-#define BOE_ACKNOWLEDGMENT_EXEC_INST_AT 90
+#define BOE_ACKNOWLEDGMENT_EXEC_INST_AT (BOE_RECORD_FIELDS_AT + 9)
 #define BOE_ACKNOWLEDGMENT_EXEC_INST_LEN 1
 #define BOE_ACKNOWLEDGMENT_EXEC_INST_BYTE 1
 #define BOE_ACKNOWLEDGMENT_EXEC_INST_BIT 0x08
-#define BOE_ACKNOWLEDGMENT_ORD_TYPE_AT 91
+#define BOE_ACKNOWLEDGMENT_ORD_TYPE_AT (BOE_RECORD_FIELDS_AT + 10)
 #define BOE_ACKNOWLEDGMENT_ORD_TYPE_LEN 1
 #define BOE_ACKNOWLEDGMENT_ORD_TYPE_BYTE 1
 #define BOE_ACKNOWLEDGMENT_ORD_TYPE_BIT 0x10
-#define BOE_ACKNOWLEDGMENT_TIME_IN_FORCE_AT 92
+#define BOE_ACKNOWLEDGMENT_TIME_IN_FORCE_AT (BOE_RECORD_FIELDS_AT + 11)
 #define BOE_ACKNOWLEDGMENT_TIME_IN_FORCE_LEN 1
 #define BOE_ACKNOWLEDGMENT_TIME_IN_FORCE_BYTE 1
 #define BOE_ACKNOWLEDGMENT_TIME_IN_FORCE_BIT 0x20
-#define BOE_ACKNOWLEDGMENT_MIN_QTY_AT 93
+#define BOE_ACKNOWLEDGMENT_MIN_QTY_AT (BOE_RECORD_FIELDS_AT + 12)
 #define BOE_ACKNOWLEDGMENT_MIN_QTY_LEN 4
 #define BOE_ACKNOWLEDGMENT_MIN_QTY_BYTE 1
 #define BOE_ACKNOWLEDGMENT_MIN_QTY_BIT 0x40
-#define BOE_ACKNOWLEDGMENT_SYMBOL_AT 97
+#define BOE_ACKNOWLEDGMENT_SYMBOL_AT (BOE_RECORD_FIELDS_AT + 16)
 #define BOE_ACKNOWLEDGMENT_SYMBOL_LEN 8
 #define BOE_ACKNOWLEDGMENT_SYMBOL_BYTE 2
 #define BOE_ACKNOWLEDGMENT_SYMBOL_BIT 0x01
-#define BOE_ACKNOWLEDGMENT_SYMBOL_SFX_AT 105
+#define BOE_ACKNOWLEDGMENT_SYMBOL_SFX_AT (BOE_RECORD_FIELDS_AT + 24)
 #define BOE_ACKNOWLEDGMENT_SYMBOL_SFX_LEN 8
 #define BOE_ACKNOWLEDGMENT_SYMBOL_SFX_BYTE 2
 #define BOE_ACKNOWLEDGMENT_SYMBOL_SFX_BIT 0x02
-#define BOE_ACKNOWLEDGMENT_CAPACITY_AT 113
+#define BOE_ACKNOWLEDGMENT_CAPACITY_AT (BOE_RECORD_FIELDS_AT + 32)
 #define BOE_ACKNOWLEDGMENT_CAPACITY_LEN 1
 #define BOE_ACKNOWLEDGMENT_CAPACITY_BYTE 2
 #define BOE_ACKNOWLEDGMENT_CAPACITY_BIT 0x40
-#define BOE_ACKNOWLEDGMENT_ACCOUNT_AT 114
+#define BOE_ACKNOWLEDGMENT_ACCOUNT_AT (BOE_RECORD_FIELDS_AT + 33)
 #define BOE_ACKNOWLEDGMENT_ACCOUNT_LEN 16
 #define BOE_ACKNOWLEDGMENT_ACCOUNT_BYTE 3
 #define BOE_ACKNOWLEDGMENT_ACCOUNT_BIT 0x01
-#define BOE_ACKNOWLEDGMENT_CLEARING_FIRM_AT 130
+#define BOE_ACKNOWLEDGMENT_CLEARING_FIRM_AT (BOE_RECORD_FIELDS_AT + 49)
 #define BOE_ACKNOWLEDGMENT_CLEARING_FIRM_LEN 4
 #define BOE_ACKNOWLEDGMENT_CLEARING_FIRM_BYTE 3
 #define BOE_ACKNOWLEDGMENT_CLEARING_FIRM_BIT 0x02
-#define BOE_ACKNOWLEDGMENT_CLEARING_ACCOUNT_AT 134
+#define BOE_ACKNOWLEDGMENT_CLEARING_ACCOUNT_AT (BOE_RECORD_FIELDS_AT + 53)
 #define BOE_ACKNOWLEDGMENT_CLEARING_ACCOUNT_LEN 4
 #define BOE_ACKNOWLEDGMENT_CLEARING_ACCOUNT_BYTE 3
 #define BOE_ACKNOWLEDGMENT_CLEARING_ACCOUNT_BIT 0x04
-#define BOE_ACKNOWLEDGMENT_MAX_FLOOR_AT 138
+#define BOE_ACKNOWLEDGMENT_MAX_FLOOR_AT (BOE_RECORD_FIELDS_AT + 57)
 #define BOE_ACKNOWLEDGMENT_MAX_FLOOR_LEN 4
 #define BOE_ACKNOWLEDGMENT_MAX_FLOOR_BYTE 3
 #define BOE_ACKNOWLEDGMENT_MAX_FLOOR_BIT 0x10
-#define BOE_ACKNOWLEDGMENT_ORDER_QTY_AT 142
+#define BOE_ACKNOWLEDGMENT_ORDER_QTY_AT (BOE_RECORD_FIELDS_AT + 61)
 #define BOE_ACKNOWLEDGMENT_ORDER_QTY_LEN 4
 #define BOE_ACKNOWLEDGMENT_ORDER_QTY_BYTE 3
 #define BOE_ACKNOWLEDGMENT_ORDER_QTY_BIT 0x40
-#define BOE_ACKNOWLEDGMENT_LEAVES_QTY_AT 146
+#define BOE_ACKNOWLEDGMENT_LEAVES_QTY_AT (BOE_RECORD_FIELDS_AT + 65)
 #define BOE_ACKNOWLEDGMENT_LEAVES_QTY_LEN 4
 #define BOE_ACKNOWLEDGMENT_LEAVES_QTY_BYTE 5
 #define BOE_ACKNOWLEDGMENT_LEAVES_QTY_BIT 0x02
-#define BOE_ACKNOWLEDGMENT_LAST_SHARES_AT 150
+#define BOE_ACKNOWLEDGMENT_LAST_SHARES_AT (BOE_RECORD_FIELDS_AT + 69)
 #define BOE_ACKNOWLEDGMENT_LAST_SHARES_LEN 4
 #define BOE_ACKNOWLEDGMENT_LAST_SHARES_BYTE 5
 #define BOE_ACKNOWLEDGMENT_LAST_SHARES_BIT 0x04
-#define BOE_ACKNOWLEDGMENT_LAST_PX_AT 154
+#define BOE_ACKNOWLEDGMENT_LAST_PX_AT (BOE_RECORD_FIELDS_AT + 73)
 #define BOE_ACKNOWLEDGMENT_LAST_PX_LEN 8
 #define BOE_ACKNOWLEDGMENT_LAST_PX_BYTE 5
 #define BOE_ACKNOWLEDGMENT_LAST_PX_BIT 0x08
-#define BOE_ACKNOWLEDGMENT_EXPIRE_TIME_AT 162
+#define BOE_ACKNOWLEDGMENT_EXPIRE_TIME_AT (BOE_RECORD_FIELDS_AT + 81)
 #define BOE_ACKNOWLEDGMENT_EXPIRE_TIME_LEN 8
 #define BOE_ACKNOWLEDGMENT_EXPIRE_TIME_BYTE 5
 #define BOE_ACKNOWLEDGMENT_EXPIRE_TIME_BIT 0x80
@@ -424,62 +443,251 @@ uint32_t boe_write(uint8_t direction, const struct boe_record *record, size_t re
 #define BOE_EXECUTION_SUB_LIQUIDITY_INDICATOR_LEN 1
 #define BOE_EXECUTION_CONTRA_BROKER_AT 60
 #define BOE_EXECUTION_CONTRA_BROKER_LEN 4
-#define BOE_EXECUTION_SIDE_AT 81
+#define BOE_EXECUTION_SIDE_AT (BOE_RECORD_FIELDS_AT + 0)
 #define BOE_EXECUTION_SIDE_LEN 1
 #define BOE_EXECUTION_SIDE_BYTE 1
 #define BOE_EXECUTION_SIDE_BIT 0x01
-#define BOE_EXECUTION_PRICE_AT 82
+#define BOE_EXECUTION_PRICE_AT (BOE_RECORD_FIELDS_AT + 1)
 #define BOE_EXECUTION_PRICE_LEN 8
 #define BOE_EXECUTION_PRICE_BYTE 1
 #define BOE_EXECUTION_PRICE_BIT 0x04
-#define BOE_EXECUTION_EXEC_INST_AT 90
+#define BOE_EXECUTION_EXEC_INST_AT (BOE_RECORD_FIELDS_AT + 9)
 #define BOE_EXECUTION_EXEC_INST_LEN 1
 #define BOE_EXECUTION_EXEC_INST_BYTE 1
 #define BOE_EXECUTION_EXEC_INST_BIT 0x08
-#define BOE_EXECUTION_ORD_TYPE_AT 91
+#define BOE_EXECUTION_ORD_TYPE_AT (BOE_RECORD_FIELDS_AT + 10)
 #define BOE_EXECUTION_ORD_TYPE_LEN 1
 #define BOE_EXECUTION_ORD_TYPE_BYTE 1
 #define BOE_EXECUTION_ORD_TYPE_BIT 0x10
-#define BOE_EXECUTION_TIME_IN_FORCE_AT 92
+#define BOE_EXECUTION_TIME_IN_FORCE_AT (BOE_RECORD_FIELDS_AT + 11)
 #define BOE_EXECUTION_TIME_IN_FORCE_LEN 1
 #define BOE_EXECUTION_TIME_IN_FORCE_BYTE 1
 #define BOE_EXECUTION_TIME_IN_FORCE_BIT 0x20
-#define BOE_EXECUTION_MIN_QTY_AT 93
+#define BOE_EXECUTION_MIN_QTY_AT (BOE_RECORD_FIELDS_AT + 12)
 #define BOE_EXECUTION_MIN_QTY_LEN 4
 #define BOE_EXECUTION_MIN_QTY_BYTE 1
 #define BOE_EXECUTION_MIN_QTY_BIT 0x40
-#define BOE_EXECUTION_SYMBOL_AT 97
+#define BOE_EXECUTION_SYMBOL_AT (BOE_RECORD_FIELDS_AT + 16)
 #define BOE_EXECUTION_SYMBOL_LEN 8
 #define BOE_EXECUTION_SYMBOL_BYTE 2
 #define BOE_EXECUTION_SYMBOL_BIT 0x01
-#define BOE_EXECUTION_SYMBOL_SFX_AT 105
+#define BOE_EXECUTION_SYMBOL_SFX_AT (BOE_RECORD_FIELDS_AT + 24)
 #define BOE_EXECUTION_SYMBOL_SFX_LEN 8
 #define BOE_EXECUTION_SYMBOL_SFX_BYTE 2
 #define BOE_EXECUTION_SYMBOL_SFX_BIT 0x02
-#define BOE_EXECUTION_CAPACITY_AT 113
+#define BOE_EXECUTION_CAPACITY_AT (BOE_RECORD_FIELDS_AT + 32)
 #define BOE_EXECUTION_CAPACITY_LEN 1
 #define BOE_EXECUTION_CAPACITY_BYTE 2
 #define BOE_EXECUTION_CAPACITY_BIT 0x40
-#define BOE_EXECUTION_ACCOUNT_AT 114
+#define BOE_EXECUTION_ACCOUNT_AT (BOE_RECORD_FIELDS_AT + 33)
 #define BOE_EXECUTION_ACCOUNT_LEN 16
 #define BOE_EXECUTION_ACCOUNT_BYTE 3
 #define BOE_EXECUTION_ACCOUNT_BIT 0x01
-#define BOE_EXECUTION_CLEARING_FIRM_AT 130
+#define BOE_EXECUTION_CLEARING_FIRM_AT (BOE_RECORD_FIELDS_AT + 49)
 #define BOE_EXECUTION_CLEARING_FIRM_LEN 4
 #define BOE_EXECUTION_CLEARING_FIRM_BYTE 3
 #define BOE_EXECUTION_CLEARING_FIRM_BIT 0x02
-#define BOE_EXECUTION_CLEARING_ACCOUNT_AT 134
+#define BOE_EXECUTION_CLEARING_ACCOUNT_AT (BOE_RECORD_FIELDS_AT + 53)
 #define BOE_EXECUTION_CLEARING_ACCOUNT_LEN 4
 #define BOE_EXECUTION_CLEARING_ACCOUNT_BYTE 3
 #define BOE_EXECUTION_CLEARING_ACCOUNT_BIT 0x04
-#define BOE_EXECUTION_MAX_FLOOR_AT 138
+#define BOE_EXECUTION_MAX_FLOOR_AT (BOE_RECORD_FIELDS_AT + 57)
 #define BOE_EXECUTION_MAX_FLOOR_LEN 4
 #define BOE_EXECUTION_MAX_FLOOR_BYTE 3
 #define BOE_EXECUTION_MAX_FLOOR_BIT 0x10
-#define BOE_EXECUTION_ORDER_QTY_AT 142
+#define BOE_EXECUTION_ORDER_QTY_AT (BOE_RECORD_FIELDS_AT + 61)
 #define BOE_EXECUTION_ORDER_QTY_LEN 4
 #define BOE_EXECUTION_ORDER_QTY_BYTE 3
 #define BOE_EXECUTION_ORDER_QTY_BIT 0x40
+
+/* Order Rejected (0x26), from the venue: place and width in a record; for an optional field also its bitfield byte, counted from 1, and its bit */
+#define BOE_REJECTION 0x26
+#define BOE_REJECTION_TRANSACTION_TIME_AT 6
+#define BOE_REJECTION_TRANSACTION_TIME_LEN 8
+#define BOE_REJECTION_CL_ORD_ID_AT 14
+#define BOE_REJECTION_CL_ORD_ID_LEN 20
+#define BOE_REJECTION_ORDER_REJECT_REASON_AT 34
+#define BOE_REJECTION_ORDER_REJECT_REASON_LEN 1
+#define BOE_REJECTION_TEXT_AT 35
+#define BOE_REJECTION_TEXT_LEN 60
+#define BOE_REJECTION_SIDE_AT (BOE_RECORD_FIELDS_AT + 0)
+#define BOE_REJECTION_SIDE_LEN 1
+#define BOE_REJECTION_SIDE_BYTE 1
+#define BOE_REJECTION_SIDE_BIT 0x01
+#define BOE_REJECTION_PEG_DIFFERENCE_AT (BOE_RECORD_FIELDS_AT + 1)
+#define BOE_REJECTION_PEG_DIFFERENCE_LEN 8
+#define BOE_REJECTION_PEG_DIFFERENCE_BYTE 1
+#define BOE_REJECTION_PEG_DIFFERENCE_BIT 0x02
+#define BOE_REJECTION_PRICE_AT (BOE_RECORD_FIELDS_AT + 9)
+#define BOE_REJECTION_PRICE_LEN 8
+#define BOE_REJECTION_PRICE_BYTE 1
+#define BOE_REJECTION_PRICE_BIT 0x04
+#define BOE_REJECTION_EXEC_INST_AT (BOE_RECORD_FIELDS_AT + 17)
+#define BOE_REJECTION_EXEC_INST_LEN 1
+#define BOE_REJECTION_EXEC_INST_BYTE 1
+#define BOE_REJECTION_EXEC_INST_BIT 0x08
+#define BOE_REJECTION_ORD_TYPE_AT (BOE_RECORD_FIELDS_AT + 18)
+#define BOE_REJECTION_ORD_TYPE_LEN 1
+#define BOE_REJECTION_ORD_TYPE_BYTE 1
+#define BOE_REJECTION_ORD_TYPE_BIT 0x10
+#define BOE_REJECTION_TIME_IN_FORCE_AT (BOE_RECORD_FIELDS_AT + 19)
+#define BOE_REJECTION_TIME_IN_FORCE_LEN 1
+#define BOE_REJECTION_TIME_IN_FORCE_BYTE 1
+#define BOE_REJECTION_TIME_IN_FORCE_BIT 0x20
+#define BOE_REJECTION_MIN_QTY_AT (BOE_RECORD_FIELDS_AT + 20)
+#define BOE_REJECTION_MIN_QTY_LEN 4
+#define BOE_REJECTION_MIN_QTY_BYTE 1
+#define BOE_REJECTION_MIN_QTY_BIT 0x40
+#define BOE_REJECTION_SYMBOL_AT (BOE_RECORD_FIELDS_AT + 24)
+#define BOE_REJECTION_SYMBOL_LEN 8
+#define BOE_REJECTION_SYMBOL_BYTE 2
+#define BOE_REJECTION_SYMBOL_BIT 0x01
+#define BOE_REJECTION_SYMBOL_SFX_AT (BOE_RECORD_FIELDS_AT + 32)
+#define BOE_REJECTION_SYMBOL_SFX_LEN 8
+#define BOE_REJECTION_SYMBOL_SFX_BYTE 2
+#define BOE_REJECTION_SYMBOL_SFX_BIT 0x02
+#define BOE_REJECTION_CAPACITY_AT (BOE_RECORD_FIELDS_AT + 40)
+#define BOE_REJECTION_CAPACITY_LEN 1
+#define BOE_REJECTION_CAPACITY_BYTE 2
+#define BOE_REJECTION_CAPACITY_BIT 0x40
+#define BOE_REJECTION_ACCOUNT_AT (BOE_RECORD_FIELDS_AT + 41)
+#define BOE_REJECTION_ACCOUNT_LEN 16
+#define BOE_REJECTION_ACCOUNT_BYTE 3
+#define BOE_REJECTION_ACCOUNT_BIT 0x01
+#define BOE_REJECTION_CLEARING_FIRM_AT (BOE_RECORD_FIELDS_AT + 57)
+#define BOE_REJECTION_CLEARING_FIRM_LEN 4
+#define BOE_REJECTION_CLEARING_FIRM_BYTE 3
+#define BOE_REJECTION_CLEARING_FIRM_BIT 0x02
+#define BOE_REJECTION_CLEARING_ACCOUNT_AT (BOE_RECORD_FIELDS_AT + 61)
+#define BOE_REJECTION_CLEARING_ACCOUNT_LEN 4
+#define BOE_REJECTION_CLEARING_ACCOUNT_BYTE 3
+#define BOE_REJECTION_CLEARING_ACCOUNT_BIT 0x04
+#define BOE_REJECTION_DISPLAY_INDICATOR_AT (BOE_RECORD_FIELDS_AT + 65)
+#define BOE_REJECTION_DISPLAY_INDICATOR_LEN 1
+#define BOE_REJECTION_DISPLAY_INDICATOR_BYTE 3
+#define BOE_REJECTION_DISPLAY_INDICATOR_BIT 0x08
+#define BOE_REJECTION_MAX_FLOOR_AT (BOE_RECORD_FIELDS_AT + 66)
+#define BOE_REJECTION_MAX_FLOOR_LEN 4
+#define BOE_REJECTION_MAX_FLOOR_BYTE 3
+#define BOE_REJECTION_MAX_FLOOR_BIT 0x10
+#define BOE_REJECTION_DISCRETION_AMOUNT_AT (BOE_RECORD_FIELDS_AT + 70)
+#define BOE_REJECTION_DISCRETION_AMOUNT_LEN 2
+#define BOE_REJECTION_DISCRETION_AMOUNT_BYTE 3
+#define BOE_REJECTION_DISCRETION_AMOUNT_BIT 0x20
+#define BOE_REJECTION_ORDER_QTY_AT (BOE_RECORD_FIELDS_AT + 72)
+#define BOE_REJECTION_ORDER_QTY_LEN 4
+#define BOE_REJECTION_ORDER_QTY_BYTE 3
+#define BOE_REJECTION_ORDER_QTY_BIT 0x40
+#define BOE_REJECTION_PREVENT_MATCH_AT (BOE_RECORD_FIELDS_AT + 76)
+#define BOE_REJECTION_PREVENT_MATCH_LEN 3
+#define BOE_REJECTION_PREVENT_MATCH_BYTE 3
+#define BOE_REJECTION_PREVENT_MATCH_BIT 0x80
+#define BOE_REJECTION_SECONDARY_ORDER_ID_AT (BOE_RECORD_FIELDS_AT + 79)
+#define BOE_REJECTION_SECONDARY_ORDER_ID_LEN 8
+#define BOE_REJECTION_SECONDARY_ORDER_ID_BYTE 6
+#define BOE_REJECTION_SECONDARY_ORDER_ID_BIT 0x01
+#define BOE_REJECTION_ATTRIBUTED_QUOTE_AT (BOE_RECORD_FIELDS_AT + 87)
+#define BOE_REJECTION_ATTRIBUTED_QUOTE_LEN 1
+#define BOE_REJECTION_ATTRIBUTED_QUOTE_BYTE 6
+#define BOE_REJECTION_ATTRIBUTED_QUOTE_BIT 0x08
+#define BOE_REJECTION_EXT_EXEC_INST_AT (BOE_RECORD_FIELDS_AT + 88)
+#define BOE_REJECTION_EXT_EXEC_INST_LEN 1
+#define BOE_REJECTION_EXT_EXEC_INST_BYTE 6
+#define BOE_REJECTION_EXT_EXEC_INST_BIT 0x10
+#define BOE_REJECTION_ECHO_TEXT_AT (BOE_RECORD_FIELDS_AT + 89)
+#define BOE_REJECTION_ECHO_TEXT_LEN 64
+#define BOE_REJECTION_ECHO_TEXT_BYTE 8
+#define BOE_REJECTION_ECHO_TEXT_BIT 0x02
+#define BOE_REJECTION_STOP_PX_AT (BOE_RECORD_FIELDS_AT + 153)
+#define BOE_REJECTION_STOP_PX_LEN 8
+#define BOE_REJECTION_STOP_PX_BYTE 8
+#define BOE_REJECTION_STOP_PX_BIT 0x04
+#define BOE_REJECTION_ROUTING_INST_AT (BOE_RECORD_FIELDS_AT + 161)
+#define BOE_REJECTION_ROUTING_INST_LEN 4
+#define BOE_REJECTION_ROUTING_INST_BYTE 8
+#define BOE_REJECTION_ROUTING_INST_BIT 0x08
+#define BOE_REJECTION_ROUT_STRATEGY_AT (BOE_RECORD_FIELDS_AT + 165)
+#define BOE_REJECTION_ROUT_STRATEGY_LEN 6
+#define BOE_REJECTION_ROUT_STRATEGY_BYTE 8
+#define BOE_REJECTION_ROUT_STRATEGY_BIT 0x10
+#define BOE_REJECTION_ROUTE_DELIVERY_METHOD_AT (BOE_RECORD_FIELDS_AT + 171)
+#define BOE_REJECTION_ROUTE_DELIVERY_METHOD_LEN 3
+#define BOE_REJECTION_ROUTE_DELIVERY_METHOD_BYTE 8
+#define BOE_REJECTION_ROUTE_DELIVERY_METHOD_BIT 0x20
+#define BOE_REJECTION_EX_DESTINATION_AT (BOE_RECORD_FIELDS_AT + 174)
+#define BOE_REJECTION_EX_DESTINATION_LEN 1
+#define BOE_REJECTION_EX_DESTINATION_BYTE 8
+#define BOE_REJECTION_EX_DESTINATION_BIT 0x40
+
+/* Cancel Rejected (0x2B), from the venue: place and width in a record; for an optional field also its bitfield byte, counted from 1, and its bit */
+#define BOE_CANCEL_REJECTION 0x2B
+#define BOE_CANCEL_REJECTION_TRANSACTION_TIME_AT 6
+#define BOE_CANCEL_REJECTION_TRANSACTION_TIME_LEN 8
+#define BOE_CANCEL_REJECTION_CL_ORD_ID_AT 14
+#define BOE_CANCEL_REJECTION_CL_ORD_ID_LEN 20
+#define BOE_CANCEL_REJECTION_CANCEL_REJECT_REASON_AT 34
+#define BOE_CANCEL_REJECTION_CANCEL_REJECT_REASON_LEN 1
+#define BOE_CANCEL_REJECTION_TEXT_AT 35
+#define BOE_CANCEL_REJECTION_TEXT_LEN 60
+#define BOE_CANCEL_REJECTION_SIDE_AT (BOE_RECORD_FIELDS_AT + 0)
+#define BOE_CANCEL_REJECTION_SIDE_LEN 1
+#define BOE_CANCEL_REJECTION_SIDE_BYTE 1
+#define BOE_CANCEL_REJECTION_SIDE_BIT 0x01
+#define BOE_CANCEL_REJECTION_PEG_DIFFERENCE_AT (BOE_RECORD_FIELDS_AT + 1)
+#define BOE_CANCEL_REJECTION_PEG_DIFFERENCE_LEN 8
+#define BOE_CANCEL_REJECTION_PEG_DIFFERENCE_BYTE 1
+#define BOE_CANCEL_REJECTION_PEG_DIFFERENCE_BIT 0x02
+#define BOE_CANCEL_REJECTION_PRICE_AT (BOE_RECORD_FIELDS_AT + 9)
+#define BOE_CANCEL_REJECTION_PRICE_LEN 8
+#define BOE_CANCEL_REJECTION_PRICE_BYTE 1
+#define BOE_CANCEL_REJECTION_PRICE_BIT 0x04
+#define BOE_CANCEL_REJECTION_EXEC_INST_AT (BOE_RECORD_FIELDS_AT + 17)
+#define BOE_CANCEL_REJECTION_EXEC_INST_LEN 1
+#define BOE_CANCEL_REJECTION_EXEC_INST_BYTE 1
+#define BOE_CANCEL_REJECTION_EXEC_INST_BIT 0x08
+#define BOE_CANCEL_REJECTION_ORD_TYPE_AT (BOE_RECORD_FIELDS_AT + 18)
+#define BOE_CANCEL_REJECTION_ORD_TYPE_LEN 1
+#define BOE_CANCEL_REJECTION_ORD_TYPE_BYTE 1
+#define BOE_CANCEL_REJECTION_ORD_TYPE_BIT 0x10
+#define BOE_CANCEL_REJECTION_TIME_IN_FORCE_AT (BOE_RECORD_FIELDS_AT + 19)
+#define BOE_CANCEL_REJECTION_TIME_IN_FORCE_LEN 1
+#define BOE_CANCEL_REJECTION_TIME_IN_FORCE_BYTE 1
+#define BOE_CANCEL_REJECTION_TIME_IN_FORCE_BIT 0x20
+#define BOE_CANCEL_REJECTION_MIN_QTY_AT (BOE_RECORD_FIELDS_AT + 20)
+#define BOE_CANCEL_REJECTION_MIN_QTY_LEN 4
+#define BOE_CANCEL_REJECTION_MIN_QTY_BYTE 1
+#define BOE_CANCEL_REJECTION_MIN_QTY_BIT 0x40
+#define BOE_CANCEL_REJECTION_SYMBOL_AT (BOE_RECORD_FIELDS_AT + 24)
+#define BOE_CANCEL_REJECTION_SYMBOL_LEN 8
+#define BOE_CANCEL_REJECTION_SYMBOL_BYTE 2
+#define BOE_CANCEL_REJECTION_SYMBOL_BIT 0x01
+#define BOE_CANCEL_REJECTION_SYMBOL_SFX_AT (BOE_RECORD_FIELDS_AT + 32)
+#define BOE_CANCEL_REJECTION_SYMBOL_SFX_LEN 8
+#define BOE_CANCEL_REJECTION_SYMBOL_SFX_BYTE 2
+#define BOE_CANCEL_REJECTION_SYMBOL_SFX_BIT 0x02
+#define BOE_CANCEL_REJECTION_CAPACITY_AT (BOE_RECORD_FIELDS_AT + 40)
+#define BOE_CANCEL_REJECTION_CAPACITY_LEN 1
+#define BOE_CANCEL_REJECTION_CAPACITY_BYTE 2
+#define BOE_CANCEL_REJECTION_CAPACITY_BIT 0x40
+#define BOE_CANCEL_REJECTION_ECHO_TEXT_AT (BOE_RECORD_FIELDS_AT + 41)
+#define BOE_CANCEL_REJECTION_ECHO_TEXT_LEN 64
+#define BOE_CANCEL_REJECTION_ECHO_TEXT_BYTE 8
+#define BOE_CANCEL_REJECTION_ECHO_TEXT_BIT 0x02
+#define BOE_CANCEL_REJECTION_STOP_PX_AT (BOE_RECORD_FIELDS_AT + 105)
+#define BOE_CANCEL_REJECTION_STOP_PX_LEN 8
+#define BOE_CANCEL_REJECTION_STOP_PX_BYTE 8
+#define BOE_CANCEL_REJECTION_STOP_PX_BIT 0x04
+
+/* User Modify Rejected (0x29), from the venue: place and width in a record. It has no optional field; its bitfields, if any, are zero */
+#define BOE_MODIFY_REJECTION 0x29
+#define BOE_MODIFY_REJECTION_TRANSACTION_TIME_AT 6
+#define BOE_MODIFY_REJECTION_TRANSACTION_TIME_LEN 8
+#define BOE_MODIFY_REJECTION_CL_ORD_ID_AT 14
+#define BOE_MODIFY_REJECTION_CL_ORD_ID_LEN 20
+#define BOE_MODIFY_REJECTION_MODIFY_REJECT_REASON_AT 34
+#define BOE_MODIFY_REJECTION_MODIFY_REJECT_REASON_LEN 1
+#define BOE_MODIFY_REJECTION_TEXT_AT 35
+#define BOE_MODIFY_REJECTION_TEXT_LEN 60
 
 /* Login Request (0x37), from the member: place and width in a record. The groups stand one after the other. */
 #define BOE_LOGIN_REQUEST 0x37

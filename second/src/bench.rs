@@ -5,6 +5,7 @@
 mod tests;
 
 use crate::hex;
+use crate::rules::desk::Told;
 use crate::rules::login::{Choice, Login, Returned};
 use crate::rules::member::{Member, Phase};
 use crate::rules::table::{entry, SIZE, UNITS};
@@ -84,13 +85,18 @@ impl Bench {
                 let result = self.member.login(&login, &mut out);
                 Some(self.member_after(result) + " " + &hex::write(&out))
             }
-            ("m-get" | "m-message" | "m-response", [bytes, room]) => {
+            ("m-get", [bytes, room]) => {
+                let (bytes, room) = (hex::read(bytes)?, read_size(room, BUFFER)?);
+                let result = self.member.get(&bytes, &mut self.book[..room]);
+                let desk = result.unwrap_or(Told::Nothing) as u8;
+                Some(format!("{} {} {}", told(result), desk, self.member_text()))
+            }
+            ("m-message" | "m-response", [bytes, room]) => {
                 let (bytes, room) = (hex::read(bytes)?, read_size(room, BUFFER)?);
                 let buffer = &mut self.book[..room];
                 let result = match question {
                     "m-message" => self.member.message(&bytes, buffer),
-                    "m-response" => self.member.response(&bytes, buffer),
-                    _ => self.member.get(&bytes, buffer),
+                    _ => self.member.response(&bytes, buffer),
                 };
                 Some(self.member_after(result))
             }

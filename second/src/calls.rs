@@ -2,6 +2,7 @@
 //! README.md, "The format", has the table of them.
 
 use crate::hex;
+use crate::rules::desk::Told;
 use crate::rules::kinds::{self, Kind};
 use crate::rules::{
     book, calendar, frame, listing, number, price, pulse, read, table, told, write, Refusal,
@@ -79,6 +80,7 @@ pub fn answer(words: &[&str]) -> Option<String> {
             let (date, bytes) = (read_u32(date)?, hex::read(bytes)?);
             Some(close(date, bytes, read_size(room, MOST_ROOM)?))
         }
+        ["told", type_byte] => Some((Told::of(read_u8(type_byte)?) as u8).to_string()),
         ["list", bytes] => Some(listing::lines(&hex::read(bytes)?).join("|")),
         _ => None,
     }

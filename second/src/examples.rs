@@ -129,6 +129,45 @@ pub fn execution() -> Vec<u8> {
     ])
 }
 
+/// Table 37.
+pub fn order_rejected() -> Vec<u8> {
+    filled(&[
+        ("BABA7600260000000000", 10),
+        ("E0FA20F73671F811", 8),
+        ("414243313233", 20),
+        ("44", 1),
+        ("4475706C696361746520436C4F72644944", 60),
+        ("0003000106", 5),
+        ("4D534654", 8),
+        ("54455354", 4),
+        ("-", 4),
+    ])
+}
+
+/// Table 43.
+pub fn modify_rejected() -> Vec<u8> {
+    filled(&[
+        ("BABA6300290000000000", 10),
+        ("E0FA20F73671F811", 8),
+        ("414243313233", 20),
+        ("50", 1),
+        ("50656E64696E67", 60),
+        ("0000", 2),
+    ])
+}
+
+/// Table 47.
+pub fn cancel_rejected() -> Vec<u8> {
+    filled(&[
+        ("BABA63002B0000000000", 10),
+        ("E0FA20F73671F811", 8),
+        ("414243313233", 20),
+        ("4A", 1),
+        ("544F4F204C415445", 60),
+        ("0000", 2),
+    ])
+}
+
 // Session messages.
 
 /// The groups that table 11 sends and table 17 gives back.
@@ -257,6 +296,9 @@ mod tests {
             least_acknowledgment(),
             booked_acknowledgment(),
             execution(),
+            order_rejected(),
+            modify_rejected(),
+            cancel_rejected(),
             login(),
             options_login(),
             login_response(),
@@ -276,5 +318,8 @@ mod tests {
         assert_eq!(cancel().len(), 36);
         assert_eq!(cancel_without_bitfields().len(), 31);
         assert_eq!(booked_acknowledgment().len(), 57);
+        assert_eq!(order_rejected().len(), 120);
+        assert_eq!(modify_rejected().len(), 101);
+        assert_eq!(cancel_rejected().len(), 101);
     }
 }

@@ -4,6 +4,7 @@
 pub mod bitfields;
 pub mod book;
 mod clock;
+mod desk;
 mod frame;
 #[cfg(test)]
 mod judged;
@@ -41,6 +42,7 @@ pub fn all() -> String {
     book::ask(&mut lines);
     listing::ask(&mut lines);
     places::ask(&mut lines);
+    desk::ask(&mut lines);
     let mut output = String::new();
     for line in lines {
         output.push_str(&line);
@@ -69,7 +71,7 @@ mod tests {
     #[test]
     fn plain_text_of_a_fair_size() {
         let questions = all();
-        assert!(questions.len() < 9_800_000);
+        assert!(questions.len() < 13_000_000);
         for byte in questions.bytes() {
             assert!(byte == b'\n' || byte == b'\t' || (32..=126).contains(&byte));
         }
@@ -116,6 +118,7 @@ mod tests {
             ("read", "0 1 2 3 4 5 6 7 8 9 10 11 ?"),
             ("read-into", "0 1 2 3 4 5 6 7 8 9 10 11 13 ?"),
             ("write", "0 4 5 7 8 9 10 11 12 13 ?"),
+            ("told", "0 1 2 ?"),
             ("open", "0 13 19 ?"),
             ("restart", "0 17 18 19 22 ?"),
             ("append", "0 17 18 19 22 ?"),
@@ -153,7 +156,7 @@ mod tests {
             questions
                 .lines()
                 .filter(|line| {
-                    line.len() > 7_990 && (ask::answer(line.as_bytes()) == "?") == refused
+                    line.len() > 7_998 && (ask::answer(line.as_bytes()) == "?") == refused
                 })
                 .map(str::len)
                 .collect()

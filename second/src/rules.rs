@@ -2,6 +2,7 @@
 
 pub mod book;
 pub mod calendar;
+pub mod desk;
 pub mod frame;
 pub mod groups;
 pub mod kinds;

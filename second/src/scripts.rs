@@ -75,7 +75,7 @@ const WRONG: Days = Days {
     ..QUIET
 };
 
-const STORED: [Kind; 19] = [
+const STORED: [Kind; 20] = [
     Kind::Days(QUIET),
     Kind::Days(LONG),
     Kind::Days(BROKEN),
@@ -95,6 +95,7 @@ const STORED: [Kind; 19] = [
     Kind::Garbage,
     Kind::Outside,
     Kind::Places,
+    Kind::Days(BROKEN),
 ];
 const SEED: u64 = 30;
 

@@ -1,5 +1,5 @@
 -- What the walks need of a dictionary: that a field's place in the full layout is the sum of the widths before it. And that the
--- dictionaries of the four messages are such: one test a message, computed over its 120 places. Assumes nothing.
+-- dictionaries of the messages are such: one test a message, computed over all its places. Assumes nothing.
 use mathlib.Core.Path.{_≡_, refl, sym, ap, _∙_, subst}
 use mathlib.Core.Bool.{Bool, true, false, cond, _&&_}
 use mathlib.Core.List.{List, [], _∷_}
@@ -10,7 +10,7 @@ use lib.Dec.{T, eqb, leb, eqb→eq, leb→le}
 use Rattle.kinds.specs.declared.Kind.{Kind}
 use Rattle.dictionary.specs.declared.Entry.{Entry}
 use Rattle.dictionary.specs.declared.Entry.the-variants.{Refused, Field}
-use Rattle.dictionary.specs.Dictionary.{Line, line, newOrder, cancelOrder, acknowledgments, executions, listOf, pick, indexOf, lookup, entryOf}
+use Rattle.dictionary.specs.Dictionary.{Line, line, newOrder, cancelOrder, acknowledgments, executions, rejections, cancelRejections, listOf, pick, indexOf, lookup, entryOf}
 use Rattle.block.specs.Slots.{widthOf, width, sum}
 use Rattle.block.specs.Places.{selectedAt, entryAt, slotsFrom, slotsOf}
 use Rattle.block.specs.Sizes.{allPlaces, layoutSize}
@@ -49,7 +49,7 @@ before-grows entry (suc n) k =
     let h = before-grows entry n k in
     rw e (omega arith)
 
--- ---- the four dictionaries
+-- ---- the messages' dictionaries
 
 -- the entry of a place whose widths before sum to b
 test : Entry → ℕ → Bool
@@ -111,6 +111,14 @@ at-execution : T (sweep (entryAt 0x2C) allPlaces 0 0)
 unfolding sweep test entryAt entryOf
 at-execution = tt
 
+at-rejection : T (sweep (entryAt 0x26) allPlaces 0 0)
+unfolding sweep test entryAt entryOf
+at-rejection = tt
+
+at-cancel-rejection : T (sweep (entryAt 0x2B) allPlaces 0 0)
+unfolding sweep test entryAt entryOf
+at-cancel-rejection = tt
+
 none-before : (entry : ℕ → Entry) → ((k : ℕ) → entry k ≡ Refused) → (k : ℕ) → before entry k ≡ 0
 unfolding before
 none-before entry r zero = refl
@@ -122,20 +130,23 @@ none-placed entry r = record {
   fits = let e = none-before entry r allPlaces in omega arith;
 }
 
--- every type's dictionary is placed in a layout of 154 bytes
+-- every type's dictionary is placed in the full layout
 pub dictionary-placed : (message : ℕ) → Placed (entryAt message) layoutSize
 unfolding entryAt entryOf
-dictionary-placed message = by (eqb message 0x38) (eqb message 0x39) (eqb message 0x25) (eqb message 0x2C) refl refl refl refl
+dictionary-placed message = by (eqb message 0x38) (eqb message 0x39) (eqb message 0x25) (eqb message 0x2C) (eqb message 0x26) (eqb message 0x2B) refl refl refl refl refl refl
   where
     at : (x : ℕ) → Placed (entryAt x) layoutSize → eqb message x ≡ true → Placed (entryAt message) layoutSize
     at x h e = subst (λ (m : ℕ). Placed (entryAt m) layoutSize) (sym (eqb→eq message x (subst T (sym e) tt))) h
 
-    by : (b1 b2 b3 b4 : Bool) → eqb message 0x38 ≡ b1 → eqb message 0x39 ≡ b2 → eqb message 0x25 ≡ b3 → eqb message 0x2C ≡ b4 → Placed (entryAt message) layoutSize
-    by true b2 b3 b4 p q r s = at 0x38 (by-sweep (entryAt 0x38) at-new-order) p
-    by false true b3 b4 p q r s = at 0x39 (by-sweep (entryAt 0x39) at-cancel) q
-    by false false true b4 p q r s = at 0x25 (by-sweep (entryAt 0x25) at-acknowledgment) r
-    by false false false true p q r s = at 0x2C (by-sweep (entryAt 0x2C) at-execution) s
-    by false false false false p q r s = none-placed (entryAt message) (λ k. simp (p, q, r, s))
+    by : (b1 b2 b3 b4 b5 b6 : Bool) → eqb message 0x38 ≡ b1 → eqb message 0x39 ≡ b2 → eqb message 0x25 ≡ b3 → eqb message 0x2C ≡ b4 → eqb message 0x26 ≡ b5 → eqb message 0x2B ≡ b6
+        → Placed (entryAt message) layoutSize
+    by true b2 b3 b4 b5 b6 p q r s t u = at 0x38 (by-sweep (entryAt 0x38) at-new-order) p
+    by false true b3 b4 b5 b6 p q r s t u = at 0x39 (by-sweep (entryAt 0x39) at-cancel) q
+    by false false true b4 b5 b6 p q r s t u = at 0x25 (by-sweep (entryAt 0x25) at-acknowledgment) r
+    by false false false true b5 b6 p q r s t u = at 0x2C (by-sweep (entryAt 0x2C) at-execution) s
+    by false false false false true b6 p q r s t u = at 0x26 (by-sweep (entryAt 0x26) at-rejection) t
+    by false false false false false true p q r s t u = at 0x2B (by-sweep (entryAt 0x2B) at-cancel-rejection) u
+    by false false false false false false p q r s t u = none-placed (entryAt message) (λ k. simp (p, q, r, s, t, u))
 
 -- all slots of a message fit the layout
 pub widths-fit : (message count : ℕ) (bits : List ℕ) → sum width (slotsOf message count bits) ≤ layoutSize
@@ -163,14 +174,17 @@ in-list (line b t v kd ∷ ls) q byte bit {w} {p} {k} e = by (eqb byte b && eqb 
         omega arith
     by false rest f = let h = rest f in omega arith
 
--- a field of any bit of any type lies within 154 bytes
+-- a field of any bit of any type lies within the full layout
 pub field-fits : (message byte bit : ℕ) {w p : ℕ} {k : Kind} → Field w k p ≡ entryOf message byte bit → p + w ≤ layoutSize
 unfolding entryOf widths
-field-fits message byte bit {w} {p} {k} e = by (eqb message 0x38) (eqb message 0x39) (eqb message 0x25) (eqb message 0x2C) (in-list (listOf message) 0 byte bit e)
+field-fits message byte bit {w} {p} {k} e = by (eqb message 0x38) (eqb message 0x39) (eqb message 0x25) (eqb message 0x2C) (eqb message 0x26) (eqb message 0x2B) (in-list (listOf message) 0 byte bit e)
   where
-    by : (b1 b2 b3 b4 : Bool) → p + w ≤ 0 + widths (cond b1 newOrder (cond b2 cancelOrder (cond b3 acknowledgments (cond b4 executions [])))) → p + w ≤ layoutSize
-    by true b2 b3 b4 h = omega (arith, h)
-    by false true b3 b4 h = omega (arith, h)
-    by false false true b4 h = omega (arith, h)
-    by false false false true h = omega (arith, h)
-    by false false false false h = omega (arith, h)
+    by : (b1 b2 b3 b4 b5 b6 : Bool) → p + w ≤ 0 + widths (cond b1 newOrder (cond b2 cancelOrder (cond b3 acknowledgments (cond b4 executions (cond b5 rejections (cond b6 cancelRejections []))))))
+        → p + w ≤ layoutSize
+    by true b2 b3 b4 b5 b6 h = omega (arith, h)
+    by false true b3 b4 b5 b6 h = omega (arith, h)
+    by false false true b4 b5 b6 h = omega (arith, h)
+    by false false false true b5 b6 h = omega (arith, h)
+    by false false false false true b6 h = omega (arith, h)
+    by false false false false false true h = omega (arith, h)
+    by false false false false false false h = omega (arith, h)

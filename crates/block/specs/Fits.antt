@@ -9,14 +9,14 @@ use native.Mathlib.Numerals.{add-one}
 use native.Mathlib.Omega.{arith}
 use lib.Dec.{eqb, ltb}
 use lib.ListN.{getD}
-use borrow.Author.Tests.{ltb-true, ltb-false}
+use borrow.Author.Tests.{ltb-true, ltb-false, lt-ltb}
 use Rattle.dictionary.specs.declared.Entry.{Entry}
 use Rattle.dictionary.specs.Dictionary.{entryOf}
 use Rattle.block.specs.Slots.{slot, widthOf, takes, sum}
 use Rattle.block.specs.Places.{selectedAt, entryAt, slotsFrom}
 use Rattle.block.specs.Walk.{pick}
 use Rattle.block.specs.Loops.{halved, entry-here, selected-here, past}
-use Rattle.block.specs.Sizes.{allPlaces}
+use Rattle.block.specs.Sizes.{allPlaces, mostBitfields}
 
 -- the bytes that a bit selects
 abbrev pub bitTakes : Bool → Entry → ℕ
@@ -88,7 +88,7 @@ module _ (message count : ℕ) (bits : List ℕ) where
   left-eight j value false e v = let h = ltb-false j count e in left-past 8 (8 * j) (omega arith) ∙ sym (take-clear message (j + 1) value v)
 
   -- one byte, which is `value`, or 0 past the count: its bytes, and then those of the bytes after it
-  pub left-byte : (byte value : ℕ) → 1 ≤ byte → byte ≤ 15 → value ≡ pick (ltb (byte - 1) count) (getD bits (byte - 1) 0) 0
+  pub left-byte : (byte value : ℕ) → 1 ≤ byte → byte ≤ mostBitfields → value ≡ pick (ltb (byte - 1) count) (getD bits (byte - 1) 0) 0
       → left message count bits (allPlaces - 8 * (byte - 1)) (8 * (byte - 1)) ≡ bitsTake message byte 8 0 value + left message count bits (allPlaces - 8 * byte) (8 * byte)
   left-byte byte value h l v =
       let n : allPlaces - 8 * (byte - 1) ≡ 8 + (allPlaces - 8 * byte) = omega arith in
@@ -99,3 +99,11 @@ module _ (message count : ℕ) (bits : List ℕ) where
       ∙ ap₂ (λ (x y : ℕ). x + y)
       (left-eight (byte - 1) value (ltb (byte - 1) count) refl v ∙ ap (λ (y : ℕ). bitsTake message y 8 0 value) b)
       (ap (λ (m : ℕ). left message count bits (allPlaces - 8 * byte) m) k)
+
+  -- a byte of the loop: its bytes, and then those of the bytes after it
+  pub left-turn : (j value : ℕ) → j < count → count ≤ mostBitfields → value ≡ getD bits j 0
+      → left message count bits (allPlaces - 8 * j) (8 * j) ≡ bitsTake message (j + 1) 8 0 value + left message count bits (allPlaces - 8 * (j + 1)) (8 * (j + 1))
+  left-turn j value h l v =
+      let e : j + 1 - 1 ≡ j = omega arith in
+      ap (λ (i : ℕ). left message count bits (allPlaces - 8 * i) (8 * i)) (sym e)
+      ∙ left-byte (j + 1) value (omega arith) (omega arith) (v ∙ rw (e, lt-ltb j count h))

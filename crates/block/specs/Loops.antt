@@ -1,4 +1,4 @@
--- The code's loops over bitfield bytes and over the bits of one byte are a walk over the 120 places, whatever the walk's state.
+-- The code's loops over bitfield bytes and over the bits of one byte are a walk over all places, whatever the walk's state.
 -- Assumes nothing.
 use mathlib.Core.Path.{_≡_, refl, sym, ap, ap₂, _∙_}
 use mathlib.Core.Bool.{Bool, true, false, false≢true, and-eq-true-iff, _&&_}
@@ -18,7 +18,7 @@ use Rattle.kinds.specs.Kinds.{allNul}
 use Rattle.block.specs.Places.{selectedAt, byteAt, entryAt}
 use Rattle.block.specs.Walk.{pick, walk, bitsFrom, inByte}
 use Rattle.block.specs.WalkLaws.{walk-add, walk-skip}
-use Rattle.block.specs.Sizes.{allPlaces}
+use Rattle.block.specs.Sizes.{allPlaces, mostBitfields}
 
 -- ---- the bits of one byte: x / 2 ^ i is what is left after i halvings
 
@@ -85,7 +85,7 @@ module _ (count : ℕ) (bits : List ℕ) where
 
   module _ {S : Type 0} (change : ℕ → S → S) where
     -- one byte more
-    all-more : (j : ℕ) (st : S) → j < 15
+    all-more : (j : ℕ) (st : S) → j < mostBitfields
         → walk (selectedAt count bits) change (allPlaces - 8 * (j + 1)) (8 * (j + 1)) (walk (selectedAt count bits) change 8 (8 * j) st)
         ≡ walk (selectedAt count bits) change (allPlaces - 8 * j) (8 * j) st
     all-more j st h =
@@ -172,7 +172,7 @@ module _ {S : Type 0} (change : ℕ → Entry → S → S) (message count : ℕ)
       ap (λ (y : ℕ). inByte (change (j + 1)) message (j + 1) y st) one ∙ sym (places j 8 0 st h (omega arith)) ∙ ap (λ (k : ℕ). over 8 k st) (add-zero (8 * j))
 
   -- a turn of the loop over the bitfield bytes
-  pub byte-turn : (j value : ℕ) (st st′ last : S) → j < count → count ≤ 15 → value ≡ getD bits j 0 → st′ ≡ inByte (change (j + 1)) message (j + 1) value st
+  pub byte-turn : (j value : ℕ) (st st′ last : S) → j < count → count ≤ mostBitfields → value ≡ getD bits j 0 → st′ ≡ inByte (change (j + 1)) message (j + 1) value st
       → over (allPlaces - 8 * j) (8 * j) st ≡ last → over (allPlaces - 8 * (j + 1)) (8 * (j + 1)) st′ ≡ last
   byte-turn j value st st′ last h l v s w =
       ap (over (allPlaces - 8 * (j + 1)) (8 * (j + 1))) (s ∙ ap (λ (y : ℕ). inByte (change (j + 1)) message (j + 1) y st) v ∙ byte-is j st h)
@@ -191,14 +191,14 @@ module _ {S : Type 0} (change : ℕ → Entry → S → S) (message count : ℕ)
       all-done count bits (λ (k : ℕ). change (byteAt k) (entryAt message k)) (j + 1) st (omega arith)
       ∙ sym (all-done count bits (λ (k : ℕ). change (byteAt k) (entryAt message k)) j st h)
 
-  byte-either : (j value : ℕ) (st st′ : S) (t : Bool) → ltb j count ≡ t → count ≤ 15 → value ≡ pick t (getD bits j 0) 0 → st′ ≡ inByte (change (j + 1)) message (j + 1) value st
+  byte-either : (j value : ℕ) (st st′ : S) (t : Bool) → ltb j count ≡ t → count ≤ mostBitfields → value ≡ pick t (getD bits j 0) 0 → st′ ≡ inByte (change (j + 1)) message (j + 1) value st
       → over (allPlaces - 8 * (j + 1)) (8 * (j + 1)) st′ ≡ over (allPlaces - 8 * j) (8 * j) st
   byte-either j value st st′ true e l v s = byte-turn j value st st′ _ (ltb-true j count e) l v s refl
   byte-either j value st st′ false e l v s =
       ap (over (allPlaces - 8 * (j + 1)) (8 * (j + 1))) (s ∙ sym (byte-clear (change (j + 1)) message (j + 1) value st v)) ∙ byte-past j st (ltb-false j count e)
 
   -- one byte, which is `value`, or 0 past the count: what is left to walk from the state after it ends as what was left before it
-  pub byte-given : (byte value : ℕ) (st st′ : S) → 1 ≤ byte → count ≤ 15 → value ≡ pick (ltb (byte - 1) count) (getD bits (byte - 1) 0) 0
+  pub byte-given : (byte value : ℕ) (st st′ : S) → 1 ≤ byte → count ≤ mostBitfields → value ≡ pick (ltb (byte - 1) count) (getD bits (byte - 1) 0) 0
       → st′ ≡ inByte (change byte) message byte value st → over (allPlaces - 8 * byte) (8 * byte) st′ ≡ over (allPlaces - 8 * (byte - 1)) (8 * (byte - 1)) st
   byte-given byte value st st′ h l v s =
       let e : byte ≡ byte - 1 + 1 = omega arith in

@@ -13,7 +13,7 @@ use Rattle.block.specs.Sizes.{allPlaces}
 abbrev pub bitSet : ℕ → ℕ → Bool
 bitSet x bit = eqb (x / 2 ^ bit % 2) 1
 
--- 01: fields follow the bitfields, first byte first, lowest bit first. So place k of 120 is bit k % 8 of bitfield byte k / 8 + 1;
+-- 01: fields follow the bitfields, first byte first, lowest bit first. So place k is bit k % 8 of bitfield byte k / 8 + 1;
 -- only the first `count` bytes are bitfields
 unfoldable pub selectedAt : ℕ → List ℕ → ℕ → Bool
 selectedAt count bits k = ltb (k / 8) count && bitSet (getD bits (k / 8) 0) (k % 8)

@@ -9,14 +9,23 @@ ghost use Rattle.block.specs.Slots.{zeros};
 ghost use Rattle.block.specs.Walk.{pick, firstOf, worseOf};
 ghost use Rattle.block.specs.Sizes.{layoutSize};
 
-// The sizes of an order's record and of its parts: the fixed part, where the longest one ends in a message, the full layout, the record.
-pub const FIXED: usize = 59;
+// The sizes of an order's record and of its parts: the fixed part, where the longest one ends in a message, the bitfields, the full layout, the record;
+// and where count, bitfields and layout begin in it.
+pub const FIXED: usize = 90;
 
-pub const FIXED_END: usize = 69;
+pub const FIXED_END: usize = 100;
 
-pub const LAYOUT: usize = 154;
+pub const BITFIELDS: usize = 19;
 
-pub const RECORD: usize = 235;
+pub const LAYOUT: usize = 175;
+
+pub const RECORD: usize = 291;
+
+pub const COUNT_AT: usize = 96;
+
+pub const BITS_AT: usize = 97;
+
+pub const SLOTS_AT: usize = 116;
 
 // A field's bytes into the front of a lent tail, which has room for them.
 pub fn copy(from: &[u8], to: &mut [u8])
@@ -59,13 +68,17 @@ fn both_ends(k: usize, from: &[u8], to: &mut [u8])
     move_field(&from[n - k..n], &mut to[n - k..]);
 }
 
-// At most 16 bytes into the front of a lent tail: no loop over them.
+// At most 32 bytes into the front of a lent tail: no loop over them.
 pub fn copy_few(from: &[u8], to: &mut [u8])
-    requires { ⌜ (length (now from) ≤ length (now to)) × (length (now from) ≤ 16) ⌝ }
+    requires { ⌜ (length (now from) ≤ length (now to)) × (length (now from) ≤ 32) ⌝ }
     ensures { λ _. ⌜ now (to .exit) ≡ patched (now (to .entry)) 0 (now (from .entry)) ⌝ }
 {
     let n = from.len();
     if n == 0 {
+        return;
+    }
+    if 16 < n {
+        both_ends(16, from, to);
         return;
     }
     if 8 <= n {
@@ -85,13 +98,12 @@ pub fn copy_few(from: &[u8], to: &mut [u8])
     }
 }
 
-// A full layout into the front of a lent tail, in two parts that each are a few moves.
+// A full layout into the front of a lent tail, in two parts that overlap, each of six moves of 16 bytes.
 pub fn copy_layout(from: &[u8], to: &mut [u8])
     requires { ⌜ (length (now from) ≡ layoutSize) × (layoutSize ≤ length (now to)) ⌝ }
     ensures { λ _. ⌜ now (to .exit) ≡ patched (now (to .entry)) 0 (now (from .entry)) ⌝ }
 {
-    copy(&from[0..128], to);
-    copy(&from[128..LAYOUT], &mut to[128..]);
+    both_ends(96, from, to);
 }
 
 // Zeros into the front of a lent tail.
@@ -136,7 +148,7 @@ pub fn byte_of(bits: &[u8], count: u8, byte: u8) -> u8
     if j < count { bits[j as usize] } else { 0 }
 }
 
-// Whether place k of 120 is selected.
+// Whether place k, of those of all bitfields, is selected.
 fn is_selected(bits: &[u8], count: u8, k: u8) -> bool
     requires { ⌜ count ≤ length (now bits) ⌝ }
     ensures { λ r. ⌜ r ≡ selectedAt count (now (bits .entry)) k ⌝ }

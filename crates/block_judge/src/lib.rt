@@ -7,7 +7,7 @@ ghost use lib.ListN.{length};
 ghost use Rattle.dictionary.specs.Dictionary.{entryOf};
 ghost use Rattle.block.specs.Walk.{pick, inByte, judgeField, judgeEntry, judgeHere};
 ghost use Rattle.block_judge.specs.State.{judging, begun, judgeWalk, blankAfter, plain};
-ghost use Rattle.block.specs.Sizes.{allPlaces};
+ghost use Rattle.block.specs.Sizes.{allPlaces, mostBitfields};
 use dictionary::Entry;
 use kinds::Kind;
 
@@ -68,7 +68,7 @@ fn judge_bit(message: u8, byte: u8, bit: u8, x: u8, msg: &[u8], t: Judged) -> Ju
 // The fields of a bitfield byte, which is `value`; its places end at `end`, so that literals tell the loop's length. Whether a bad bit was found before is
 // asked once, after them: at each bit it would cost every message.
 fn judge_bits(message: u8, byte: u8, end: u8, value: u8, msg: &[u8], t: Judged) -> Judged
-    requires { ⌜ (1 ≤ byte) × (byte ≤ 15) × (end ≡ 8 * byte) × (t .at ≤ 100000) ⌝ }
+    requires { ⌜ (1 ≤ byte) × (byte ≤ mostBitfields) × (end ≡ 8 * byte) × (t .at ≤ 100000) ⌝ }
     ensures { λ r. ⌜ (judging r ≡ inByte (judgeEntry (now (msg .entry)) byte) message byte value (judging t)) × (r .at ≤ t .at + 2040) ⌝ }
 {
     let n = end + 8 - 8 * byte;
@@ -93,7 +93,7 @@ fn judge_bits(message: u8, byte: u8, end: u8, value: u8, msg: &[u8], t: Judged) 
 
 // The same of any byte: its places follow from it.
 fn judge_any(message: u8, byte: u8, value: u8, msg: &[u8], t: Judged) -> Judged
-    requires { ⌜ (1 ≤ byte) × (byte ≤ 15) × (t .at ≤ 100000) ⌝ }
+    requires { ⌜ (1 ≤ byte) × (byte ≤ mostBitfields) × (t .at ≤ 100000) ⌝ }
     ensures { λ r. ⌜ (judging r ≡ inByte (judgeEntry (now (msg .entry)) byte) message byte value (judging t)) × (r .at ≤ t .at + 2040) ⌝ }
 {
     judge_bits(message, byte, 8 * byte, value, msg, t)
@@ -109,7 +109,7 @@ fn judge_next(
     msg: &[u8],
     t: Judged,
 ) -> Judged
-    requires { ⌜ (count ≤ length (now bits)) × (count ≤ 15) × (1 ≤ byte) × (byte ≤ 15) × (end ≡ 8 * byte) × (t .at ≤ 2040 * (byte - 1)) ⌝ }
+    requires { ⌜ (count ≤ length (now bits)) × (count ≤ mostBitfields) × (1 ≤ byte) × (byte ≤ mostBitfields) × (end ≡ 8 * byte) × (t .at ≤ 2040 * (byte - 1)) ⌝ }
     ensures { λ r. ⌜ (judgeWalk message count (now (bits .entry)) (now (msg .entry)) (allPlaces - 8 * byte) (8 * byte) (judging r) ≡ judgeWalk message count (now (bits .entry)) (now (msg .entry)) (allPlaces - 8 * (byte - 1)) (8 * (byte - 1)) (judging t)) × (r .at ≤ 2040 * byte) ⌝ }
 {
     let value = block::byte_of(bits, count, byte);
@@ -122,7 +122,7 @@ fn judge_next(
 // New Order, in a line of calls up to the last byte that it lists, those after it being blank. The compiler knows message and byte of each call: it
 // unrolls the loop over the bits and folds the dictionary away.
 fn new_order_bytes(bits: &[u8], count: u8, msg: &[u8], t: Judged) -> Judged
-    requires { ⌜ (count ≤ length (now bits)) × (count ≤ 15) × (blankAfter 10 count (now bits) ≡ true) × (t .at ≡ 0) ⌝ }
+    requires { ⌜ (count ≤ length (now bits)) × (count ≤ mostBitfields) × (blankAfter 10 count (now bits) ≡ true) × (t .at ≡ 0) ⌝ }
     ensures { λ r. ⌜ judging r ≡ judgeWalk 0x38 count (now (bits .entry)) (now (msg .entry)) allPlaces 0 (judging t) ⌝ }
 {
     let a = judge_next(0x38, 1, 8, bits, count, msg, t);
@@ -142,7 +142,7 @@ fn new_order_bytes(bits: &[u8], count: u8, msg: &[u8], t: Judged) -> Judged
 
 // The same of Cancel Order.
 fn cancel_order_bytes(bits: &[u8], count: u8, msg: &[u8], t: Judged) -> Judged
-    requires { ⌜ (count ≤ length (now bits)) × (count ≤ 15) × (blankAfter 1 count (now bits) ≡ true) × (t .at ≡ 0) ⌝ }
+    requires { ⌜ (count ≤ length (now bits)) × (count ≤ mostBitfields) × (blankAfter 1 count (now bits) ≡ true) × (t .at ≡ 0) ⌝ }
     ensures { λ r. ⌜ judging r ≡ judgeWalk 0x39 count (now (bits .entry)) (now (msg .entry)) allPlaces 0 (judging t) ⌝ }
 {
     judge_next(0x39, 1, 8, bits, count, msg, t)
@@ -150,7 +150,7 @@ fn cancel_order_bytes(bits: &[u8], count: u8, msg: &[u8], t: Judged) -> Judged
 
 // The same of Order Acknowledgment.
 fn acknowledgment_bytes(bits: &[u8], count: u8, msg: &[u8], t: Judged) -> Judged
-    requires { ⌜ (count ≤ length (now bits)) × (count ≤ 15) × (blankAfter 5 count (now bits) ≡ true) × (t .at ≡ 0) ⌝ }
+    requires { ⌜ (count ≤ length (now bits)) × (count ≤ mostBitfields) × (blankAfter 5 count (now bits) ≡ true) × (t .at ≡ 0) ⌝ }
     ensures { λ r. ⌜ judging r ≡ judgeWalk 0x25 count (now (bits .entry)) (now (msg .entry)) allPlaces 0 (judging t) ⌝ }
 {
     let a = judge_next(0x25, 1, 8, bits, count, msg, t);
@@ -165,7 +165,7 @@ fn acknowledgment_bytes(bits: &[u8], count: u8, msg: &[u8], t: Judged) -> Judged
 
 // The same of Order Execution.
 fn execution_bytes(bits: &[u8], count: u8, msg: &[u8], t: Judged) -> Judged
-    requires { ⌜ (count ≤ length (now bits)) × (count ≤ 15) × (blankAfter 3 count (now bits) ≡ true) × (t .at ≡ 0) ⌝ }
+    requires { ⌜ (count ≤ length (now bits)) × (count ≤ mostBitfields) × (blankAfter 3 count (now bits) ≡ true) × (t .at ≡ 0) ⌝ }
     ensures { λ r. ⌜ judging r ≡ judgeWalk 0x2C count (now (bits .entry)) (now (msg .entry)) allPlaces 0 (judging t) ⌝ }
 {
     let a = judge_next(0x2C, 1, 8, bits, count, msg, t);
@@ -175,7 +175,7 @@ fn execution_bytes(bits: &[u8], count: u8, msg: &[u8], t: Judged) -> Judged
 
 // The line of New Order, one call further in: so the compiler folds it into its caller.
 fn judge_new_order(bits: &[u8], count: u8, msg: &[u8], t: Judged) -> Judged
-    requires { ⌜ (count ≤ length (now bits)) × (count ≤ 15) × (blankAfter 10 count (now bits) ≡ true) × (t .at ≡ 0) ⌝ }
+    requires { ⌜ (count ≤ length (now bits)) × (count ≤ mostBitfields) × (blankAfter 10 count (now bits) ≡ true) × (t .at ≡ 0) ⌝ }
     ensures { λ r. ⌜ judging r ≡ judgeWalk 0x38 count (now (bits .entry)) (now (msg .entry)) allPlaces 0 (judging t) ⌝ }
 {
     new_order_bytes(bits, count, msg, t)
@@ -183,7 +183,7 @@ fn judge_new_order(bits: &[u8], count: u8, msg: &[u8], t: Judged) -> Judged
 
 // The same of Order Acknowledgment.
 fn judge_acknowledgment(bits: &[u8], count: u8, msg: &[u8], t: Judged) -> Judged
-    requires { ⌜ (count ≤ length (now bits)) × (count ≤ 15) × (blankAfter 5 count (now bits) ≡ true) × (t .at ≡ 0) ⌝ }
+    requires { ⌜ (count ≤ length (now bits)) × (count ≤ mostBitfields) × (blankAfter 5 count (now bits) ≡ true) × (t .at ≡ 0) ⌝ }
     ensures { λ r. ⌜ judging r ≡ judgeWalk 0x25 count (now (bits .entry)) (now (msg .entry)) allPlaces 0 (judging t) ⌝ }
 {
     acknowledgment_bytes(bits, count, msg, t)
@@ -191,7 +191,7 @@ fn judge_acknowledgment(bits: &[u8], count: u8, msg: &[u8], t: Judged) -> Judged
 
 // The same of Order Execution.
 fn judge_execution(bits: &[u8], count: u8, msg: &[u8], t: Judged) -> Judged
-    requires { ⌜ (count ≤ length (now bits)) × (count ≤ 15) × (blankAfter 3 count (now bits) ≡ true) × (t .at ≡ 0) ⌝ }
+    requires { ⌜ (count ≤ length (now bits)) × (count ≤ mostBitfields) × (blankAfter 3 count (now bits) ≡ true) × (t .at ≡ 0) ⌝ }
     ensures { λ r. ⌜ judging r ≡ judgeWalk 0x2C count (now (bits .entry)) (now (msg .entry)) allPlaces 0 (judging t) ⌝ }
 {
     execution_bytes(bits, count, msg, t)
@@ -199,7 +199,7 @@ fn judge_execution(bits: &[u8], count: u8, msg: &[u8], t: Judged) -> Judged
 
 // Any message, in a loop over its bytes.
 fn judge_loop(message: u8, bits: &[u8], count: u8, msg: &[u8], t: Judged) -> Judged
-    requires { ⌜ (count ≤ length (now bits)) × (count ≤ 15) × (t .at ≡ 0) ⌝ }
+    requires { ⌜ (count ≤ length (now bits)) × (count ≤ mostBitfields) × (t .at ≡ 0) ⌝ }
     ensures { λ r. ⌜ judging r ≡ judgeWalk message count (now (bits .entry)) (now (msg .entry)) allPlaces 0 (judging t) ⌝ }
 {
     let mut j: u8 = 0;
@@ -242,7 +242,7 @@ fn is_plain(message: u8, bits: &[u8], count: u8) -> bool
 
 // All fields that the bitfield bytes select.
 pub fn judge_all(message: u8, bits: &[u8], count: u8, msg: &[u8]) -> Judged
-    requires { ⌜ (length (now bits) ≡ count) × (count ≤ 15) ⌝ }
+    requires { ⌜ (length (now bits) ≡ count) × (count ≤ mostBitfields) ⌝ }
     ensures { λ r. ⌜ judging r ≡ judgeWalk message count (now (bits .entry)) (now (msg .entry)) allPlaces 0 begun ⌝ }
 {
     let t = Judged {

@@ -10,7 +10,7 @@ ghost use Rattle.block.specs.Places.{slotsOf};
 ghost use Rattle.block.specs.Walk.{pick, inByte, storeEntry};
 ghost use Rattle.block.specs.Fits.{bitTakes, bitsTake, left};
 ghost use Rattle.block_store.specs.State.{storing, storeWalk};
-ghost use Rattle.block.specs.Sizes.{allPlaces, layoutSize};
+ghost use Rattle.block.specs.Sizes.{allPlaces, layoutSize, mostBitfields};
 use dictionary::Entry;
 
 // The field reader: one field, which is the front of the tail of the message that is handed on, into its place of the layout.
@@ -64,7 +64,7 @@ fn store_bits(
     start: usize,
     layout: &mut [u8],
 ) -> usize
-    requires { ⌜ (length (now layout) ≡ layoutSize) × (byte ≤ 15) × (end ≡ 8 * byte) × (start + bitsTake message byte 8 0 value ≤ length (now msg)) ⌝ }
+    requires { ⌜ (length (now layout) ≡ layoutSize) × (byte ≤ mostBitfields) × (end ≡ 8 * byte) × (start + bitsTake message byte 8 0 value ≤ length (now msg)) ⌝ }
     ensures { λ r. ⌜ (storing r (now (layout .exit)) ≡ inByte (storeEntry (now (msg .entry))) message byte value (storing start (now (layout .entry)))) × (r ≡ start + bitsTake message byte 8 0 value) ⌝ }
 {
     let n = end + 8 - 8 * byte;
@@ -90,7 +90,7 @@ fn store_next(
     at: usize,
     layout: &mut [u8],
 ) -> usize
-    requires { ⌜ (length (now layout) ≡ layoutSize) × (length (now bits) ≡ count) × (count ≤ 15) × (1 ≤ byte) × (byte ≤ 15) × (end ≡ 8 * byte) × (at + left message count (now bits) (allPlaces - 8 * (byte - 1)) (8 * (byte - 1)) ≤ length (now msg)) ⌝ }
+    requires { ⌜ (length (now layout) ≡ layoutSize) × (length (now bits) ≡ count) × (count ≤ mostBitfields) × (1 ≤ byte) × (byte ≤ mostBitfields) × (end ≡ 8 * byte) × (at + left message count (now bits) (allPlaces - 8 * (byte - 1)) (8 * (byte - 1)) ≤ length (now msg)) ⌝ }
     ensures { λ r. ⌜ (storeWalk message count (now (bits .entry)) (now (msg .entry)) (allPlaces - 8 * byte) (8 * byte) (storing r (now (layout .exit))) ≡ storeWalk message count (now (bits .entry)) (now (msg .entry)) (allPlaces - 8 * (byte - 1)) (8 * (byte - 1)) (storing at (now (layout .entry)))) × (r + left message count (now (bits .entry)) (allPlaces - 8 * byte) (8 * byte) ≤ length (now (msg .entry))) ⌝ }
 {
     let value = block::byte_of(bits, count, byte);
@@ -103,7 +103,7 @@ fn store_next(
 // The bitfield bytes that a New Order lists, one after the other: the compiler knows message and byte, and folds loop and dictionary away. The other
 // bytes store nothing.
 fn new_order_bytes(bits: &[u8], count: u8, msg: &[u8], layout: &mut [u8]) -> usize
-    requires { ⌜ (length (now layout) ≡ layoutSize) × (length (now bits) ≡ count) × (count ≤ 15) × (left 0x38 count (now bits) allPlaces 0 ≤ length (now msg)) ⌝ }
+    requires { ⌜ (length (now layout) ≡ layoutSize) × (length (now bits) ≡ count) × (count ≤ mostBitfields) × (left 0x38 count (now bits) allPlaces 0 ≤ length (now msg)) ⌝ }
     ensures { λ r. ⌜ storing r (now (layout .exit)) ≡ storeWalk 0x38 count (now (bits .entry)) (now (msg .entry)) allPlaces 0 (storing 0 (now (layout .entry))) ⌝ }
 {
     let a = store_next(0x38, 1, 8, bits, count, msg, 0, layout);
@@ -115,7 +115,7 @@ fn new_order_bytes(bits: &[u8], count: u8, msg: &[u8], layout: &mut [u8]) -> usi
 
 // The same of a Cancel Order.
 fn cancel_order_bytes(bits: &[u8], count: u8, msg: &[u8], layout: &mut [u8]) -> usize
-    requires { ⌜ (length (now layout) ≡ layoutSize) × (length (now bits) ≡ count) × (count ≤ 15) × (left 0x39 count (now bits) allPlaces 0 ≤ length (now msg)) ⌝ }
+    requires { ⌜ (length (now layout) ≡ layoutSize) × (length (now bits) ≡ count) × (count ≤ mostBitfields) × (left 0x39 count (now bits) allPlaces 0 ≤ length (now msg)) ⌝ }
     ensures { λ r. ⌜ storing r (now (layout .exit)) ≡ storeWalk 0x39 count (now (bits .entry)) (now (msg .entry)) allPlaces 0 (storing 0 (now (layout .entry))) ⌝ }
 {
     store_next(0x39, 1, 8, bits, count, msg, 0, layout)
@@ -123,7 +123,7 @@ fn cancel_order_bytes(bits: &[u8], count: u8, msg: &[u8], layout: &mut [u8]) -> 
 
 // The same of an Order Acknowledgment.
 fn acknowledgment_bytes(bits: &[u8], count: u8, msg: &[u8], layout: &mut [u8]) -> usize
-    requires { ⌜ (length (now layout) ≡ layoutSize) × (length (now bits) ≡ count) × (count ≤ 15) × (left 0x25 count (now bits) allPlaces 0 ≤ length (now msg)) ⌝ }
+    requires { ⌜ (length (now layout) ≡ layoutSize) × (length (now bits) ≡ count) × (count ≤ mostBitfields) × (left 0x25 count (now bits) allPlaces 0 ≤ length (now msg)) ⌝ }
     ensures { λ r. ⌜ storing r (now (layout .exit)) ≡ storeWalk 0x25 count (now (bits .entry)) (now (msg .entry)) allPlaces 0 (storing 0 (now (layout .entry))) ⌝ }
 {
     let a = store_next(0x25, 1, 8, bits, count, msg, 0, layout);
@@ -134,7 +134,7 @@ fn acknowledgment_bytes(bits: &[u8], count: u8, msg: &[u8], layout: &mut [u8]) -
 
 // The same of an Order Execution.
 fn execution_bytes(bits: &[u8], count: u8, msg: &[u8], layout: &mut [u8]) -> usize
-    requires { ⌜ (length (now layout) ≡ layoutSize) × (length (now bits) ≡ count) × (count ≤ 15) × (left 0x2C count (now bits) allPlaces 0 ≤ length (now msg)) ⌝ }
+    requires { ⌜ (length (now layout) ≡ layoutSize) × (length (now bits) ≡ count) × (count ≤ mostBitfields) × (left 0x2C count (now bits) allPlaces 0 ≤ length (now msg)) ⌝ }
     ensures { λ r. ⌜ storing r (now (layout .exit)) ≡ storeWalk 0x2C count (now (bits .entry)) (now (msg .entry)) allPlaces 0 (storing 0 (now (layout .entry))) ⌝ }
 {
     let a = store_next(0x2C, 1, 8, bits, count, msg, 0, layout);
@@ -142,9 +142,32 @@ fn execution_bytes(bits: &[u8], count: u8, msg: &[u8], layout: &mut [u8]) -> usi
     store_next(0x2C, 3, 24, bits, count, msg, b, layout)
 }
 
-// All fields that the bitfield bytes select, into a layout: how far the message is stored. A message of another type lists no field.
+// The fields of any bitfield byte: its places follow from it.
+fn store_any(message: u8, byte: u8, value: u8, msg: &[u8], at: usize, layout: &mut [u8]) -> usize
+    requires { ⌜ (length (now layout) ≡ layoutSize) × (byte ≤ mostBitfields) × (at + bitsTake message byte 8 0 value ≤ length (now msg)) ⌝ }
+    ensures { λ r. ⌜ (storing r (now (layout .exit)) ≡ inByte (storeEntry (now (msg .entry))) message byte value (storing at (now (layout .entry)))) × (r ≡ at + bitsTake message byte 8 0 value) ⌝ }
+{
+    store_bits(message, byte, 8 * byte, value, msg, at, layout)
+}
+
+// Any message: all bytes that are there, in a loop.
+fn store_loop(message: u8, bits: &[u8], count: u8, msg: &[u8], layout: &mut [u8]) -> usize
+    requires { ⌜ (length (now layout) ≡ layoutSize) × (length (now bits) ≡ count) × (count ≤ mostBitfields) × (left message count (now bits) allPlaces 0 ≤ length (now msg)) ⌝ }
+    ensures { λ r. ⌜ storing r (now (layout .exit)) ≡ storeWalk message count (now (bits .entry)) (now (msg .entry)) allPlaces 0 (storing 0 (now (layout .entry))) ⌝ }
+{
+    let mut j: u8 = 0;
+    let mut at: usize = 0;
+    while j < count {
+        let value = bits[j as usize];
+        j += 1;
+        at = store_any(message, j, value, msg, at, layout);
+    }
+    at
+}
+
+// All fields that the bitfield bytes select, into a layout: how far the message is stored.
 pub fn store_all(message: u8, bits: &[u8], count: u8, msg: &[u8], layout: &mut [u8]) -> usize
-    requires { ⌜ (length (now layout) ≡ layoutSize) × (length (now bits) ≡ count) × (count ≤ 15) × (sum takes (slotsOf message count (now bits)) ≤ length (now msg)) ⌝ }
+    requires { ⌜ (length (now layout) ≡ layoutSize) × (length (now bits) ≡ count) × (count ≤ mostBitfields) × (sum takes (slotsOf message count (now bits)) ≤ length (now msg)) ⌝ }
     ensures { λ r. ⌜ storing r (now (layout .exit)) ≡ storeWalk message count (now (bits .entry)) (now (msg .entry)) allPlaces 0 (storing 0 (now (layout .entry))) ⌝ }
 {
     if count == 0 {
@@ -155,6 +178,6 @@ pub fn store_all(message: u8, bits: &[u8], count: u8, msg: &[u8], layout: &mut [
         0x39 => cancel_order_bytes(bits, count, msg, layout),
         0x25 => acknowledgment_bytes(bits, count, msg, layout),
         0x2C => execution_bytes(bits, count, msg, layout),
-        _ => 0,
+        _ => store_loop(message, bits, count, msg, layout),
     }
 }

@@ -2,11 +2,9 @@
 use mathlib.Core.Path.{_≡_, refl, sym, ap, _∙_}
 use mathlib.Core.Bool.{Bool, true, false}
 use mathlib.Core.List.{List}
-use Prim.Native.Nat.{ℕ, zero, suc, _+_, _*_, _-_, _≤_, _<_}
+use Prim.Native.Nat.{ℕ, zero, suc, _+_, _-_, _≤_}
 use native.Mathlib.Nat.{add-zero, zero-add}
 use native.Mathlib.Omega.{arith}
-use lib.ListN.{getD}
-use borrow.Author.Tests.{lt-ltb}
 use Rattle.dictionary.specs.declared.Entry.{Entry}
 use Rattle.dictionary.specs.declared.Entry.the-variants.{Refused}
 use Rattle.block.specs.Slots.{widthOf}
@@ -14,7 +12,7 @@ use Rattle.block.specs.Places.{selectedAt, entryAt, slotsFrom}
 use Rattle.block.specs.Walk.{anyByte, Giving, giveEntry}
 use Rattle.block.specs.WalkLaws.{walk-add}
 use Rattle.block.specs.Loops.{unlisted, places-unlisted}
-use Rattle.block.specs.Fits.{bitTakes, bitsTake, left, left-byte}
+use Rattle.block.specs.Fits.{bitTakes, bitsTake, left}
 use Rattle.block.specs.Sizes.{allPlaces}
 use Rattle.block_write.specs.State.{giveWalk}
 
@@ -63,11 +61,3 @@ module _ (message count : ℕ) (bits : List ℕ) where
       let e : k + suc n ≡ suc k + n = omega arith in
       let s : suc n + m ≡ suc (n + m) = omega arith in
       rw (e, s) (omega (arith, left-later n m (suc k)))
-
-  -- a byte of the loop: its bytes, and then those of the bytes after it
-  pub left-turn : (j value : ℕ) → j < count → count ≤ 15 → value ≡ getD bits j 0
-      → left message count bits (allPlaces - 8 * j) (8 * j) ≡ bitsTake message (j + 1) 8 0 value + left message count bits (allPlaces - 8 * (j + 1)) (8 * (j + 1))
-  left-turn j value h l v =
-      let e : j + 1 - 1 ≡ j = omega arith in
-      ap (λ (i : ℕ). left message count bits (allPlaces - 8 * i) (8 * i)) (sym e)
-      ∙ left-byte message count bits (j + 1) value (omega arith) (omega arith) (v ∙ rw (e, lt-ltb j count h))

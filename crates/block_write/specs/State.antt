@@ -5,7 +5,7 @@ use mathlib.Core.List.{List}
 use lib.ListN.{length}
 use Rattle.block.specs.Places.{selectedAt, byteAt, entryAt}
 use Rattle.block.specs.Walk.{walk, Looking, lookEntry, Giving, giveEntry}
-use Rattle.block.specs.Sizes.{layoutSize}
+use Rattle.block.specs.Sizes.{layoutSize, mostBitfields}
 use Rattle.block_write.specs.declared.Seen.{Seen}
 
 -- the struct, field by field, and the layout that is lent
@@ -25,7 +25,7 @@ lookWalk message count bits n k st = walk (selectedAt count bits) (λ (i : ℕ).
 pub record Midway (count : ℕ) (bits : List ℕ) (n total : ℕ) (rest : List ℕ) : Type 0 where
   pub sized : length rest ≡ layoutSize
   pub there : count ≤ length bits
-  pub few : count ≤ 15
+  pub few : count ≤ mostBitfields
   pub bound : total ≤ 2040 * n
 
 -- the place, and the buffer that is lent

@@ -9,7 +9,7 @@ ghost use Rattle.block.specs.Places.{slotsOf};
 ghost use Rattle.block.specs.Walk.{pick, inByte, giveField, giveEntry};
 ghost use Rattle.block.specs.Fits.{bitTakes, bitsTake, left};
 ghost use Rattle.block_write.specs.State.{giving, giveWalk};
-ghost use Rattle.block.specs.Sizes.{allPlaces, layoutSize};
+ghost use Rattle.block.specs.Sizes.{allPlaces, layoutSize, mostBitfields};
 use dictionary::Entry;
 
 // One field of a layout to a place of the message, which has room for it: where the next one goes.
@@ -63,7 +63,7 @@ fn give_bits(
     out: &mut [u8],
     start: usize,
 ) -> usize
-    requires { ⌜ (length (now layout) ≡ layoutSize) × (byte ≤ 15) × (end ≡ 8 * byte) × (start + bitsTake message byte 8 0 value ≤ length (now out)) ⌝ }
+    requires { ⌜ (length (now layout) ≡ layoutSize) × (byte ≤ mostBitfields) × (end ≡ 8 * byte) × (start + bitsTake message byte 8 0 value ≤ length (now out)) ⌝ }
     ensures { λ r. ⌜ (giving r (now (out .exit)) ≡ inByte (giveEntry (now (layout .entry))) message byte value (giving start (now (out .entry)))) × (r ≡ start + bitsTake message byte 8 0 value) ⌝ }
 {
     let n = end + 8 - 8 * byte;
@@ -80,7 +80,7 @@ fn give_bits(
 
 // The same of any byte: its places follow from it.
 fn give_any(message: u8, byte: u8, value: u8, layout: &[u8], out: &mut [u8], at: usize) -> usize
-    requires { ⌜ (length (now layout) ≡ layoutSize) × (byte ≤ 15) × (at + bitsTake message byte 8 0 value ≤ length (now out)) ⌝ }
+    requires { ⌜ (length (now layout) ≡ layoutSize) × (byte ≤ mostBitfields) × (at + bitsTake message byte 8 0 value ≤ length (now out)) ⌝ }
     ensures { λ r. ⌜ (giving r (now (out .exit)) ≡ inByte (giveEntry (now (layout .entry))) message byte value (giving at (now (out .entry)))) × (r ≡ at + bitsTake message byte 8 0 value) ⌝ }
 {
     give_bits(message, byte, 8 * byte, value, layout, out, at)
@@ -97,7 +97,7 @@ fn give_next(
     out: &mut [u8],
     at: usize,
 ) -> usize
-    requires { ⌜ (length (now layout) ≡ layoutSize) × (count ≤ length (now bits)) × (count ≤ 15) × (1 ≤ byte) × (byte ≤ 15) × (end ≡ 8 * byte) × (at + left message count (now bits) (allPlaces - 8 * (byte - 1)) (8 * (byte - 1)) ≤ length (now out)) ⌝ }
+    requires { ⌜ (length (now layout) ≡ layoutSize) × (count ≤ length (now bits)) × (count ≤ mostBitfields) × (1 ≤ byte) × (byte ≤ mostBitfields) × (end ≡ 8 * byte) × (at + left message count (now bits) (allPlaces - 8 * (byte - 1)) (8 * (byte - 1)) ≤ length (now out)) ⌝ }
     ensures { λ r. ⌜ (giveWalk message count (now (bits .entry)) (now (layout .entry)) (allPlaces - 8 * byte) (8 * byte) (giving r (now (out .exit))) ≡ giveWalk message count (now (bits .entry)) (now (layout .entry)) (allPlaces - 8 * (byte - 1)) (8 * (byte - 1)) (giving at (now (out .entry)))) × (r + left message count (now (bits .entry)) (allPlaces - 8 * byte) (8 * byte) ≤ length (now (out .entry))) ⌝ }
 {
     let value = block::byte_of(bits, count, byte);
@@ -110,7 +110,7 @@ fn give_next(
 // New Order: the bytes that it lists, one after another. There the compiler knows message and byte and folds the dictionary away; a byte that is
 // not listed gives nothing.
 fn new_order_bytes(bits: &[u8], count: u8, layout: &[u8], out: &mut [u8], start: usize) -> usize
-    requires { ⌜ (length (now layout) ≡ layoutSize) × (count ≤ length (now bits)) × (count ≤ 15) × (start + left 0x38 count (now bits) allPlaces 0 ≤ length (now out)) ⌝ }
+    requires { ⌜ (length (now layout) ≡ layoutSize) × (count ≤ length (now bits)) × (count ≤ mostBitfields) × (start + left 0x38 count (now bits) allPlaces 0 ≤ length (now out)) ⌝ }
     ensures { λ r. ⌜ giving r (now (out .exit)) ≡ giveWalk 0x38 count (now (bits .entry)) (now (layout .entry)) allPlaces 0 (giving start (now (out .entry))) ⌝ }
 {
     let a = give_next(0x38, 1, 8, bits, count, layout, out, start);
@@ -122,7 +122,7 @@ fn new_order_bytes(bits: &[u8], count: u8, layout: &[u8], out: &mut [u8], start:
 
 // The same of Cancel Order.
 fn cancel_order_bytes(bits: &[u8], count: u8, layout: &[u8], out: &mut [u8], start: usize) -> usize
-    requires { ⌜ (length (now layout) ≡ layoutSize) × (count ≤ length (now bits)) × (count ≤ 15) × (start + left 0x39 count (now bits) allPlaces 0 ≤ length (now out)) ⌝ }
+    requires { ⌜ (length (now layout) ≡ layoutSize) × (count ≤ length (now bits)) × (count ≤ mostBitfields) × (start + left 0x39 count (now bits) allPlaces 0 ≤ length (now out)) ⌝ }
     ensures { λ r. ⌜ giving r (now (out .exit)) ≡ giveWalk 0x39 count (now (bits .entry)) (now (layout .entry)) allPlaces 0 (giving start (now (out .entry))) ⌝ }
 {
     give_next(0x39, 1, 8, bits, count, layout, out, start)
@@ -136,7 +136,7 @@ fn acknowledgment_bytes(
     out: &mut [u8],
     start: usize,
 ) -> usize
-    requires { ⌜ (length (now layout) ≡ layoutSize) × (count ≤ length (now bits)) × (count ≤ 15) × (start + left 0x25 count (now bits) allPlaces 0 ≤ length (now out)) ⌝ }
+    requires { ⌜ (length (now layout) ≡ layoutSize) × (count ≤ length (now bits)) × (count ≤ mostBitfields) × (start + left 0x25 count (now bits) allPlaces 0 ≤ length (now out)) ⌝ }
     ensures { λ r. ⌜ giving r (now (out .exit)) ≡ giveWalk 0x25 count (now (bits .entry)) (now (layout .entry)) allPlaces 0 (giving start (now (out .entry))) ⌝ }
 {
     let a = give_next(0x25, 1, 8, bits, count, layout, out, start);
@@ -147,7 +147,7 @@ fn acknowledgment_bytes(
 
 // The same of Order Execution.
 fn execution_bytes(bits: &[u8], count: u8, layout: &[u8], out: &mut [u8], start: usize) -> usize
-    requires { ⌜ (length (now layout) ≡ layoutSize) × (count ≤ length (now bits)) × (count ≤ 15) × (start + left 0x2C count (now bits) allPlaces 0 ≤ length (now out)) ⌝ }
+    requires { ⌜ (length (now layout) ≡ layoutSize) × (count ≤ length (now bits)) × (count ≤ mostBitfields) × (start + left 0x2C count (now bits) allPlaces 0 ≤ length (now out)) ⌝ }
     ensures { λ r. ⌜ giving r (now (out .exit)) ≡ giveWalk 0x2C count (now (bits .entry)) (now (layout .entry)) allPlaces 0 (giving start (now (out .entry))) ⌝ }
 {
     let a = give_next(0x2C, 1, 8, bits, count, layout, out, start);
@@ -164,7 +164,7 @@ fn give_loop(
     out: &mut [u8],
     start: usize,
 ) -> usize
-    requires { ⌜ (length (now layout) ≡ layoutSize) × (count ≤ length (now bits)) × (count ≤ 15) × (start + left message count (now bits) allPlaces 0 ≤ length (now out)) ⌝ }
+    requires { ⌜ (length (now layout) ≡ layoutSize) × (count ≤ length (now bits)) × (count ≤ mostBitfields) × (start + left message count (now bits) allPlaces 0 ≤ length (now out)) ⌝ }
     ensures { λ r. ⌜ giving r (now (out .exit)) ≡ giveWalk message count (now (bits .entry)) (now (layout .entry)) allPlaces 0 (giving start (now (out .entry))) ⌝ }
 {
     let mut j: u8 = 0;
@@ -186,7 +186,7 @@ pub fn give_all(
     out: &mut [u8],
     start: usize,
 ) -> usize
-    requires { ⌜ (length (now layout) ≡ layoutSize) × (count ≤ length (now bits)) × (count ≤ 15) × (start + sum takes (slotsOf message count (now bits)) ≤ length (now out)) ⌝ }
+    requires { ⌜ (length (now layout) ≡ layoutSize) × (count ≤ length (now bits)) × (count ≤ mostBitfields) × (start + sum takes (slotsOf message count (now bits)) ≤ length (now out)) ⌝ }
     ensures { λ r. ⌜ giving r (now (out .exit)) ≡ giveWalk message count (now (bits .entry)) (now (layout .entry)) allPlaces 0 (giving start (now (out .entry))) ⌝ }
 {
     if count == 0 {

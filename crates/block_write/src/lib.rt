@@ -8,7 +8,7 @@ ghost use lib.ListN.{length};
 ghost use Rattle.dictionary.specs.Dictionary.{entryOf};
 ghost use Rattle.block.specs.Walk.{pick, inByte, lookField, lookEntry, lookHere};
 ghost use Rattle.block_write.specs.State.{looking, unseen, lookWalk, Midway};
-ghost use Rattle.block.specs.Sizes.{allPlaces, layoutSize};
+ghost use Rattle.block.specs.Sizes.{allPlaces, layoutSize, mostBitfields};
 use dictionary::Entry;
 use kinds::Kind;
 
@@ -60,7 +60,7 @@ fn look_bit(message: u8, byte: u8, bit: u8, x: u8, rest: &mut [u8], s: Seen) -> 
 // The fields of a bitfield byte, which is `value`; its places end at `end`, so that literals tell the loop's length. Whether a bad bit was found before is
 // asked once, after them.
 fn look_bits(message: u8, byte: u8, end: u8, value: u8, rest: &mut [u8], s: Seen) -> Seen
-    requires { ⌜ (length (now rest) ≡ layoutSize) × (1 ≤ byte) × (byte ≤ 15) × (end ≡ 8 * byte) × (s .total ≤ 100000) ⌝ }
+    requires { ⌜ (length (now rest) ≡ layoutSize) × (1 ≤ byte) × (byte ≤ mostBitfields) × (end ≡ 8 * byte) × (s .total ≤ 100000) ⌝ }
     ensures { λ r. ⌜ (looking r (now (rest .exit)) ≡ inByte (lookEntry byte) message byte value (looking s (now (rest .entry)))) × (r .total ≤ s .total + 2040) ⌝ }
 {
     let n = end + 8 - 8 * byte;
@@ -85,7 +85,7 @@ fn look_bits(message: u8, byte: u8, end: u8, value: u8, rest: &mut [u8], s: Seen
 
 // The same of any byte: its places follow from it.
 fn look_any(message: u8, byte: u8, value: u8, rest: &mut [u8], s: Seen) -> Seen
-    requires { ⌜ (length (now rest) ≡ layoutSize) × (1 ≤ byte) × (byte ≤ 15) × (s .total ≤ 100000) ⌝ }
+    requires { ⌜ (length (now rest) ≡ layoutSize) × (1 ≤ byte) × (byte ≤ mostBitfields) × (s .total ≤ 100000) ⌝ }
     ensures { λ r. ⌜ (looking r (now (rest .exit)) ≡ inByte (lookEntry byte) message byte value (looking s (now (rest .entry)))) × (r .total ≤ s .total + 2040) ⌝ }
 {
     look_bits(message, byte, 8 * byte, value, rest, s)
@@ -101,7 +101,7 @@ fn look_next(
     rest: &mut [u8],
     s: Seen,
 ) -> Seen
-    requires { ⌜ (1 ≤ byte) × (byte ≤ 15) × (end ≡ 8 * byte) × Midway count (now bits) (byte - 1) (s .total) (now rest) ⌝ }
+    requires { ⌜ (1 ≤ byte) × (byte ≤ mostBitfields) × (end ≡ 8 * byte) × Midway count (now bits) (byte - 1) (s .total) (now rest) ⌝ }
     ensures { λ r. ⌜ (lookWalk message count (now (bits .entry)) (allPlaces - 8 * byte) (8 * byte) (looking r (now (rest .exit))) ≡ lookWalk message count (now (bits .entry)) (allPlaces - 8 * (byte - 1)) (8 * (byte - 1)) (looking s (now (rest .entry)))) × Midway count (now (bits .entry)) byte (r .total) (now (rest .exit)) ⌝ }
 {
     let value = block::byte_of(bits, count, byte);
@@ -234,7 +234,7 @@ fn look_execution(bits: &[u8], count: u8, rest: &mut [u8], s: Seen) -> Seen
 
 // All fields that the first `count` bitfield bytes select, each cleared in the layout.
 pub fn look_all(message: u8, bits: &[u8], count: u8, rest: &mut [u8]) -> Seen
-    requires { ⌜ (length (now rest) ≡ layoutSize) × (count ≤ length (now bits)) × (count ≤ 15) ⌝ }
+    requires { ⌜ (length (now rest) ≡ layoutSize) × (count ≤ length (now bits)) × (count ≤ mostBitfields) ⌝ }
     ensures { λ r. ⌜ looking r (now (rest .exit)) ≡ lookWalk message count (now (bits .entry)) allPlaces 0 (unseen (now (rest .entry))) ⌝ }
 {
     let s = Seen {

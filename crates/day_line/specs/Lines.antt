@@ -1,12 +1,13 @@
 -- What a line carries between venue and member: bytes, what each message says, and what a login of ours is. Definitions alone. Assumes nothing.
 use Prim.Native.Nat.{ℕ, _<_}
 use mathlib.Core.Path.{_≡_}
-use mathlib.Core.Bool.{cond}
+use mathlib.Core.Bool.{cond, _||_}
 use mathlib.Core.List.{List}
 use lib.Dec.{eqb}
 use lib.ListN.{length, getD}
 use Rattle.wire.specs.Header.{typeOf, unitOf, numberOf}
 use Rattle.wire.specs.Frame.{framed}
+use Rattle.orders.specs.Shapes.{unsequenced}
 use Rattle.table.specs.declared.Table.{Table}
 use Rattle.table.specs.Table.{unitRefusal, lastOf}
 use Rattle.session_messages.specs.declared.Record.{Record}
@@ -16,7 +17,7 @@ use Rattle.session_logins.specs.declared.Bitfields.{Bitfields}
 use Rattle.session_logins.specs.LoginRequests.{blankUnits, loginRecord}
 use Rattle.session_fields.specs.SessionFields.{requestGroup, groupListed}
 use Rattle.messages.specs.Messages.{readRefusal}
-use Rattle.day_model.specs.Model.{Msg, Sent, response, message, complete, heartbeat, logout}
+use Rattle.day_model.specs.Model.{Msg, Sent, response, message, complete, aside, logout}
 use Rattle.day_model.specs.Model as day
 use Rattle.day_model.specs.Halves.{Line}
 
@@ -26,13 +27,14 @@ use Rattle.day_model.specs.Halves.{Line}
 abbrev pub msgOf : List ℕ → Msg
 msgOf b = record { unit = unitOf b; num = numberOf b; body = b }
 
--- what bytes say, by their type: a Login Response and whether its status is A, an application message, Replay Complete, a Logout, a heartbeat
+-- what bytes say, by their type: a Login Response and whether its status is A, Replay Complete, a Logout, what passes aside, which is a heartbeat or an
+-- unsequenced message, a sequenced message
 unfoldable pub says : List ℕ → Sent
 says b =
     day.pick (eqb (typeOf b) 0x24) (response (eqb (getD b 10 0) 65))
     (day.pick (eqb (typeOf b) 0x13) complete
     (day.pick (eqb (typeOf b) 0x08) logout
-    (day.pick (eqb (typeOf b) 0x09) heartbeat
+    (day.pick (eqb (typeOf b) 0x09 || unsequenced (typeOf b)) aside
     (message (msgOf b)))))
 
 -- a line carries whole messages that the reader from the venue takes

@@ -3,7 +3,7 @@
 use mathlib.Core.Path.{_≡_, refl}
 use mathlib.Core.Bool.{true, false}
 use mathlib.Core.List.{List, [], _∷_}
-use Rattle.day_model.specs.Model.{Msg, mark, messages, closed, live, complete, Event, logs, logsIn, takesIt, rejects, steps, beats, logsOut, delivers, breaks, drops, cuts, World, run, start}
+use Rattle.day_model.specs.Model.{Msg, mark, messages, closed, live, complete, Event, logs, logsIn, takesIt, rejects, steps, asides, logsOut, delivers, breaks, drops, cuts, World, run, start}
 
 abbrev a : Msg
 a = record { unit = 1; num = 1; body = 7 ∷ 7 ∷ [] }
@@ -54,14 +54,14 @@ a-refusal-is-told = refl
 
 -- a login is answered with another status, behind a heartbeat: the session ends with a mark, and no session began at the venue
 abbrev rejected : World
-rejected = run (logs a ∷ logsIn ∷ beats ∷ rejects ∷ delivers 99 ∷ delivers 99 ∷ []) start
+rejected = run (logs a ∷ logsIn ∷ asides ∷ rejects ∷ delivers 99 ∷ delivers 99 ∷ []) start
 
 pub a-rejected-login-ends-the-session : (rejected .member .phase ≡ closed) × (rejected .member .book ≡ mark 0 ∷ mark 0 ∷ []) × (rejected .venue .running ≡ false)
 a-rejected-login-ends-the-session = (refl, refl, refl)
 
 -- a Logout comes before the answer to the next login and ends that session; the one after it, with a heartbeat before its answer, completes
 abbrev later : World
-later = run (logsIn ∷ logsOut ∷ takesIt ∷ delivers 99 ∷ delivers 99 ∷ breaks 99 ∷ drops ∷ logsIn ∷ beats ∷ takesIt ∷ delivers 99 ∷ delivers 99 ∷ next (next [])) rejected
+later = run (logsIn ∷ logsOut ∷ takesIt ∷ delivers 99 ∷ delivers 99 ∷ breaks 99 ∷ drops ∷ logsIn ∷ asides ∷ takesIt ∷ delivers 99 ∷ delivers 99 ∷ next (next [])) rejected
 
 pub a-later-login-completes : (later .member .phase ≡ live) × (messages (later .member .book) ≡ a ∷ [])
 a-later-login-completes = (refl, refl)

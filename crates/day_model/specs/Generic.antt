@@ -6,11 +6,11 @@ use mathlib.Core.List.{List, [], _∷_, _++_, map}
 use Prim.Native.Nat.{ℕ, _≤_}
 use lib.ListN.{length, take}
 use Rattle.day_model.specs.Moments.{withMember, noLine, onLine}
-use Rattle.day_model.specs.Model.{Msg, Table, ofUnit, count, messages, Phase, closed, asked, replaying, live, Sent, response, complete, heartbeat, logout, Member, broken, inPhase, got, full, restartOf, restarted, Venue, took, stopped, logged, nextInLog, World, Event, logs, logsIn, takesIt, rejects, beats, logsOut, delivers, breaks, drops, strays, cuts, apply, run, start}
+use Rattle.day_model.specs.Model.{Msg, Table, ofUnit, count, messages, Phase, closed, asked, replaying, live, Sent, response, complete, aside, logout, Member, broken, inPhase, got, full, restartOf, restarted, Venue, took, stopped, logged, nextInLog, World, Event, logs, logsIn, takesIt, rejects, asides, logsOut, delivers, breaks, drops, strays, cuts, apply, run, start}
 use Rattle.day_model.specs.Inv.{Inv, inv-run, inv-asking}
 use Rattle.day_model.specs.Safe.{Readable}
 use Rattle.day_model.specs.Steps.{movesTo, movesSend, many, run-many}
-use Rattle.day_model.specs.Story.{Bytes, Code, Happens, theLog, aLogin, aSending, aHearing, aBeat, aBye, aNo, aTaking, aStep, aStray, aDelivery, aBreak, aDrop, aCut, Now, nowLogin, nowTaken, nowStep, nowBye, nowNo, nowGets, nowDrop, nowStray, next, story, dawn, All}
+use Rattle.day_model.specs.Story.{Bytes, Code, Happens, theLog, aLogin, aSending, aHearing, anAside, aBye, aNo, aTaking, aStep, aStray, aDelivery, aBreak, aDrop, aCut, Now, nowLogin, nowTaken, nowStep, nowAside, nowBye, nowNo, nowGets, nowDrop, nowStray, next, story, dawn, All}
 use Rattle.day_model.specs.Demand.{exact, restarts, TurnsLive, complete-whole, must-complete}
 
 -- ---- what the code's functions must be proved to do: an equation a function
@@ -79,8 +79,8 @@ pub record Meets (C : Code) : Type 1 where
   pub step-is : (room : ℕ) (v : C .Ven) → GoodV v → C .running v ≡ true → StepIs (viewV v) (viewV (C .stepTo room v)) (map says (C .stepSends room v))
   pub stop-good : (v : C .Ven) → GoodV v → GoodV (C .stop v)
   pub stop-is : (v : C .Ven) → GoodV v → viewV (C .stop v) ≡ stopped (viewV v)
-  pub beat-fine : Fine (C .beat)
-  pub beat-is : says (C .beat) ≡ heartbeat
+  pub aside-fine : (b : Bytes) → C .isAside b ≡ true → Fine (C .asideBytes b)
+  pub aside-is : (b : Bytes) → C .isAside b ≡ true → says (C .asideBytes b) ≡ aside
   pub bye-fine : (b : Bytes) → C .isBye b ≡ true → Fine (C .bye b)
   pub bye-is : (b : Bytes) → C .isBye b ≡ true → says (C .bye b) ≡ logout
   pub no-fine : (b : Bytes) → C .isNo b ≡ true → Fine (C .no b)
@@ -178,11 +178,12 @@ module _ (C : Code) (M : Meets C) where
         is = rw (run-many (s .times) (seen w) (M .running-is (w .venue) ∙ e)) (rw (put-is (M .says) (w .joined) (w .queue) (C .stepSends room (w .venue)), s .to, s .sent));
       }
 
-  sim-beat : (w : Now C) → GoodNow w → Sim w (next C aBeat w)
-  sim-beat w g = record {
-    good = record { member = g .member; venue = g .venue; queue = all-append (M .Fine) (w .queue) (C .beat ∷ []) (g .queue) (M .beat-fine, tt); asking = g .asking };
-    events = beats ∷ [];
-    is = rw (map-++ (M .says) (w .queue) (C .beat ∷ []), M .beat-is);
+  sim-aside : (w : Now C) (k : Bool) (b : Bytes) → C .isAside b ≡ k → GoodNow w → Sim w (nowAside C k b w)
+  sim-aside w false b f g = record { good = g; events = []; is = refl }
+  sim-aside w true b f g = record {
+    good = record { member = g .member; venue = g .venue; queue = all-append (M .Fine) (w .queue) (C .asideBytes b ∷ []) (g .queue) (M .aside-fine b f, tt); asking = g .asking };
+    events = asides ∷ [];
+    is = rw (map-++ (M .says) (w .queue) (C .asideBytes b ∷ []), M .aside-is b f);
   }
 
   sim-bye : (w : Now C) (k : Bool) (b : Bytes) → C .isBye b ≡ k → GoodNow w → Sim w (nowBye C k b w)
@@ -250,7 +251,7 @@ module _ (C : Code) (M : Meets C) where
   sim (aHearing b) w h g = sim-hears w b g
   sim (aTaking room) w h g = sim-taken w (w .asks) (C .accepts room (w .asking) (w .venue)) room h refl refl g
   sim (aStep room) w h g = sim-step w (C .running (w .venue)) room refl g
-  sim aBeat w h g = sim-beat w g
+  sim (anAside b) w h g = sim-aside w (C .isAside b) b refl g
   sim (aBye b) w h g = sim-bye w (C .isBye b) b refl g
   sim (aNo b) w h g = sim-no w (w .asks) (C .isNo b) b refl refl g
   sim aDrop w h g = sim-drop w (C .running (w .venue)) refl g

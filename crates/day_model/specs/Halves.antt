@@ -5,7 +5,7 @@ use mathlib.Core.Bool.{Bool, true, false, _&&_}
 use mathlib.Core.List.{List, [], _∷_, map}
 use Prim.Native.Nat.{ℕ, suc, _≤_}
 use lib.ListN.{length, take}
-use Rattle.day_model.specs.Model.{Msg, Table, count, Phase, closed, asked, Sent, response, heartbeat, logout, Member, broken, inPhase, got, full, restartOf, restarted, Venue, took, stopped, logged, nextInLog, start}
+use Rattle.day_model.specs.Model.{Msg, Table, count, Phase, closed, asked, Sent, response, aside, logout, Member, broken, inPhase, got, full, restartOf, restarted, Venue, took, stopped, logged, nextInLog, start}
 use Rattle.day_model.specs.Safe.{Readable}
 use Rattle.day_model.specs.Steps.{docStep}
 use Rattle.day_model.specs.Story.{Bytes, All, Code}
@@ -49,7 +49,8 @@ pub record VenueCode : Type 1 where
   pub stepTo : ℕ → Ven → Ven
   pub stepSends : ℕ → Ven → List Bytes
   pub stop : Ven → Ven
-  pub beat : Bytes
+  pub isAside : Bytes → Bool
+  pub asideBytes : Bytes → Bytes
   pub isBye : Bytes → Bool
   pub bye : Bytes → Bytes
   pub isNo : Bytes → Bool
@@ -83,7 +84,8 @@ code A B = record {
   stepTo = B .stepTo;
   stepSends = B .stepSends;
   stop = B .stop;
-  beat = B .beat;
+  isAside = B .isAside;
+  asideBytes = B .asideBytes;
   isBye = B .isBye;
   bye = B .bye;
   isNo = B .isNo;
@@ -154,9 +156,9 @@ pub record MeetsVenue (L : Line) (B : VenueCode) : Type 1 where
   -- a break ends the session
   pub stop-good : (v : B .Ven) → GoodV v → GoodV (B .stop v)
   pub stop-is : (v : B .Ven) → GoodV v → viewV (B .stop v) ≡ stopped (viewV v)
-  -- heartbeats and Logouts, which it may send at any time, and answers of another status, with which it may turn a login down, can be read as such
-  pub beat-fine : L .Fine (B .beat)
-  pub beat-is : L .says (B .beat) ≡ heartbeat
+  -- heartbeats, unsequenced messages and Logouts, which it may send at any time, and answers of another status, with which it may turn a login down, can be read as such
+  pub aside-fine : (b : Bytes) → B .isAside b ≡ true → L .Fine (B .asideBytes b)
+  pub aside-is : (b : Bytes) → B .isAside b ≡ true → L .says (B .asideBytes b) ≡ aside
   pub bye-fine : (b : Bytes) → B .isBye b ≡ true → L .Fine (B .bye b)
   pub bye-is : (b : Bytes) → B .isBye b ≡ true → L .says (B .bye b) ≡ logout
   pub no-fine : (b : Bytes) → B .isNo b ≡ true → L .Fine (B .no b)
@@ -228,8 +230,8 @@ both L A B M N = record {
   strays-is = N .strays-is;
   stop-good = N .stop-good;
   stop-is = N .stop-is;
-  beat-fine = N .beat-fine;
-  beat-is = N .beat-is;
+  aside-fine = N .aside-fine;
+  aside-is = N .aside-is;
   bye-fine = N .bye-fine;
   bye-is = N .bye-is;
   no-fine = N .no-fine;

@@ -9,7 +9,7 @@ use lib.ListN.{length, take, getD, drop, length-append}
 use lib.Seq.{take-append-le, take-suc, split-at, take-append-seam}
 use borrow.Author.Tests.{eqb-true, eqb-false, eq-eqb, ltb-true, ltb-false}
 use Rattle.day_model.specs.Moments.{withVenue, withQueue, sending, onLine, leaving}
-use Rattle.day_model.specs.Model.{Msg, Item, mark, Table, bump, keep, ofUnit, count, pick, Phase, closed, asked, replaying, live, Sent, response, message, complete, heartbeat, logout, Member, ends, full, Restart, short, bad, good, restartOf, restarted, Venue, took, above, none-msg, Move, idle, tells, passes, moveOf, move, sends, moved, logged, nextInLog, World, Event, logs, logsIn, takesIt, rejects, steps, beats, logsOut, delivers, breaks, drops, strays, cuts, alone, loggingIn, taking, rejecting, stepping, delivering, breaking, dropping, straying, cut, apply, run, start}
+use Rattle.day_model.specs.Model.{Msg, Item, mark, Table, bump, keep, ofUnit, count, pick, Phase, closed, asked, replaying, live, Sent, response, message, complete, aside, logout, Member, ends, full, Restart, short, bad, good, restartOf, restarted, Venue, took, above, none-msg, Move, idle, tells, passes, moveOf, move, sends, moved, logged, nextInLog, World, Event, logs, logsIn, takesIt, rejects, steps, asides, logsOut, delivers, breaks, drops, strays, cuts, alone, loggingIn, taking, rejecting, stepping, delivering, breaking, dropping, straying, cut, apply, run, start}
 use Rattle.day_model.specs.Laws.{ofUnit-append, count-snoc, NumberedFrom, numbered-snoc, Prefix, prefix-refl, prefix-more, prefix-length}
 use Rattle.day_model.specs.Safe.{Numbered, Safe, counted, safe-ends, safe-got, safe-grows, safe-restarted, InLog}
 use Rattle.day_model.specs.Walk.{walk, walk-then, walk-map, phaseAfter, phase-got, Orderly, Told, At, step, Next, Whole, Gapless, Passed, ReachedIn, Reached, Awaits, table-got}
@@ -61,7 +61,7 @@ in-grows : (log more : List Msg) (x : Sent) → InLog log x → InLog (log ++ mo
 in-grows log more (response b) h = tt
 in-grows log more (message m) h = Memᴰ·append-left more h
 in-grows log more complete h = tt
-in-grows log more heartbeat h = tt
+in-grows log more aside h = tt
 in-grows log more logout h = tt
 
 all-grows : (log more : List Msg) (q : List Sent) → AllIn log q → AllIn (log ++ more) q
@@ -432,20 +432,20 @@ inv-stepping : (w : World) (r : Bool) → Inv w → Inv (stepping r w)
 inv-stepping w false h = h
 inv-stepping w true h = inv-steps w (move (w .venue)) (w .joined) refl refl h
 
--- ---- heartbeats and a Logout
+-- ---- what is sent aside, and a Logout
 
--- a heartbeat changes nothing of what is expected
-beat-orderly : (E : Phase → Type 0) (p : Phase) → E p → walk phaseAfter Orderly E p (heartbeat ∷ [])
-beat-orderly E closed h = (tt, h)
-beat-orderly E asked h = (tt, h)
-beat-orderly E replaying h = (tt, h)
-beat-orderly E live h = (tt, h)
+-- what is sent aside changes nothing of what is expected
+aside-orderly : (E : Phase → Type 0) (p : Phase) → E p → walk phaseAfter Orderly E p (aside ∷ [])
+aside-orderly E closed h = (tt, h)
+aside-orderly E asked h = (tt, h)
+aside-orderly E replaying h = (tt, h)
+aside-orderly E live h = (tt, h)
 
-beat-gapless : (l : List Msg) (E : At → Type 0) (p : Phase) (c : Table) → E (record { phase = p; counts = c }) → walk step (Gapless l) E (record { phase = p; counts = c }) (heartbeat ∷ [])
-beat-gapless l E closed c h = (tt, h)
-beat-gapless l E asked c h = (tt, h)
-beat-gapless l E replaying c h = (tt, h)
-beat-gapless l E live c h = (tt, h)
+aside-gapless : (l : List Msg) (E : At → Type 0) (p : Phase) (c : Table) → E (record { phase = p; counts = c }) → walk step (Gapless l) E (record { phase = p; counts = c }) (aside ∷ [])
+aside-gapless l E closed c h = (tt, h)
+aside-gapless l E asked c h = (tt, h)
+aside-gapless l E replaying c h = (tt, h)
+aside-gapless l E live c h = (tt, h)
 
 -- a Logout ends the session, whatever the venue goes on to send
 leave-gapless : (l : List Msg) (a : Bool) (t : Table) (j : Bool) (v : Venue) (p : Phase) (c : Table) → walk step (Gapless l) (Stands a t j v) (record { phase = p; counts = c }) (logout ∷ [])
@@ -454,16 +454,16 @@ leave-gapless l a t j v asked c = (tt, (λ _. tt, λ _. tt))
 leave-gapless l a t j v replaying c = (tt, (λ _. tt, λ _. tt))
 leave-gapless l a t j v live c = (tt, (λ _. tt, λ _. tt))
 
-inv-beats : (w : World) → Inv w → Inv (sending (heartbeat ∷ []) w)
-inv-beats w h = record {
+inv-asides : (w : World) → Inv w → Inv (sending (aside ∷ []) w)
+inv-asides w h = record {
   numbered = h .numbered;
   safe = h .safe;
-  inLog = all-append (w .venue .log) (w .queue) (heartbeat ∷ []) (h .inLog) (tt, tt);
+  inLog = all-append (w .venue .log) (w .queue) (aside ∷ []) (h .inLog) (tt, tt);
   heldIs = h .heldIs;
   session = h .session;
   waits = λ a. record { apart = h .waits a .apart; low = h .waits a .low };
-  orderly = λ l. walk-then phaseAfter Orderly (Expects (w .asks) (w .joined) (w .venue .told)) (Expects (w .asks) (w .joined) (w .venue .told)) (heartbeat ∷ []) (λ p k. beat-orderly (Expects (w .asks) (w .joined) (w .venue .told)) p k) (w .member .phase) (w .queue) (h .orderly l);
-  gapless = λ r l q. walk-then step (Gapless l) (Stands (w .asks) (w .asking) (w .joined) (w .venue)) (Stands (w .asks) (w .asking) (w .joined) (w .venue)) (heartbeat ∷ []) (λ t k. beat-gapless l (Stands (w .asks) (w .asking) (w .joined) (w .venue)) (t .phase) (t .counts) k) (here (w .member)) (w .queue) (h .gapless r l q);
+  orderly = λ l. walk-then phaseAfter Orderly (Expects (w .asks) (w .joined) (w .venue .told)) (Expects (w .asks) (w .joined) (w .venue .told)) (aside ∷ []) (λ p k. aside-orderly (Expects (w .asks) (w .joined) (w .venue .told)) p k) (w .member .phase) (w .queue) (h .orderly l);
+  gapless = λ r l q. walk-then step (Gapless l) (Stands (w .asks) (w .asking) (w .joined) (w .venue)) (Stands (w .asks) (w .asking) (w .joined) (w .venue)) (aside ∷ []) (λ t k. aside-gapless l (Stands (w .asks) (w .asking) (w .joined) (w .venue)) (t .phase) (t .counts) k) (here (w .member)) (w .queue) (h .gapless r l q);
 }
 
 inv-leaves : (w : World) → Inv w → Inv (leaving (sending (logout ∷ []) w))
@@ -514,7 +514,7 @@ inv-apply logsIn w h = inv-logsIn w (w .member .phase) refl h
 inv-apply takesIt w h = inv-takes w (w .asks) (w .venue .running) refl h
 inv-apply steps w h = inv-stepping w (w .venue .running) h
 inv-apply rejects w h = inv-rejects w (w .asks) refl h
-inv-apply beats w h = inv-beats w h
+inv-apply asides w h = inv-asides w h
 inv-apply logsOut w h = inv-leaves w h
 inv-apply (delivers cap) w h = inv-delivers w (w .queue) cap refl h
 inv-apply (breaks cap) w h = inv-breaks w (w .member .phase) cap refl h

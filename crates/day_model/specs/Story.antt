@@ -47,8 +47,9 @@ pub record Code : Type 1 where
   pub stepTo : ℕ → Ven → Ven
   pub stepSends : ℕ → Ven → List Bytes
   pub stop : Ven → Ven
-  -- a heartbeat; which bytes are a Logout, and what of them goes on the line; which are a Login Response of another status than A, and what of them does
-  pub beat : Bytes
+  -- which bytes are a heartbeat or an unsequenced message, and what of them goes on the line; which are a Logout, and what of them goes on the line; which are a Login Response of another status than A, and what of them does
+  pub isAside : Bytes → Bool
+  pub asideBytes : Bytes → Bytes
   pub isBye : Bytes → Bool
   pub bye : Bytes → Bytes
   pub isNo : Bytes → Bool
@@ -64,9 +65,9 @@ pub data Happens (F : Type 0) : Type 0 where
   -- are among them
   aSending : ℕ → Bytes → Happens F
   aHearing : Bytes → Happens F
-  -- the venue sends a heartbeat, or a Logout: at any time, so before its answer to a login too. Where the member has no line, its session is closed and
+  -- the venue sends a heartbeat or an unsequenced message, or a Logout: at any time, so before its answer to a login too. Where the member has no line, its session is closed and
   -- takes nothing
-  aBeat : Happens F
+  anAside : Bytes → Happens F
   aBye : Bytes → Happens F
   -- the venue answers the login on the line with another status than A: no session begins
   aNo : Bytes → Happens F
@@ -107,6 +108,11 @@ module _ (C : Code) where
   nowStep true room w = withQueue (onLine (w .joined) (w .queue) (C .stepSends room (w .venue))) (withVenue (C .stepTo room (w .venue)) w)
   nowStep false room w = w
 
+  -- a heartbeat or an unsequenced message?
+  abbrev pub nowAside : Bool → Bytes → Now C → Now C
+  nowAside true b w = sending (C .asideBytes b ∷ []) w
+  nowAside false b w = w
+
   -- a Logout?
   abbrev pub nowBye : Bool → Bytes → Now C → Now C
   nowBye true b w = leaving (sending (C .bye b ∷ []) w)
@@ -141,7 +147,7 @@ module _ (C : Code) where
   next (aHearing b) w = withVenue (C .hears b (w .venue)) w
   next (aTaking room) w = nowTaken (w .asks) (C .accepts room (w .asking) (w .venue)) room w
   next (aStep room) w = nowStep (C .running (w .venue)) room w
-  next aBeat w = sending (C .beat ∷ []) w
+  next (anAside b) w = nowAside (C .isAside b) b w
   next (aBye b) w = nowBye (C .isBye b) b w
   next (aNo b) w = nowNo (w .asks) (C .isNo b) b w
   next (aDelivery room) w = nowGets (w .queue) room w

@@ -7,7 +7,7 @@ use Prim.Native.Nat.{ℕ, suc, max}
 use native.Mathlib.Omega.{arith}
 use lib.ListN.{take}
 use borrow.Author.Tests.{eqb-false}
-use Rattle.day_model.specs.Model.{Msg, Table, bump, count, Phase, closed, asked, replaying, live, Sent, response, message, complete, heartbeat, logout, Member, takes, nextNumber, hasRoom, answered, gotIn, fullIn, Venue}
+use Rattle.day_model.specs.Model.{Msg, Table, bump, count, Phase, closed, asked, replaying, live, Sent, response, message, complete, aside, logout, Member, takes, nextNumber, hasRoom, answered, gotIn, fullIn, Venue}
 
 -- L is asked of each thing in its state, E of the last state
 abbrev pub walk : {S : Type 0} → (S → Sent → S) → (S → Sent → Type 0) → (S → Type 0) → S → List Sent → Type 0
@@ -35,17 +35,17 @@ phaseAfter closed x = closed
 phaseAfter asked (response ok) = answer ok
 phaseAfter asked (message m) = asked
 phaseAfter asked complete = asked
-phaseAfter asked heartbeat = asked
+phaseAfter asked aside = asked
 phaseAfter asked logout = closed
 phaseAfter replaying (response ok) = replaying
 phaseAfter replaying (message m) = replaying
 phaseAfter replaying complete = live
-phaseAfter replaying heartbeat = replaying
+phaseAfter replaying aside = replaying
 phaseAfter replaying logout = closed
 phaseAfter live (response ok) = live
 phaseAfter live (message m) = live
 phaseAfter live complete = live
-phaseAfter live heartbeat = live
+phaseAfter live aside = live
 phaseAfter live logout = closed
 
 phase-takes : (b r : Bool) (m : Msg) (s : Member) → takes b r m s .phase ≡ s .phase
@@ -62,40 +62,40 @@ phase-got closed cap x s e = e
 phase-got asked cap (response ok) s e = phase-answered cap ok s
 phase-got asked cap (message m) s e = e
 phase-got asked cap complete s e = e
-phase-got asked cap heartbeat s e = e
+phase-got asked cap aside s e = e
 phase-got asked cap logout s e = refl
 phase-got replaying cap (response ok) s e = e
 phase-got replaying cap (message m) s e = phase-takes (nextNumber m s) (hasRoom cap m s) m s ∙ e
 phase-got replaying cap complete s e = refl
-phase-got replaying cap heartbeat s e = e
+phase-got replaying cap aside s e = e
 phase-got replaying cap logout s e = refl
 phase-got live cap (response ok) s e = e
 phase-got live cap (message m) s e = phase-takes (nextNumber m s) (hasRoom cap m s) m s ∙ e
 phase-got live cap complete s e = e
-phase-got live cap heartbeat s e = e
+phase-got live cap aside s e = e
 phase-got live cap logout s e = refl
 
--- on a line with no Logout: the answer before any message, Replay Complete once; after the end, and before the answer, heartbeats alone
+-- on a line with no Logout: the answer before any message, Replay Complete once; after the end, and before the answer, only what is sent aside
 abbrev pub Orderly : Phase → Sent → Type 0
 Orderly closed (response ok) = ⊥
 Orderly closed (message m) = ⊥
 Orderly closed complete = ⊥
-Orderly closed heartbeat = Unit {0}
+Orderly closed aside = Unit {0}
 Orderly closed logout = ⊥
 Orderly asked (response ok) = Unit {0}
 Orderly asked (message m) = ⊥
 Orderly asked complete = ⊥
-Orderly asked heartbeat = Unit {0}
+Orderly asked aside = Unit {0}
 Orderly asked logout = ⊥
 Orderly replaying (response ok) = ⊥
 Orderly replaying (message m) = Unit {0}
 Orderly replaying complete = Unit {0}
-Orderly replaying heartbeat = Unit {0}
+Orderly replaying aside = Unit {0}
 Orderly replaying logout = ⊥
 Orderly live (response ok) = ⊥
 Orderly live (message m) = Unit {0}
 Orderly live complete = ⊥
-Orderly live heartbeat = Unit {0}
+Orderly live aside = Unit {0}
 Orderly live logout = ⊥
 
 -- what phase the member will be in when the line is empty, if the venue's session is on it
@@ -117,12 +117,12 @@ countsAfter asked x c = c
 countsAfter replaying (response ok) c = c
 countsAfter replaying (message m) c = bump c (m .unit)
 countsAfter replaying complete c = c
-countsAfter replaying heartbeat c = c
+countsAfter replaying aside c = c
 countsAfter replaying logout c = c
 countsAfter live (response ok) c = c
 countsAfter live (message m) c = bump c (m .unit)
 countsAfter live complete c = c
-countsAfter live heartbeat c = c
+countsAfter live aside c = c
 countsAfter live logout c = c
 
 abbrev pub step : At → Sent → At
@@ -139,17 +139,17 @@ GaplessIn held closed c x = Unit {0}
 GaplessIn held asked c (response ok) = Unit {0}
 GaplessIn held asked c (message m) = ⊥
 GaplessIn held asked c complete = ⊥
-GaplessIn held asked c heartbeat = Unit {0}
+GaplessIn held asked c aside = Unit {0}
 GaplessIn held asked c logout = Unit {0}
 GaplessIn held replaying c (response ok) = Unit {0}
 GaplessIn held replaying c (message m) = Next c m
 GaplessIn held replaying c complete = Whole held c
-GaplessIn held replaying c heartbeat = Unit {0}
+GaplessIn held replaying c aside = Unit {0}
 GaplessIn held replaying c logout = Unit {0}
 GaplessIn held live c (response ok) = Unit {0}
 GaplessIn held live c (message m) = Next c m
 GaplessIn held live c complete = ⊥
-GaplessIn held live c heartbeat = Unit {0}
+GaplessIn held live c aside = Unit {0}
 GaplessIn held live c logout = Unit {0}
 
 abbrev pub Gapless : List Msg → At → Sent → Type 0
@@ -193,15 +193,15 @@ table-got held closed cap x s e g = refl
 table-got held asked cap (response ok) s e g = table-ends cap ok s
 table-got held asked cap (message m) s e g = refl
 table-got held asked cap complete s e g = refl
-table-got held asked cap heartbeat s e g = refl
+table-got held asked cap aside s e g = refl
 table-got held asked cap logout s e g = refl
 table-got held replaying cap (response ok) s e g = refl
 table-got held replaying cap (message m) s e g = table-takes (nextNumber m s) (hasRoom cap m s) m s refl e g
 table-got held replaying cap complete s e g = refl
-table-got held replaying cap heartbeat s e g = refl
+table-got held replaying cap aside s e g = refl
 table-got held replaying cap logout s e g = refl
 table-got held live cap (response ok) s e g = refl
 table-got held live cap (message m) s e g = table-takes (nextNumber m s) (hasRoom cap m s) m s refl e g
 table-got held live cap complete s e g = refl
-table-got held live cap heartbeat s e g = refl
+table-got held live cap aside s e g = refl
 table-got held live cap logout s e g = refl

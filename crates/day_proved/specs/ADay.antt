@@ -22,7 +22,7 @@ use Rattle.messages.specs.Messages.{carries, ownRefusal, readRefusal}
 use Rattle.calendar.specs.Calendar.{leap, daysIn, isDay, dayRefusal}
 use Rattle.book.specs.Books.{markBytes, openRefusal, openOf, openBuffer, roomless, messageRefusal, nextRefusal, appendRefusal, appendedBy, appendOf, appendBuffer, closeOf, closeBuffer}
 use Rattle.book_restart.specs.Restarts.{frontZero, torn, markNext, inLimit, found, nextBook, run, firstMark, restartOf}
-use Rattle.day_model.specs.Story.{theLog, aLogin, aTaking, aStep, aDelivery, aBreak, aDrop, aCut}
+use Rattle.day_model.specs.Story.{theLog, aLogin, aTaking, aStep, anAside, aDelivery, aBreak, aDrop, aCut}
 use Rattle.day_line.specs.Lines.{Fields}
 use Rattle.session.specs.declared.Phase.{Phase}
 use Rattle.session.specs.declared.Phase.the-variants.{Live}
@@ -37,6 +37,10 @@ use Rattle.day_proved.specs.Demand3.{Event, Moment, after, then, book}
 -- an Order Acknowledgment of a unit, with a number under 256 and no bitfields: 48 bytes
 abbrev msg : ℕ → ℕ → Bytes
 msg unit number = headerBytes 46 0x25 unit number ++ (zeros 8 ++ ((0x41 ∷ zeros 19) ++ zeros 10))
+
+-- an Order Rejected with no bitfields: 101 bytes
+abbrev rejection : Bytes
+rejection = headerBytes 99 0x26 0 0 ++ (zeros 8 ++ ((0x41 ∷ zeros 19) ++ zeros 63))
 
 -- names that are blank, and no bitfields asked for
 abbrev fields : Fields
@@ -53,16 +57,20 @@ begins es = aLogin fields (zeros 300) ∷ aTaking 443 ∷ aDelivery 1000 ∷ es
 abbrev next : List Event → List Event
 next es = aStep 2048 ∷ aDelivery 1000 ∷ es
 
+-- a rejection, delivered
+abbrev rejected : List Event → List Event
+rejected es = anAside rejection ∷ aDelivery 1000 ∷ es
+
 -- a break that both sides see
 abbrev breaks : List Event → List Event
 breaks es = aBreak 1000 ∷ aDrop ∷ es
 
 -- three messages of two units; a replay that breaks after its first message, and one that breaks after its next; a cut in the middle of the
--- second message, which stands after 16 + 48 + 16 bytes; and a third replay up to what the venue sends last
+-- second message, which stands after 16 + 48 + 16 bytes; and a third replay, with a rejection between its two messages, up to what the venue sends last
 abbrev pub events : List Event
 events =
     theLog 1000 (msg 1 1) ∷ theLog 1000 (msg 2 1) ∷ theLog 1000 (msg 1 2)
-    ∷ begins (next (breaks (begins (next (breaks (aCut 100 ∷ begins (next (next (aStep 2048 ∷ [])))))))))
+    ∷ begins (next (breaks (begins (next (breaks (aCut 100 ∷ begins (next (rejected (next (aStep 2048 ∷ []))))))))))
 
 unfoldable pub last : Moment 20250819 ourVenue
 last = after 20250819 ourVenue events

@@ -13,10 +13,11 @@ use Rattle.wire.specs.Frame.{framed}
 use Rattle.table.specs.Table.{lastOf}
 use Rattle.session_messages.specs.Sessions.{namesGood, sessionBytes}
 use Rattle.session_logins.specs.LoginRequestLaws.{BitsInOrder}
+use Rattle.orders.specs.Shapes.{sequenced}
 use Rattle.calendar.specs.Calendar.{isDay}
 use Rattle.book.specs.Books.{answer, blankBook, openOf}
 use Rattle.book_restart.specs.Restarts.{restartOf}
-use Rattle.day_model.specs.Story.{Code, Happens, aLogin, aTaking, aDelivery, aCut, Now, next, story, dawn}
+use Rattle.day_model.specs.Story.{All, Code, Happens, aLogin, aTaking, aDelivery, aCut, Now, next, story, dawn}
 use Rattle.day_model.specs.Halves.{VenueCode, MeetsVenue, StepsAsTold, code}
 use Rattle.day_line.specs.Lines.{Fields, loginOfTable, ourLine}
 use Rattle.session.specs.declared.Phase.the-variants.{Closed, Asked, Replaying, Live}
@@ -153,6 +154,21 @@ TheReplayCompletes =
     (date : ℕ) → isDay date ≡ true → (X : VenueCode) → SuchAVenue X → (es : List Event) (room : ℕ) (b : Bytes) (rest : List Bytes)
     → after date X es .left ≡ false → after date X es .queue ≡ b ∷ rest → typeOf b ≡ 0x13
     → Completes date X (after date X es) room
+
+-- ---- only sequenced messages
+
+-- 02, request 2: 'Demand 3 speaks from then on of sequenced messages only.' The statements above speak of what the book holds, and at every moment, with
+-- rejections on the line at any time (`anAside`), that is sequenced messages only
+abbrev pub OnlySequenced : List Bytes → Type 0
+OnlySequenced bs = All (λ (b : Bytes). sequenced (typeOf b) ≡ true) bs
+
+abbrev pub OnlySequencedInTheBook : Type 1
+OnlySequencedInTheBook =
+    (date : ℕ) → isDay date ≡ true → (X : VenueCode) → SuchAVenue X → (es : List Event) → OnlySequenced (inBook (book date X (after date X es)))
+
+-- 'and the venue's log holds no others': the bench's does not
+abbrev pub OnlySequencedInTheLog : Type 0
+OnlySequencedInTheLog = (date : ℕ) → isDay date ≡ true → (es : List Event) → OnlySequenced (log date ourVenue (after date ourVenue es))
 
 -- ---- our bench venue is such a venue
 

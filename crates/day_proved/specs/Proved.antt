@@ -12,6 +12,7 @@ use borrow.Author.Tests.{lt-leb}
 use Rattle.wire.specs.Header.{typeOf}
 use Rattle.wire.specs.FrameLaws.{lt-or-le}
 use Rattle.table.specs.Table.{lastOf}
+use Rattle.orders.specs.Shapes.{sequenced}
 use Rattle.session_messages.specs.Sessions as logins
 use Rattle.session_logins.specs.LoginRequests.{choiceOf}
 use Rattle.session_logins.specs.LoginRequestLaws.{said-most, default-is-written}
@@ -25,7 +26,7 @@ use Rattle.book_restart.specs.Steps.{mark-long}
 use Rattle.book_restart.specs.Cut.{Made, sound, Cut, cut, cut-22}
 use Rattle.day_model.specs.Model.{Msg, Item, mark, size, Phase, closed, messages}
 use Rattle.day_model.specs.Model as day
-use Rattle.day_model.specs.Story.{aLogin, aTaking, aDelivery, aCut, nowLogin, nowTaken}
+use Rattle.day_model.specs.Story.{All, aLogin, aTaking, aDelivery, aCut, nowLogin, nowTaken}
 use Rattle.day_model.specs.Generic.{Meets, holds, at-every-moment, when-a-replay-completes, replay-completes, CompletesAt}
 use Rattle.day_model.specs.Halves.{VenueCode, both}
 use Rattle.day_line.specs.Lines.{Fields, ourLine, loginOfTable, wholeTable}
@@ -39,10 +40,14 @@ use Rattle.session.specs.MadeItems.{made-items, made-headed, made-size}
 use Rattle.session.specs.MemberSteps.{Good}
 use Rattle.session.specs.MemberGets.{says-complete}
 use Rattle.session.specs.MeetsMember.{opens-well, opened-empty, entries-fit, logged, login-stands, our-member-meets}
+use Rattle.book.specs.Sequenced.{booked-is-sequenced}
+use Rattle.venue.specs.VenueDay.{ourVenue, messagesIn}
+use Rattle.venue.specs.VenueView.{Wholly}
+use Rattle.venue.specs.VenueRuns.{messages-all}
 use Rattle.venue.specs.MeetsVenue.{meets, steps-told}
 use Rattle.day_proved.specs.Words.{Bytes, inBook, ofUnit, keepItem, within}
-use Rattle.day_proved.specs.WordLaws.{unit-bodies, take-bodies, bodies-long, booked-unit, within-all, cut-keeps}
-use Rattle.day_proved.specs.Demand3.{SuchAVenue, dayOf, Event, Moment, after, then, book, HoldsFirsts, AtEveryMoment, Restarts, EachRestart, Completes, WhenAReplayCompletes, Valid, Asks, ALoginIsWritten, Taken, AVenueTakesIt, TheReplayCompletes, TheBenchIsSuchAVenue}
+use Rattle.day_proved.specs.WordLaws.{unit-bodies, take-bodies, bodies-long, booked-unit, within-all, cut-keeps, made-sequenced}
+use Rattle.day_proved.specs.Demand3.{SuchAVenue, dayOf, Event, Moment, after, then, book, HoldsFirsts, AtEveryMoment, Restarts, EachRestart, Completes, WhenAReplayCompletes, Valid, Asks, ALoginIsWritten, Taken, AVenueTakesIt, TheReplayCompletes, OnlySequenced, OnlySequencedInTheBook, OnlySequencedInTheLog, TheBenchIsSuchAVenue}
 
 -- a phase is known by how the abstract day sees it
 phase-back : (p q : phases.Phase) → phaseOf p ≡ phaseOf q → p ≡ q
@@ -187,11 +192,32 @@ module _ (date : ℕ) (d : isDay date ≡ true) (X : VenueCode) (such : SuchAVen
       let k = replay-completes (dayOf date X) the es room rest b l q (says-complete b t) in
       record { was = phase-back _ Replaying (k .was); is = phase-back _ Live (k .is) }
 
+  -- only sequenced messages
+  only-sequenced : (es : List Event) → OnlySequenced (inBook (book date X (after date X es)))
+  only-sequenced es =
+      let g = good-of es in
+      subst OnlySequenced (sym (ap (λ (x : List Item). map (λ (m : Msg). m .body) (messages x)) (made-items (g .made)))) (made-sequenced (g .made))
+
 pub at-every-moment-the-book-holds-the-firsts : AtEveryMoment
 at-every-moment-the-book-holds-the-firsts date d X such es u = moment date d X such es u
 
 pub when-a-replay-completes-the-book-is-whole : WhenAReplayCompletes
 when-a-replay-completes-the-book-is-whole date d X such es room c r u = completed date d X such es room c r u
+
+pub only-sequenced-in-the-book : OnlySequencedInTheBook
+only-sequenced-in-the-book date d X such es = only-sequenced date d X such es
+
+-- the log of a good state of the bench
+log-sequenced : (ms : List Bytes) → All Wholly ms → OnlySequenced ms
+log-sequenced [] h = tt
+log-sequenced (m ∷ ms) h = (ap (λ (x : Bytes). sequenced (typeOf x)) (sym (h .0 .alone)) ∙ booked-is-sequenced m (h .0 .reads), log-sequenced ms (h .1))
+
+pub only-sequenced-in-the-log : OnlySequencedInTheLog
+unfolding the our-member-meets meets
+only-sequenced-in-the-log date d es =
+    let w = after date ourVenue es in
+    let g = holds (dayOf date ourVenue) (the date d ourVenue meets) es .good .venue in
+    subst OnlySequenced (sym (ap messagesIn (g .log .is) ∙ messages-all (g .messages) (g .log .whole))) (log-sequenced (g .messages) (g .log .whole))
 
 pub the-bench-is-such-a-venue : TheBenchIsSuchAVenue
 unfolding meets steps-told

@@ -9,14 +9,18 @@ use lib.Dec.{eqb}
 use lib.ListN.{length, take, drop, length-append}
 use lib.Seq.{take-length}
 use borrow.Author.Tests.{le-leb, lt-leb}
-use Rattle.wire.specs.Header.{unitOf}
+use Rattle.wire.specs.Header.{typeOf, unitOf}
 use Rattle.wire.specs.Frame.{framed}
+use Rattle.orders.specs.Shapes.{sequenced}
 use Rattle.book.specs.declared.Book.{Book}
-use Rattle.book_restart.specs.Cut.{Made, opens, books, marks, sound, Cut}
+use Rattle.book.specs.BookLaws.{next}
+use Rattle.book_restart.specs.Cut.{Made, opens, books, marks, sound, Cut, appended-has}
 use Rattle.day_model.specs.Model.{Msg, Item, mark, entry, itemSize, size, onto, messages, keep}
 use Rattle.day_model.specs.Model as day
+use Rattle.day_model.specs.Story.{All}
 use Rattle.day_line.specs.Lines.{msgOf}
 use Rattle.session.specs.Booked.{itemOf, itemLength, isMark, itemsFrom, items, unless, first-items}
+use Rattle.book.specs.Sequenced.{booked-is-sequenced}
 use Rattle.session.specs.MadeItems.{itemsOf, coded, made-items, made-size}
 use Rattle.day_proved.specs.Words.{Bytes, inBook, ofUnit, keepItem, within}
 
@@ -110,3 +114,17 @@ cut-keeps {n = n} {xs = xs} m c =
     let u : size (take (suc (length (itemsOf (c .made)))) (items xs)) ≡ p .2 .length = ap (λ (j : ℕ). size (take j (items xs))) (sym l) ∙ ap size v ∙ made-size (p .3) in
     omega (arith, u, p .5, sound (p .3) .at-end)))
     (c .last-item)) ∙ w
+
+-- ---- what a book that was made holds is sequenced
+
+-- an item more
+all-more : (P : Bytes → Type 0) (is : List Item) (i : Item) → All P (bodies (messages is)) → All P (bodies (messages (i ∷ []))) → All P (bodies (messages (is ++ i ∷ [])))
+all-more P [] i h k = k
+all-more P (mark n ∷ is) i h k = all-more P is i h k
+all-more P (entry m ∷ is) i h k = (h .0, all-more P is i (h .1) k)
+
+pub made-sequenced : {date k : ℕ} {b : Book} {xs : List ℕ} (m : Made date k b xs) → All (λ (x : Bytes). sequenced (typeOf x) ≡ true) (bodies (messages (itemsOf m)))
+made-sequenced opens = tt
+made-sequenced (books {b = b} room s m h) =
+    all-more (λ (x : Bytes). sequenced (typeOf x) ≡ true) (itemsOf m) (entry (msgOf (framed s))) (made-sequenced m) (booked-is-sequenced s (next b s (appended-has b room s h .reads) .0), tt)
+made-sequenced (marks {b = b} room m h) = all-more (λ (x : Bytes). sequenced (typeOf x) ≡ true) (itemsOf m) (mark (b .count)) (made-sequenced m) tt

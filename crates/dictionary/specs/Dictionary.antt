@@ -1,4 +1,4 @@
--- The bit dictionary: document 01's lists, a line for each listed bit of a message. Definitions alone. Assumes nothing.
+-- The bit dictionary: document 01's lists, and those of document 000 for what 02 adds, a line for each listed bit of a message. Definitions alone. Assumes nothing.
 use Prim.Native.Nat.{ℕ, _+_}
 use mathlib.Core.Bool.{Bool, true, false, cond, _&&_}
 use mathlib.Core.List.{List, [], _∷_}
@@ -101,14 +101,66 @@ executions =
     ∷ line 3 64 4 B  -- OrderQty
     ∷ []
 
--- A message's list. Order Execution uses the acknowledgment's bits, narrowed to those that 000 marks for it; other types have none.
+-- Order Rejected: the bits that 000's Table 64 marks
+abbrev pub rejections : List Line
+rejections =
+    line 1 1 1 N  -- Side
+    ∷ line 1 2 8 P  -- PegDifference
+    ∷ line 1 4 8 P  -- Price
+    ∷ line 1 8 1 T  -- ExecInst
+    ∷ line 1 16 1 N  -- OrdType
+    ∷ line 1 32 1 N  -- TimeInForce
+    ∷ line 1 64 4 B  -- MinQty
+    ∷ line 2 1 8 N  -- Symbol
+    ∷ line 2 2 8 N  -- SymbolSfx
+    ∷ line 2 64 1 A  -- Capacity
+    ∷ line 3 1 16 T  -- Account
+    ∷ line 3 2 4 A  -- ClearingFirm
+    ∷ line 3 4 4 T  -- ClearingAccount
+    ∷ line 3 8 1 N  -- DisplayIndicator
+    ∷ line 3 16 4 B  -- MaxFloor
+    ∷ line 3 32 2 B  -- DiscretionAmount
+    ∷ line 3 64 4 B  -- OrderQty
+    ∷ line 3 128 3 N  -- PreventMatch
+    ∷ line 6 1 8 B  -- SecondaryOrderID
+    ∷ line 6 8 1 N  -- AttributedQuote
+    ∷ line 6 16 1 T  -- ExtExecInst
+    ∷ line 8 2 64 T  -- EchoText
+    ∷ line 8 4 8 P  -- StopPx
+    ∷ line 8 8 4 T  -- RoutingInst
+    ∷ line 8 16 6 T  -- RoutStrategy
+    ∷ line 8 32 3 T  -- RouteDeliveryMethod
+    ∷ line 8 64 1 T  -- ExDestination
+    ∷ []
+
+-- Cancel Rejected: the bits that 000's Table 69 marks
+abbrev pub cancelRejections : List Line
+cancelRejections =
+    line 1 1 1 N  -- Side
+    ∷ line 1 2 8 P  -- PegDifference
+    ∷ line 1 4 8 P  -- Price
+    ∷ line 1 8 1 T  -- ExecInst
+    ∷ line 1 16 1 N  -- OrdType
+    ∷ line 1 32 1 N  -- TimeInForce
+    ∷ line 1 64 4 B  -- MinQty
+    ∷ line 2 1 8 N  -- Symbol
+    ∷ line 2 2 8 N  -- SymbolSfx
+    ∷ line 2 64 1 A  -- Capacity
+    ∷ line 8 2 64 T  -- EchoText
+    ∷ line 8 4 8 P  -- StopPx
+    ∷ []
+
+-- A message's list. Order Execution uses the acknowledgment's bits, narrowed to those that 000 marks for it. Of User
+-- Modify Rejected 000's Table 67 marks no bit; other types have none.
 abbrev pub listOf : ℕ → List Line
 listOf message =
     cond (eqb message 0x38) newOrder
     (cond (eqb message 0x39) cancelOrder
     (cond (eqb message 0x25) acknowledgments
     (cond (eqb message 0x2C) executions
-    [])))
+    (cond (eqb message 0x26) rejections
+    (cond (eqb message 0x2B) cancelRejections
+    [])))))
 
 -- the first where a test holds, else the second
 abbrev pub pick : Bool → Entry → Entry → Entry

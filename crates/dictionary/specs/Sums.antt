@@ -1,6 +1,6 @@
 -- A second count of the bit dictionary, so that code and table cannot be changed together unseen: for each message the widths and the
 -- bits of each bitfield byte, its length in all, its columns of widths and kinds, and that its lines stand in order of byte and bit.
--- The figures are counted from document 01's lists, Order Execution's narrowed by 000's Table 70. All is computed. Assumes nothing.
+-- The figures are counted from document 01's lists, Order Execution's narrowed by 000's Table 70, and of the rejections from 000's Tables 64, 67 and 69. All is computed. Assumes nothing.
 use mathlib.Core.Path.{_≡_, refl}
 use mathlib.Core.Bool.{Bool, true, cond, _&&_}
 use mathlib.Core.List.{List, [], _∷_, map}
@@ -8,7 +8,7 @@ use Prim.Native.Nat.{ℕ, _+_, _*_, _^_}
 use lib.Dec.{eqb, ltb}
 use Rattle.kinds.specs.declared.Kind.{Kind}
 use Rattle.kinds.specs.declared.Kind.the-variants.{Letters, Alphanumeric, Text, Binary, Price}
-use Rattle.dictionary.specs.Dictionary.{Line, line, newOrder, cancelOrder, acknowledgments, executions, indexOf}
+use Rattle.dictionary.specs.Dictionary.{Line, line, newOrder, cancelOrder, acknowledgments, executions, rejections, cancelRejections, listOf, indexOf}
 
 -- the widths of a bitfield byte's lines, summed
 abbrev pub widthsIn : ℕ → List Line → ℕ
@@ -39,13 +39,13 @@ inOrder last (line b t w k ∷ ls) = eqb t (2 ^ indexOf t) && ltb last (256 * b 
 
 -- the bitfield bytes that a message can have
 abbrev bytes : List ℕ
-bytes = 1 ∷ 2 ∷ 3 ∷ 4 ∷ 5 ∷ 6 ∷ 7 ∷ 8 ∷ 9 ∷ 10 ∷ 11 ∷ 12 ∷ 13 ∷ 14 ∷ 15 ∷ []
+bytes = 1 ∷ 2 ∷ 3 ∷ 4 ∷ 5 ∷ 6 ∷ 7 ∷ 8 ∷ 9 ∷ 10 ∷ 11 ∷ 12 ∷ 13 ∷ 14 ∷ 15 ∷ 16 ∷ 17 ∷ 18 ∷ 19 ∷ []
 
 -- New Order
-pub new-order-sums : map (λ b. widthsIn b newOrder) bytes ≡ 27 ∷ 21 ∷ 25 ∷ 0 ∷ 0 ∷ 77 ∷ 0 ∷ 0 ∷ 0 ∷ 4 ∷ 0 ∷ 0 ∷ 0 ∷ 0 ∷ 0 ∷ []
+pub new-order-sums : map (λ b. widthsIn b newOrder) bytes ≡ 27 ∷ 21 ∷ 25 ∷ 0 ∷ 0 ∷ 77 ∷ 0 ∷ 0 ∷ 0 ∷ 4 ∷ 0 ∷ 0 ∷ 0 ∷ 0 ∷ 0 ∷ 0 ∷ 0 ∷ 0 ∷ 0 ∷ []
 new-order-sums = refl
 
-pub new-order-masks : map (λ b. bitsIn b newOrder) bytes ≡ 255 ∷ 195 ∷ 193 ∷ 0 ∷ 0 ∷ 51 ∷ 0 ∷ 0 ∷ 0 ∷ 2 ∷ 0 ∷ 0 ∷ 0 ∷ 0 ∷ 0 ∷ []
+pub new-order-masks : map (λ b. bitsIn b newOrder) bytes ≡ 255 ∷ 195 ∷ 193 ∷ 0 ∷ 0 ∷ 51 ∷ 0 ∷ 0 ∷ 0 ∷ 2 ∷ 0 ∷ 0 ∷ 0 ∷ 0 ∷ 0 ∷ 0 ∷ 0 ∷ 0 ∷ 0 ∷ []
 new-order-masks = refl
 
 pub new-order-length : layoutLength newOrder ≡ 154
@@ -61,10 +61,10 @@ pub new-order-in-order : inOrder 0 newOrder ≡ true
 new-order-in-order = refl
 
 -- Cancel Order
-pub cancel-order-sums : map (λ b. widthsIn b cancelOrder) bytes ≡ 4 ∷ 0 ∷ 0 ∷ 0 ∷ 0 ∷ 0 ∷ 0 ∷ 0 ∷ 0 ∷ 0 ∷ 0 ∷ 0 ∷ 0 ∷ 0 ∷ 0 ∷ []
+pub cancel-order-sums : map (λ b. widthsIn b cancelOrder) bytes ≡ 4 ∷ 0 ∷ 0 ∷ 0 ∷ 0 ∷ 0 ∷ 0 ∷ 0 ∷ 0 ∷ 0 ∷ 0 ∷ 0 ∷ 0 ∷ 0 ∷ 0 ∷ 0 ∷ 0 ∷ 0 ∷ 0 ∷ []
 cancel-order-sums = refl
 
-pub cancel-order-masks : map (λ b. bitsIn b cancelOrder) bytes ≡ 1 ∷ 0 ∷ 0 ∷ 0 ∷ 0 ∷ 0 ∷ 0 ∷ 0 ∷ 0 ∷ 0 ∷ 0 ∷ 0 ∷ 0 ∷ 0 ∷ 0 ∷ []
+pub cancel-order-masks : map (λ b. bitsIn b cancelOrder) bytes ≡ 1 ∷ 0 ∷ 0 ∷ 0 ∷ 0 ∷ 0 ∷ 0 ∷ 0 ∷ 0 ∷ 0 ∷ 0 ∷ 0 ∷ 0 ∷ 0 ∷ 0 ∷ 0 ∷ 0 ∷ 0 ∷ 0 ∷ []
 cancel-order-masks = refl
 
 pub cancel-order-length : layoutLength cancelOrder ≡ 4
@@ -80,10 +80,10 @@ pub cancel-order-in-order : inOrder 0 cancelOrder ≡ true
 cancel-order-in-order = refl
 
 -- Order Acknowledgment
-pub acknowledgment-sums : map (λ b. widthsIn b acknowledgments) bytes ≡ 16 ∷ 17 ∷ 32 ∷ 0 ∷ 24 ∷ 0 ∷ 0 ∷ 0 ∷ 0 ∷ 0 ∷ 0 ∷ 0 ∷ 0 ∷ 0 ∷ 0 ∷ []
+pub acknowledgment-sums : map (λ b. widthsIn b acknowledgments) bytes ≡ 16 ∷ 17 ∷ 32 ∷ 0 ∷ 24 ∷ 0 ∷ 0 ∷ 0 ∷ 0 ∷ 0 ∷ 0 ∷ 0 ∷ 0 ∷ 0 ∷ 0 ∷ 0 ∷ 0 ∷ 0 ∷ 0 ∷ []
 acknowledgment-sums = refl
 
-pub acknowledgment-masks : map (λ b. bitsIn b acknowledgments) bytes ≡ 125 ∷ 67 ∷ 87 ∷ 0 ∷ 142 ∷ 0 ∷ 0 ∷ 0 ∷ 0 ∷ 0 ∷ 0 ∷ 0 ∷ 0 ∷ 0 ∷ 0 ∷ []
+pub acknowledgment-masks : map (λ b. bitsIn b acknowledgments) bytes ≡ 125 ∷ 67 ∷ 87 ∷ 0 ∷ 142 ∷ 0 ∷ 0 ∷ 0 ∷ 0 ∷ 0 ∷ 0 ∷ 0 ∷ 0 ∷ 0 ∷ 0 ∷ 0 ∷ 0 ∷ 0 ∷ 0 ∷ []
 acknowledgment-masks = refl
 
 pub acknowledgment-length : layoutLength acknowledgments ≡ 89
@@ -99,10 +99,10 @@ pub acknowledgment-in-order : inOrder 0 acknowledgments ≡ true
 acknowledgment-in-order = refl
 
 -- Order Execution
-pub execution-sums : map (λ b. widthsIn b executions) bytes ≡ 16 ∷ 17 ∷ 32 ∷ 0 ∷ 0 ∷ 0 ∷ 0 ∷ 0 ∷ 0 ∷ 0 ∷ 0 ∷ 0 ∷ 0 ∷ 0 ∷ 0 ∷ []
+pub execution-sums : map (λ b. widthsIn b executions) bytes ≡ 16 ∷ 17 ∷ 32 ∷ 0 ∷ 0 ∷ 0 ∷ 0 ∷ 0 ∷ 0 ∷ 0 ∷ 0 ∷ 0 ∷ 0 ∷ 0 ∷ 0 ∷ 0 ∷ 0 ∷ 0 ∷ 0 ∷ []
 execution-sums = refl
 
-pub execution-masks : map (λ b. bitsIn b executions) bytes ≡ 125 ∷ 67 ∷ 87 ∷ 0 ∷ 0 ∷ 0 ∷ 0 ∷ 0 ∷ 0 ∷ 0 ∷ 0 ∷ 0 ∷ 0 ∷ 0 ∷ 0 ∷ []
+pub execution-masks : map (λ b. bitsIn b executions) bytes ≡ 125 ∷ 67 ∷ 87 ∷ 0 ∷ 0 ∷ 0 ∷ 0 ∷ 0 ∷ 0 ∷ 0 ∷ 0 ∷ 0 ∷ 0 ∷ 0 ∷ 0 ∷ 0 ∷ 0 ∷ 0 ∷ 0 ∷ []
 execution-masks = refl
 
 pub execution-length : layoutLength executions ≡ 65
@@ -116,3 +116,45 @@ execution-kinds = refl
 
 pub execution-in-order : inOrder 0 executions ≡ true
 execution-in-order = refl
+
+-- Order Rejected
+pub rejection-sums : map (λ b. widthsIn b rejections) bytes ≡ 24 ∷ 17 ∷ 38 ∷ 0 ∷ 0 ∷ 10 ∷ 0 ∷ 86 ∷ 0 ∷ 0 ∷ 0 ∷ 0 ∷ 0 ∷ 0 ∷ 0 ∷ 0 ∷ 0 ∷ 0 ∷ 0 ∷ []
+rejection-sums = refl
+
+pub rejection-masks : map (λ b. bitsIn b rejections) bytes ≡ 127 ∷ 67 ∷ 255 ∷ 0 ∷ 0 ∷ 25 ∷ 0 ∷ 126 ∷ 0 ∷ 0 ∷ 0 ∷ 0 ∷ 0 ∷ 0 ∷ 0 ∷ 0 ∷ 0 ∷ 0 ∷ 0 ∷ []
+rejection-masks = refl
+
+pub rejection-length : layoutLength rejections ≡ 175
+rejection-length = refl
+
+pub rejection-widths : map lineWidth rejections ≡ 1 ∷ 8 ∷ 8 ∷ 1 ∷ 1 ∷ 1 ∷ 4 ∷ 8 ∷ 8 ∷ 1 ∷ 16 ∷ 4 ∷ 4 ∷ 1 ∷ 4 ∷ 2 ∷ 4 ∷ 3 ∷ 8 ∷ 1 ∷ 1 ∷ 64 ∷ 8 ∷ 4 ∷ 6 ∷ 3 ∷ 1 ∷ []
+rejection-widths = refl
+
+pub rejection-kinds : map lineKind rejections ≡ Alphanumeric ∷ Price ∷ Price ∷ Text ∷ Alphanumeric ∷ Alphanumeric ∷ Binary ∷ Alphanumeric ∷ Alphanumeric ∷ Letters ∷ Text ∷ Letters ∷ Text ∷ Alphanumeric ∷ Binary ∷ Binary ∷ Binary ∷ Alphanumeric ∷ Binary ∷ Alphanumeric ∷ Text ∷ Text ∷ Price ∷ Text ∷ Text ∷ Text ∷ Text ∷ []
+rejection-kinds = refl
+
+pub rejection-in-order : inOrder 0 rejections ≡ true
+rejection-in-order = refl
+
+-- Cancel Rejected
+pub cancel-rejection-sums : map (λ b. widthsIn b cancelRejections) bytes ≡ 24 ∷ 17 ∷ 0 ∷ 0 ∷ 0 ∷ 0 ∷ 0 ∷ 72 ∷ 0 ∷ 0 ∷ 0 ∷ 0 ∷ 0 ∷ 0 ∷ 0 ∷ 0 ∷ 0 ∷ 0 ∷ 0 ∷ []
+cancel-rejection-sums = refl
+
+pub cancel-rejection-masks : map (λ b. bitsIn b cancelRejections) bytes ≡ 127 ∷ 67 ∷ 0 ∷ 0 ∷ 0 ∷ 0 ∷ 0 ∷ 6 ∷ 0 ∷ 0 ∷ 0 ∷ 0 ∷ 0 ∷ 0 ∷ 0 ∷ 0 ∷ 0 ∷ 0 ∷ 0 ∷ []
+cancel-rejection-masks = refl
+
+pub cancel-rejection-length : layoutLength cancelRejections ≡ 113
+cancel-rejection-length = refl
+
+pub cancel-rejection-widths : map lineWidth cancelRejections ≡ 1 ∷ 8 ∷ 8 ∷ 1 ∷ 1 ∷ 1 ∷ 4 ∷ 8 ∷ 8 ∷ 1 ∷ 64 ∷ 8 ∷ []
+cancel-rejection-widths = refl
+
+pub cancel-rejection-kinds : map lineKind cancelRejections ≡ Alphanumeric ∷ Price ∷ Price ∷ Text ∷ Alphanumeric ∷ Alphanumeric ∷ Binary ∷ Alphanumeric ∷ Alphanumeric ∷ Letters ∷ Text ∷ Price ∷ []
+cancel-rejection-kinds = refl
+
+pub cancel-rejection-in-order : inOrder 0 cancelRejections ≡ true
+cancel-rejection-in-order = refl
+
+-- User Modify Rejected
+pub modify-rejection-none : listOf 0x29 ≡ []
+modify-rejection-none = refl

@@ -122,7 +122,88 @@ fn acknowledgment(byte: u8, bit: u8) -> Entry
     }
 }
 
-// What a bit of a bitfield byte selects in a message of a type.
+// A bit of Order Rejected.
+fn rejection(byte: u8, bit: u8) -> Entry
+    ensures { λ r. ⌜ r ≡ entryOf 0x26 byte bit ⌝ }
+{
+    match byte {
+        1 => match bit {
+            0 => field(1, Kind::Alphanumeric, 0), // Side
+            1 => field(8, Kind::Price, 1), // PegDifference
+            2 => field(8, Kind::Price, 9), // Price
+            3 => field(1, Kind::Text, 17), // ExecInst
+            4 => field(1, Kind::Alphanumeric, 18), // OrdType
+            5 => field(1, Kind::Alphanumeric, 19), // TimeInForce
+            6 => field(4, Kind::Binary, 20), // MinQty
+            _ => Entry::Refused,
+        },
+        2 => match bit {
+            0 => field(8, Kind::Alphanumeric, 24), // Symbol
+            1 => field(8, Kind::Alphanumeric, 32), // SymbolSfx
+            6 => field(1, Kind::Letters, 40), // Capacity
+            _ => Entry::Refused,
+        },
+        3 => match bit {
+            0 => field(16, Kind::Text, 41), // Account
+            1 => field(4, Kind::Letters, 57), // ClearingFirm
+            2 => field(4, Kind::Text, 61), // ClearingAccount
+            3 => field(1, Kind::Alphanumeric, 65), // DisplayIndicator
+            4 => field(4, Kind::Binary, 66), // MaxFloor
+            5 => field(2, Kind::Binary, 70), // DiscretionAmount
+            6 => field(4, Kind::Binary, 72), // OrderQty
+            7 => field(3, Kind::Alphanumeric, 76), // PreventMatch
+            _ => Entry::Refused,
+        },
+        6 => match bit {
+            0 => field(8, Kind::Binary, 79), // SecondaryOrderID
+            3 => field(1, Kind::Alphanumeric, 87), // AttributedQuote
+            4 => field(1, Kind::Text, 88), // ExtExecInst
+            _ => Entry::Refused,
+        },
+        8 => match bit {
+            1 => field(64, Kind::Text, 89), // EchoText
+            2 => field(8, Kind::Price, 153), // StopPx
+            3 => field(4, Kind::Text, 161), // RoutingInst
+            4 => field(6, Kind::Text, 165), // RoutStrategy
+            5 => field(3, Kind::Text, 171), // RouteDeliveryMethod
+            6 => field(1, Kind::Text, 174), // ExDestination
+            _ => Entry::Refused,
+        },
+        _ => Entry::Refused,
+    }
+}
+
+// A bit of Cancel Rejected.
+fn cancel_rejection(byte: u8, bit: u8) -> Entry
+    ensures { λ r. ⌜ r ≡ entryOf 0x2B byte bit ⌝ }
+{
+    match byte {
+        1 => match bit {
+            0 => field(1, Kind::Alphanumeric, 0), // Side
+            1 => field(8, Kind::Price, 1), // PegDifference
+            2 => field(8, Kind::Price, 9), // Price
+            3 => field(1, Kind::Text, 17), // ExecInst
+            4 => field(1, Kind::Alphanumeric, 18), // OrdType
+            5 => field(1, Kind::Alphanumeric, 19), // TimeInForce
+            6 => field(4, Kind::Binary, 20), // MinQty
+            _ => Entry::Refused,
+        },
+        2 => match bit {
+            0 => field(8, Kind::Alphanumeric, 24), // Symbol
+            1 => field(8, Kind::Alphanumeric, 32), // SymbolSfx
+            6 => field(1, Kind::Letters, 40), // Capacity
+            _ => Entry::Refused,
+        },
+        8 => match bit {
+            1 => field(64, Kind::Text, 41), // EchoText
+            2 => field(8, Kind::Price, 105), // StopPx
+            _ => Entry::Refused,
+        },
+        _ => Entry::Refused,
+    }
+}
+
+// What a bit of a bitfield byte selects in a message of a type. User Modify Rejected lists none.
 pub fn entry_of(message: u8, byte: u8, bit: u8) -> Entry
     ensures { λ r. ⌜ r ≡ entryOf message byte bit ⌝ }
 {
@@ -131,6 +212,8 @@ pub fn entry_of(message: u8, byte: u8, bit: u8) -> Entry
         0x39 => cancel_order(byte, bit),
         0x25 => acknowledgment(byte, bit),
         0x2C => execution(byte, bit),
+        0x26 => rejection(byte, bit),
+        0x2B => cancel_rejection(byte, bit),
         _ => Entry::Refused,
     }
 }

@@ -6,3 +6,4 @@ pub mod BookBytesLaws
 pub mod InPlaceLaws
 pub mod BookRefusals
 pub mod OneAnswers
+pub mod Desk

@@ -6,7 +6,7 @@
 -- That there are such choices of each type: SomeChoice.antt.
 -- Assumes nothing.
 use mathlib.Core.Path.{_≡_, refl, sym, ap, ap₂, _∙_, subst}
-use mathlib.Core.Bool.{Bool, true, false, not, _&&_, _||_, false≢true}
+use mathlib.Core.Bool.{Bool, true, false, not, _&&_, _||_}
 use mathlib.Core.List.{List, [], _∷_, _++_, append-nil}
 use Prim.Native.Nat.{ℕ, zero, suc, _+_, _-_, _/_, _%_, _≤_, _<_}
 use native.Mathlib.Omega.{arith}
@@ -16,18 +16,18 @@ use lib.Seq.{length-take-le, getD-take, getD-drop, take-take}
 use borrow.Author.Tests.{eq-eqb, eqb-true, le-leb, ltb-true, ltb-false}
 use Rattle.kinds.specs.Kinds.{allNul, agreesOf}
 use Rattle.kinds.specs.KindLaws.{blank-agrees}
-use Rattle.numbers.specs.Numbers.{bytesOf, patched}
+use Rattle.numbers.specs.Numbers.{numberAt, bytesOf, patched}
 use Rattle.wire.specs.HeaderLaws.{Bytes}
 use Rattle.block.specs.Slots.{zeros, takes, sum, agreeHeld, zeroElsewhere}
-use Rattle.block.specs.SlotLaws.{length-zeros, takes-below}
+use Rattle.block.specs.SlotLaws.{length-zeros, takes-below, both-true}
 use Rattle.block.specs.Places.{selectedAt, entryAt, slotsFrom, slotsOf, hasRequired}
 use Rattle.block.specs.FieldPlaces.{widthsBefore, AllAgree, Unselected}
 use Rattle.block.specs.FieldPlaceLaws.{takes-all, widths-same, nul-part, nul-rest, no-bad-slot, selected-agree, zero-where-unset}
 use Rattle.block.specs.Dictionaries.{before-none, dictionary-placed, widths-fit, field-fits}
-use Rattle.block.specs.Sizes.{fixedSize, allPlaces, layoutSize, recordSize}
-use Rattle.orders.specs.Shapes.{ofMember, ofVenue, countAt, unitGood, fixedGood}
+use Rattle.block.specs.Sizes.{fixedSize, mostBitfields, allPlaces, layoutSize, bitsPlace, recordSize}
+use Rattle.orders.specs.Shapes.{ofMember, sequenced, unsequenced, ofVenue, countAt, unitGood, fixedGood}
 use Rattle.orders.specs.Orders.{writeSlots, sizeOf}
-use Rattle.orders.specs.OrderLaws.{count-bounds, most-bound, Fit, is-written}
+use Rattle.orders.specs.OrderLaws.{either, count-bounds, most-bound, Fit, is-written}
 use Rattle.orders.specs.declared.Record.{Record}
 use Rattle.orders.specs.RoundTrip.{Sound}
 use Rattle.order_records.specs.Records.{recordBytes, recordAt}
@@ -35,51 +35,66 @@ use Rattle.order_records.specs.RecordTrip.{record-length, record-again}
 use Rattle.messages.specs.Messages.{carries, recordSizeOf, ownWrite, writeCall, heldIn}
 use Rattle.messages.specs.MessageLaws.{order-size, own-write}
 use Rattle.messages.specs.RoundTrip.{read-again}
-use Rattle.messages.specs.OrderPlaces.{isOrder, countIn, layoutIn, setInRecord}
+use Rattle.messages.specs.OrderPlaces.{isOrder, countIn, layoutIn, orderMost, setInRecord}
 use Rattle.messages.specs.FieldPlace.{set-same, selected-small, not-session}
 use Rattle.messages.specs.ByteLaws.{bytes-front, bytes-append, zero-byte, bytes-zeros, number-bytes}
 use Rattle.messages.specs.Taken.{TakenBothWays}
 use Rattle.messages.specs.ValidOrders.{orderOf, UnitFits, Required, Valid, messageSize, GoodFixed, GoodBits, chosenRecord}
 
--- ---- the four types
+-- ---- the types
 
--- what holds of the four types holds of every order of a direction
-pub by-direction : (direction message : ℕ) → orderOf direction message ≡ true → (P : ℕ → ℕ → Type 0) → P 0 0x38 → P 0 0x39 → P 1 0x25 → P 1 0x2C → P direction message
-by-direction direction message o P a b c d = by (eqb direction 0) refl (eqb direction 1) refl (eqb message 0x38) refl (eqb message 0x39) refl (eqb message 0x25) refl (eqb message 0x2C) refl o
+-- what holds of each type holds of every order of a direction
+pub by-direction : (direction message : ℕ) → orderOf direction message ≡ true → (P : ℕ → ℕ → Type 0) → P 0 0x38 → P 0 0x39 → P 1 0x25 → P 1 0x2C → P 1 0x26 → P 1 0x29 → P 1 0x2B
+    → P direction message
+by-direction direction message o P a b c d e f g =
+    either (eqb direction 0 && (eqb message 0x38 || eqb message 0x39))
+    (λ q.
+    let p = both-true (eqb direction 0) _ q in
+    either (eqb message 0x38) (at 0 0x38 a (p .0)) (at 0 0x39 b (p .0)) (p .1))
+    (λ q.
+    let p = both-true (eqb direction 1) _ q in
+    either (eqb message 0x25) (at 1 0x25 c (p .0))
+    (either (eqb message 0x2C) (at 1 0x2C d (p .0))
+    (either (eqb message 0x26) (at 1 0x26 e (p .0))
+    (either (eqb message 0x29) (at 1 0x29 f (p .0))
+    (at 1 0x2B g (p .0))))) (p .1))
+    o
   where
     at : (n x : ℕ) → P n x → eqb direction n ≡ true → eqb message x ≡ true → P direction message
     at n x h e f = subst (λ (i : ℕ). P i message) (sym (eqb-true direction n e)) (subst (P n) (sym (eqb-true message x f)) h)
 
-    by : (g : Bool) → eqb direction 0 ≡ g → (h : Bool) → eqb direction 1 ≡ h → (x : Bool) → eqb message 0x38 ≡ x → (y : Bool) → eqb message 0x39 ≡ y → (v : Bool) → eqb message 0x25 ≡ v → (w : Bool) → eqb message 0x2C ≡ w
-        → ((g && (x || y)) || (h && (v || w))) ≡ true → P direction message
-    by true eg h eh true ex y ey v ev w ew q = at 0 0x38 a eg ex
-    by true eg h eh false ex true ey v ev w ew q = at 0 0x39 b eg ey
-    by true eg true eh false ex false ey true ev w ew q = at 1 0x25 c eh ev
-    by true eg true eh false ex false ey false ev true ew q = at 1 0x2C d eh ew
-    by true eg true eh false ex false ey false ev false ew q = absurd (false≢true q)
-    by true eg false eh false ex false ey v ev w ew q = absurd (false≢true q)
-    by false eg true eh x ex y ey true ev w ew q = at 1 0x25 c eh ev
-    by false eg true eh x ex y ey false ev true ew q = at 1 0x2C d eh ew
-    by false eg true eh x ex y ey false ev false ew q = absurd (false≢true q)
-    by false eg false eh x ex y ey v ev w ew q = absurd (false≢true q)
-
--- the direction has the type, the type is known, and it takes the direction's units
+-- the direction has the type, the type is known, and it takes the units and numbers that fit it
 record Known (direction message : ℕ) : Type 0 where
   is-order : isOrder message ≡ true
   known : (ofMember message || ofVenue message) ≡ true
   carried : carries direction message ≡ true
-  unit-taken : (unit : ℕ) → UnitFits direction unit → unitGood message unit ≡ true
+  unit-taken : (unit number : ℕ) → UnitFits message unit number → unitGood message unit number ≡ true
 
 known-type : (direction message : ℕ) → orderOf direction message ≡ true → Known direction message
 unfolding carries unitGood
 known-type direction message o =
-    by-direction direction message o Known (member 0x38 refl refl refl (λ u. refl)) (member 0x39 refl refl refl (λ u. refl)) (venue 0x25 refl refl refl (λ u. refl)) (venue 0x2C refl refl refl (λ u. refl))
+    by-direction direction message o Known (member 0x38 refl refl refl refl (λ u n. refl)) (member 0x39 refl refl refl refl (λ u n. refl))
+    (counted 0x25 refl refl refl refl (λ u n. refl)) (counted 0x2C refl refl refl refl (λ u n. refl))
+    (aside 0x26 refl refl refl refl (λ u n. refl)) (aside 0x29 refl refl refl refl (λ u n. refl)) (aside 0x2B refl refl refl refl (λ u n. refl))
   where
-    member : (x : ℕ) → isOrder x ≡ true → (ofMember x || ofVenue x) ≡ true → carries 0 x ≡ true → ((u : ℕ) → unitGood x u ≡ eqb u 0) → Known 0 x
-    member x i k c g = record { is-order = i; known = k; carried = c; unit-taken = λ u f. g u ∙ eq-eqb u 0 (f .of-member refl) }
+    member : (x : ℕ) → isOrder x ≡ true → (ofMember x || ofVenue x) ≡ true → carries 0 x ≡ true → ofMember x ≡ true → ((u n : ℕ) → unitGood x u n ≡ eqb u 0) → Known 0 x
+    member x i k c m g = record { is-order = i; known = k; carried = c; unit-taken = λ u n f. g u n ∙ eq-eqb u 0 (f .of-member m) }
 
-    venue : (x : ℕ) → isOrder x ≡ true → (ofMember x || ofVenue x) ≡ true → carries 1 x ≡ true → ((u : ℕ) → unitGood x u ≡ (leb 1 u && leb u 32)) → Known 1 x
-    venue x i k c g = record { is-order = i; known = k; carried = c; unit-taken = λ u f. g u ∙ ap₂ (λ (p q : Bool). p && q) (le-leb 1 u (f .of-venue refl)) (le-leb u 32 (f .at-most refl)) }
+    counted : (x : ℕ) → isOrder x ≡ true → (ofMember x || ofVenue x) ≡ true → carries 1 x ≡ true → sequenced x ≡ true → ((u n : ℕ) → unitGood x u n ≡ (leb 1 u && leb u 32)) → Known 1 x
+    counted x i k c m g = record {
+      is-order = i;
+      known = k;
+      carried = c;
+      unit-taken = λ u n f. g u n ∙ ap₂ (λ (p q : Bool). p && q) (le-leb 1 u (f .at-least m)) (le-leb u 32 (f .at-most m));
+    }
+
+    aside : (x : ℕ) → isOrder x ≡ true → (ofMember x || ofVenue x) ≡ true → carries 1 x ≡ true → unsequenced x ≡ true → ((u n : ℕ) → unitGood x u n ≡ (eqb u 0 && eqb n 0)) → Known 1 x
+    aside x i k c m g = record {
+      is-order = i;
+      known = k;
+      carried = c;
+      unit-taken = λ u n f. g u n ∙ ap₂ (λ (p q : Bool). p && q) (eq-eqb u 0 (f .no-unit m)) (eq-eqb n 0 (f .no-number m));
+    }
 
 -- ---- parts of a record
 
@@ -117,49 +132,49 @@ required-set message count bits q = by (eqb message 0x38) refl
 -- ---- A VALID RECORD
 
 module _ (direction : ℕ) (r : List ℕ) (long : recordSize ≤ length r) (v : Valid direction r) where
-  few : getD r countIn 0 ≤ 15
+  few : getD r countIn 0 ≤ mostBitfields
   few = omega (arith, v .count, most-bound (getD r 0 0))
 
   -- the bits that are set in the record's bytes are those that the writer goes by
-  same-set : (k : ℕ) → setInRecord r k ≡ selectedAt (getD r countIn 0) (take 15 (drop (countIn + 1) r)) k
+  same-set : (k : ℕ) → setInRecord r k ≡ selectedAt (getD r countIn 0) (take mostBitfields (drop (countIn + 1) r)) k
   same-set =
-      set-same countIn (getD r countIn 0) r (take 15 (drop (countIn + 1) r)) refl
-      (λ j h. sym (getD-drop (countIn + 1) r j 0) ∙ sym (getD-take 15 (drop (countIn + 1) r) j 0 (omega (arith, h, few))))
+      set-same countIn (getD r countIn 0) r (take mostBitfields (drop (countIn + 1) r)) refl
+      (λ j h. sym (getD-drop (countIn + 1) r j 0) ∙ sym (getD-take mostBitfields (drop (countIn + 1) r) j 0 (omega (arith, h, few))))
 
-  slots-zero : (i : ℕ) → Unselected (selectedAt (getD r countIn 0) (take 15 (drop (countIn + 1) r))) (entryAt (getD r 0 0)) i → getD (take layoutSize (drop layoutIn r)) i 0 ≡ 0
+  slots-zero : (i : ℕ) → Unselected (selectedAt (getD r countIn 0) (take mostBitfields (drop (countIn + 1) r))) (entryAt (getD r 0 0)) i → getD (take layoutSize (drop layoutIn r)) i 0 ≡ 0
   slots-zero i u =
       part-zero layoutSize layoutIn r long i (λ m. v .zero-elsewhere i m (λ k w p kind e q. u k w p kind (sym (same-set k) ∙ e) q))
 
-  slots-agree : AllAgree (selectedAt (getD r countIn 0) (take 15 (drop (countIn + 1) r))) (entryAt (getD r 0 0)) (take layoutSize (drop layoutIn r))
+  slots-agree : AllAgree (selectedAt (getD r countIn 0) (take mostBitfields (drop (countIn + 1) r))) (entryAt (getD r 0 0)) (take layoutSize (drop layoutIn r))
   unfolding entryAt
   slots-agree k w p kind e q =
       ap (λ (l : List ℕ). agreesOf kind l) (part-of-front w p layoutSize (drop layoutIn r) (field-fits (getD r 0 0) (k / 8 + 1) (k % 8) q))
       ∙ v .agree k w p kind (same-set k ∙ e) q
 
-  sizes : sum takes (slotsOf (getD r 0 0) (getD r countIn 0) (take 15 (drop (countIn + 1) r))) ≡ widthsBefore (setInRecord r) (entryAt (getD r 0 0)) allPlaces
+  sizes : sum takes (slotsOf (getD r 0 0) (getD r countIn 0) (take mostBitfields (drop (countIn + 1) r))) ≡ widthsBefore (setInRecord r) (entryAt (getD r 0 0)) allPlaces
   sizes =
-      takes-all (selectedAt (getD r countIn 0) (take 15 (drop (countIn + 1) r))) (entryAt (getD r 0 0)) allPlaces
-      ∙ sym (widths-same (setInRecord r) (selectedAt (getD r countIn 0) (take 15 (drop (countIn + 1) r))) (entryAt (getD r 0 0)) same-set allPlaces)
+      takes-all (selectedAt (getD r countIn 0) (take mostBitfields (drop (countIn + 1) r))) (entryAt (getD r 0 0)) allPlaces
+      ∙ sym (widths-same (setInRecord r) (selectedAt (getD r countIn 0) (take mostBitfields (drop (countIn + 1) r))) (entryAt (getD r 0 0)) same-set allPlaces)
 
-  -- a message with bitfields is at most 239 bytes
-  pub at-most-239 : messageSize r ≤ 239
-  at-most-239 =
-      let ss = slotsOf (getD r 0 0) (getD r countIn 0) (take 15 (drop (countIn + 1) r)) in
-      omega (arith, sizes, few, takes-below ss, widths-fit (getD r 0 0) (getD r countIn 0) (take 15 (drop (countIn + 1) r)), count-bounds (getD r 0 0) .high)
+  -- a message with bitfields has no more bytes than the longest
+  pub no-longer : messageSize r ≤ orderMost
+  no-longer =
+      let ss = slotsOf (getD r 0 0) (getD r countIn 0) (take mostBitfields (drop (countIn + 1) r)) in
+      omega (arith, sizes, few, takes-below ss, widths-fit (getD r 0 0) (getD r countIn 0) (take mostBitfields (drop (countIn + 1) r)), count-bounds (getD r 0 0) .high)
 
   fits : (room : ℕ) → messageSize r ≤ room → Fit (recordAt r) room
   unfolding recordAt writeSlots sizeOf
   fits room roomy =
       let message = getD r 0 0 in
-      let set = selectedAt (getD r countIn 0) (take 15 (drop (countIn + 1) r)) in
+      let set = selectedAt (getD r countIn 0) (take mostBitfields (drop (countIn + 1) r)) in
       let slots = take layoutSize (drop layoutIn r) in
       let start = before-none (entryAt message) in
       record {
         known = known-type direction message (v .type) .known;
-        unit = known-type direction message (v .type) .unit-taken (getD r 1 0) (v .unit);
+        unit = known-type direction message (v .type) .unit-taken (getD r 1 0) (numberAt 4 2 r) (v .unit);
         count = v .count;
         listed = no-bad-slot set (entryAt message) (λ k e q. v .listed k (same-set k ∙ e) q) allPlaces 0;
-        required = required-set message (getD r countIn 0) (take 15 (drop (countIn + 1) r))
+        required = required-set message (getD r countIn 0) (take mostBitfields (drop (countIn + 1) r))
             (record {
               symbol = λ o. sym (same-set 8) ∙ v .required .symbol o;
               capacity = λ o. sym (same-set 14) ∙ v .required .capacity o;
@@ -168,10 +183,10 @@ module _ (direction : ℕ) (r : List ℕ) (long : recordSize ≤ length r) (v : 
         fixed = v .fixed;
         agree = ap (λ (n : ℕ). agreeHeld (slotsFrom set (entryAt message) allPlaces 0) (drop n slots)) (sym start) ∙ selected-agree set (entryAt message) layoutSize (dictionary-placed message) slots slots-agree allPlaces 0 (omega arith);
         zero-fixed = zero-from fixedSize 6 (countAt message - 10) r (omega arith) (λ i l m. v .zero-after-fixed i (omega (arith, count-bounds message .low)) (omega arith));
-        zero-bits = zero-from 15 (countIn + 1) (getD r countIn 0) r (omega arith) (λ i l m. v .zero-after-bits i l m);
+        zero-bits = zero-from mostBitfields (countIn + 1) (getD r countIn 0) r (omega arith) (λ i l m. v .zero-after-bits i l m);
         zero-slots =
             ap (λ (n : ℕ). zeroElsewhere (slotsFrom set (entryAt message) allPlaces 0) (drop n slots)) (sym start)
-            ∙ zero-where-unset set (entryAt message) layoutSize (dictionary-placed message) slots (λ j e. selected-small (getD r countIn 0) (take 15 (drop (countIn + 1) r)) j e few) slots-zero allPlaces 0 refl;
+            ∙ zero-where-unset set (entryAt message) layoutSize (dictionary-placed message) slots (λ j e. selected-small (getD r countIn 0) (take mostBitfields (drop (countIn + 1) r)) j e few) slots-zero allPlaces 0 refl;
         has-room = omega (arith, sizes);
       }
 
@@ -198,20 +213,21 @@ a-valid-record-is-taken direction r out bytes long v room =
 
 -- types and units are bytes
 type-byte : (direction message : ℕ) → orderOf direction message ≡ true → message < 256
-type-byte direction message o = by-direction direction message o (λ (d x : ℕ). x < 256) (omega arith) (omega arith) (omega arith) (omega arith)
+type-byte direction message o = by-direction direction message o (λ (d x : ℕ). x < 256) (omega arith) (omega arith) (omega arith) (omega arith) (omega arith) (omega arith) (omega arith)
 
-unit-byte : (direction message unit : ℕ) → orderOf direction message ≡ true → UnitFits direction unit → unit < 256
-unit-byte direction message unit o =
-    by-direction direction message o (λ (d x : ℕ). UnitFits d unit → unit < 256) (λ f. member (f .of-member refl)) (λ f. member (f .of-member refl)) (λ f. venue (f .at-most refl)) (λ f. venue (f .at-most refl))
+unit-byte : (direction message unit number : ℕ) → orderOf direction message ≡ true → UnitFits message unit number → unit < 256
+unit-byte direction message unit number o =
+    by-direction direction message o (λ (d x : ℕ). UnitFits x unit number → unit < 256) (λ f. none (f .of-member refl)) (λ f. none (f .of-member refl)) (λ f. some (f .at-most refl)) (λ f. some (f .at-most refl))
+    (λ f. none (f .no-unit refl)) (λ f. none (f .no-unit refl)) (λ f. none (f .no-unit refl))
   where
-    member : unit ≡ 0 → unit < 256
-    member e = omega arith
+    none : unit ≡ 0 → unit < 256
+    none e = omega arith
 
-    venue : unit ≤ 32 → unit < 256
-    venue h = omega arith
+    some : unit ≤ 32 → unit < 256
+    some h = omega arith
 
 module _ (direction message unit number : ℕ) (fixed : List ℕ) (count : ℕ) (bits : List ℕ)
-    (type : orderOf direction message ≡ true) (unit-fits : UnitFits direction unit) (any : number < 4294967296) (f : GoodFixed message fixed) (b : GoodBits message count bits) where
+    (type : orderOf direction message ≡ true) (unit-fits : UnitFits message unit number) (any : number < 4294967296) (f : GoodFixed message fixed) (b : GoodBits message count bits) where
   the-record : Record
   the-record = record { message = message; unit = unit; number = number; fixed = fixed; count = count; bits = bits; slots = zeros layoutSize }
 
@@ -230,14 +246,14 @@ module _ (direction message unit number : ℕ) (fixed : List ℕ) (count : ℕ) 
   unfolding stored the-record chosenRecord
   long = record-length the-record sound
 
-  few-bits : count ≤ 15
+  few-bits : count ≤ mostBitfields
   few-bits = omega (arith, b .few, most-bound message)
 
   stored-bytes : Bytes stored
   unfolding stored chosenRecord recordBytes
   stored-bytes =
       bytes-append (message ∷ unit ∷ bytesOf 4 number) (fixed ++ (count ∷ (bits ++ zeros layoutSize)))
-      (bytes-front message (unit ∷ bytesOf 4 number) (type-byte direction message type) (bytes-front unit (bytesOf 4 number) (unit-byte direction message unit type unit-fits) (number-bytes 4 number)))
+      (bytes-front message (unit ∷ bytesOf 4 number) (type-byte direction message type) (bytes-front unit (bytesOf 4 number) (unit-byte direction message unit number type unit-fits) (number-bytes 4 number)))
       (bytes-append fixed (count ∷ (bits ++ zeros layoutSize)) (f .bytes)
       (bytes-front count (bits ++ zeros layoutSize) (omega (arith, few-bits)) (bytes-append bits (zeros layoutSize) (b .bytes) (bytes-zeros layoutSize))))
 
@@ -249,6 +265,10 @@ module _ (direction message unit number : ℕ) (fixed : List ℕ) (count : ℕ) 
   unfolding recordAt the-record
   unit-is = ap (λ (x : Record). x .unit) held
 
+  number-is : numberAt 4 2 stored ≡ number
+  unfolding recordAt the-record
+  number-is = ap (λ (x : Record). x .number) held
+
   count-is : getD stored countIn 0 ≡ count
   unfolding recordAt the-record
   count-is = ap (λ (x : Record). x .count) held
@@ -257,7 +277,7 @@ module _ (direction message unit number : ℕ) (fixed : List ℕ) (count : ℕ) 
   unfolding recordAt the-record
   fixed-is = ap (λ (x : Record). x .fixed) held
 
-  bits-are : take 15 (drop (countIn + 1) stored) ≡ bits
+  bits-are : take mostBitfields (drop (countIn + 1) stored) ≡ bits
   unfolding recordAt the-record
   bits-are = ap (λ (x : Record). x .bits) held
 
@@ -270,7 +290,7 @@ module _ (direction message unit number : ℕ) (fixed : List ℕ) (count : ℕ) 
   in-part n a i l e h = sym (getD-drop a stored i 0) ∙ sym (getD-take n (drop a stored) i 0 h) ∙ ap (λ (x : List ℕ). getD x i 0) e
 
   set-is : (k : ℕ) → setInRecord stored k ≡ selectedAt count bits k
-  set-is = set-same countIn count stored bits count-is (λ j h. in-part 15 (countIn + 1) j bits bits-are (omega (arith, few-bits)))
+  set-is = set-same countIn count stored bits count-is (λ j h. in-part mostBitfields (countIn + 1) j bits bits-are (omega (arith, few-bits)))
 
   layout-zero : (i : ℕ) → i < layoutSize → getD stored (layoutIn + i) 0 ≡ 0
   layout-zero i h = in-part layoutSize layoutIn i (zeros layoutSize) slots-are h ∙ zero-byte layoutSize i
@@ -285,14 +305,14 @@ module _ (direction message unit number : ℕ) (fixed : List ℕ) (count : ℕ) 
 
   after-bits : (i : ℕ) → countIn + 1 + count ≤ i → i < layoutIn → getD stored i 0 ≡ 0
   after-bits i l h =
-      let e : countIn + 1 + (i - 66) ≡ i = omega arith in
-      ap (λ (n : ℕ). getD stored n 0) (sym e) ∙ in-part 15 (countIn + 1) (i - 66) bits bits-are (omega arith) ∙ b .ends (i - 66) (omega arith)
+      let e : countIn + 1 + (i - bitsPlace) ≡ i = omega arith in
+      ap (λ (n : ℕ). getD stored n 0) (sym e) ∙ in-part mostBitfields (countIn + 1) (i - bitsPlace) bits bits-are (omega arith) ∙ b .ends (i - bitsPlace) (omega arith)
 
   valid : Valid direction stored
   unfolding entryAt
   valid = record {
     type = ap (λ (x : ℕ). orderOf direction x) type-is ∙ type;
-    unit = subst (UnitFits direction) (sym unit-is) unit-fits;
+    unit = rw (type-is, unit-is, number-is) unit-fits;
     fixed = ap₂ fixedGood type-is fixed-is ∙ f .good;
     count = rw (count-is, type-is) (b .few);
     listed = λ k e q. b .listed k (sym (set-is k) ∙ e) (ap (λ (x : ℕ). entryAt x k) (sym type-is) ∙ q);
@@ -307,8 +327,8 @@ module _ (direction message unit number : ℕ) (fixed : List ℕ) (count : ℕ) 
     zero-elsewhere = λ i h u. layout-zero i h;
   }
 
-  -- EVERY CHOICE IS TAKEN, into any output buffer of 239 bytes or more
-  pub every-choice-is-taken : (out : List ℕ) → 239 ≤ length out → TakenBothWays direction (chosenRecord message unit number fixed count bits) out
+  -- EVERY CHOICE IS TAKEN, into any output buffer that has room for the longest
+  pub every-choice-is-taken : (out : List ℕ) → orderMost ≤ length out → TakenBothWays direction (chosenRecord message unit number fixed count bits) out
   unfolding stored
   every-choice-is-taken out room =
-      a-valid-record-is-taken direction stored out stored-bytes (omega (arith, long)) valid (omega (arith, at-most-239 direction stored (omega (arith, long)) valid))
+      a-valid-record-is-taken direction stored out stored-bytes (omega (arith, long)) valid (omega (arith, no-longer direction stored (omega (arith, long)) valid))

@@ -26,10 +26,10 @@ use Rattle.block.specs.Places.{bitSet, selectedAt, entryAt, slotsOf}
 use Rattle.block.specs.FieldPlaces.{widthsBefore}
 use Rattle.block.specs.FieldPlaceLaws.{widths-same, field-held, field-sent, field-stands}
 use Rattle.block.specs.Dictionaries.{widths-fit}
-use Rattle.block.specs.Sizes.{allPlaces, layoutSize, recordSize}
+use Rattle.block.specs.Sizes.{allPlaces, layoutSize, recordSize, mostBitfields}
 use Rattle.orders.specs.Shapes.{countAt}
 use Rattle.orders.specs.Orders.{writeSlots, sizeOf, orderBytes, writeRefusal}
-use Rattle.orders.specs.OrderLaws.{count-bounds, most-bound, fit}
+use Rattle.orders.specs.OrderLaws.{count-bounds, most-bound, fit, either}
 use Rattle.orders.specs.RoundTrip.{parts-count, parts-bits, parts-rest, Sound, bytes-length, framed-after, framed-as-written}
 use Rattle.orders.specs.RoundTrip as orderTrip
 use Rattle.orders.specs.Orders as orders
@@ -54,7 +54,7 @@ set-same at c s bits e h k =
     by false q = refl
 
 -- a place that is selected is one of the count's bitfields
-pub selected-small : (c : ℕ) (bits : List ℕ) (k : ℕ) → selectedAt c bits k ≡ true → c ≤ 15 → k < allPlaces
+pub selected-small : (c : ℕ) (bits : List ℕ) (k : ℕ) → selectedAt c bits k ≡ true → c ≤ mostBitfields → k < allPlaces
 unfolding selectedAt
 selected-small c bits k e h =
     let l : k / 8 < c = ltb-true (k / 8) c (both-true (ltb (k / 8) c) (bitSet (getD bits (k / 8) 0) (k % 8)) e .0) in
@@ -66,7 +66,7 @@ module _ (r : Record) (room : ℕ) (ok : Sound r) (z : writeRefusal r room ≡ 0
   low : 10 ≤ countAt (r .message)
   low = omega (arith, count-bounds (r .message) .low)
 
-  few : r .count ≤ 15
+  few : r .count ≤ mostBitfields
   few = omega (arith, fit r room z .count, most-bound (r .message))
 
   fixed-long : length (take (countAt (r .message) - 10) (r .fixed)) ≡ countAt (r .message) - 10
@@ -126,7 +126,7 @@ module _ (r : Record) (room : ℕ) (ok : Sound r) (z : writeRefusal r room ≡ 0
   unfolding recordAt
   count-held = ap (λ (x : Record). x .count) held
 
-  bits-held : take 15 (drop (countIn + 1) b) ≡ r .bits
+  bits-held : take mostBitfields (drop (countIn + 1) b) ≡ r .bits
   unfolding recordAt
   bits-held = ap (λ (x : Record). x .bits) held
 
@@ -139,7 +139,7 @@ module _ (r : Record) (room : ℕ) (ok : Sound r) (z : writeRefusal r room ≡ 0
       set-same countIn (r .count) b (r .bits) count-held
       (λ j h.
       sym (getD-drop (countIn + 1) b j 0)
-      ∙ sym (getD-take 15 (drop (countIn + 1) b) j 0 (omega (arith, h, few)))
+      ∙ sym (getD-take mostBitfields (drop (countIn + 1) b) j 0 (omega (arith, h, few)))
       ∙ ap (λ (l : List ℕ). getD l j 0) bits-held)
 
   total-is : totalOf m ≡ countAt (r .message) + 1 + r .count + sum takes (slotsOf (r .message) (r .count) (r .bits))
@@ -195,25 +195,25 @@ module _ (r : Record) (room : ℕ) (ok : Sound r) (z : writeRefusal r room ≡ 0
       same-bytes = in-fields ∙ in-layout;
     }
 
--- ---- the four types
+-- ---- the types
 
--- what holds of the four types holds of every order
-pub by-type : (message : ℕ) → isOrder message ≡ true → (P : ℕ → Type 0) → P 0x38 → P 0x39 → P 0x25 → P 0x2C → P message
-by-type message o P a b c d = by (eqb message 0x38) refl (eqb message 0x39) refl (eqb message 0x25) refl (eqb message 0x2C) refl o
+-- what holds of each type holds of every order
+pub by-type : (message : ℕ) → isOrder message ≡ true → (P : ℕ → Type 0) → P 0x38 → P 0x39 → P 0x25 → P 0x2C → P 0x26 → P 0x29 → P 0x2B → P message
+by-type message o P a b c d e f g =
+    either (eqb message 0x38) (at 0x38 a)
+    (either (eqb message 0x39) (at 0x39 b)
+    (either (eqb message 0x25) (at 0x25 c)
+    (either (eqb message 0x2C) (at 0x2C d)
+    (either (eqb message 0x26) (at 0x26 e)
+    (either (eqb message 0x29) (at 0x29 f)
+    (at 0x2B g)))))) o
   where
     at : (x : ℕ) → P x → eqb message x ≡ true → P message
     at x h e = subst P (sym (eqb-true message x e)) h
 
-    by : (x : Bool) → eqb message 0x38 ≡ x → (y : Bool) → eqb message 0x39 ≡ y → (v : Bool) → eqb message 0x25 ≡ v → (w : Bool) → eqb message 0x2C ≡ w → (x || (y || (v || w))) ≡ true → P message
-    by true e y f v g w h q = at 0x38 a e
-    by false e true f v g w h q = at 0x39 b f
-    by false e false f true g w h q = at 0x25 c g
-    by false e false f false g true h q = at 0x2C d h
-    by false e false f false g false h q = absurd (false≢true q)
-
 -- an order is no session message
 pub not-session : (message : ℕ) → isOrder message ≡ true → isSession message ≡ false
-not-session message o = by-type message o (λ (x : ℕ). isSession x ≡ false) refl refl refl refl
+not-session message o = by-type message o (λ (x : ℕ). isSession x ≡ false) refl refl refl refl refl refl refl
 
 -- ---- READING
 

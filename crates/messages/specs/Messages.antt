@@ -30,7 +30,7 @@ carries direction message =
     (cond (eqb direction 1) (orderTypes.ofVenue message || sessions.ofVenue message)
     false)
 
--- the size of a type's record: 439 bytes of a session message, 235 of an order
+-- the size of a type's record: that of a session message's, or of an order's
 unfoldable pub recordSizeOf : ℕ → ℕ
 recordSizeOf message = cond (isSession message) sessionRecordSize recordSize
 

@@ -1,4 +1,4 @@
--- Where the parts of an order stand: in its message, and in its record of 235 bytes. Definitions alone. Assumes nothing.
+-- Where the parts of an order stand: in its message, and in its record. Definitions alone. Assumes nothing.
 use mathlib.Core.Path.{_≡_}
 use mathlib.Core.Bool.{Bool, true, _&&_, _||_}
 use mathlib.Core.List.{List}
@@ -8,19 +8,24 @@ use lib.ListN.{getD, take, drop}
 use Rattle.wire.specs.Header.{typeOf, totalOf}
 use Rattle.block.specs.Places.{bitSet, entryAt}
 use Rattle.block.specs.FieldPlaces.{widthsBefore}
-use Rattle.block.specs.Sizes.{recordSize}
+use Rattle.block.specs.Sizes.{fixedEnd, mostBitfields, layoutSize, countPlace, slotsPlace, recordSize}
 use Rattle.orders.specs.Shapes.{countAt}
 
--- the types that have bitfields: New Order, Cancel Order, Order Acknowledgment, Order Execution
+-- the types that have bitfields: New Order, Cancel Order, Order Acknowledgment, Order Execution, Order Rejected, User Modify Rejected, Cancel Rejected
 abbrev pub isOrder : ℕ → Bool
-isOrder message = eqb message 0x38 || (eqb message 0x39 || (eqb message 0x25 || eqb message 0x2C))
+isOrder message =
+    eqb message 0x38 || (eqb message 0x39 || (eqb message 0x25 || (eqb message 0x2C || (eqb message 0x26 || (eqb message 0x29 || eqb message 0x2B)))))
 
 -- where a record has its count of bitfields, the bitfields after it; and where its full layout begins
 abbrev pub countIn : ℕ
-countIn = 65
+countIn = countPlace
 
 abbrev pub layoutIn : ℕ
-layoutIn = 81
+layoutIn = slotsPlace
+
+-- the most bytes of a message with bitfields: the longest fixed part, its count, and all that a record has of bitfields and fields
+abbrev pub orderMost : ℕ
+orderMost = fixedEnd + 1 + mostBitfields + layoutSize
 
 -- whether the bit of place k, which is bit k % 8 of bitfield byte k / 8 + 1, is set in bytes that have the count of bitfields at `at` and the
 -- bitfields after it; only as many bytes as the count tells are bitfields

@@ -6,7 +6,7 @@
 use mathlib.Core.Path.{_≡_, refl, sym, ap, ap₂, _∙_, subst}
 use mathlib.Core.Bool.{Bool, true, false, _||_, false≢true}
 use mathlib.Core.List.{List, _∷_, _++_}
-use Prim.Native.Nat.{ℕ, zero, suc, _+_, _≤_, _<_}
+use Prim.Native.Nat.{ℕ, zero, suc, _+_, _-_, _≤_, _<_}
 use native.Mathlib.Omega.{arith}
 use lib.ListN.{length, getD}
 use Rattle.dictionary.specs.declared.Entry.{Entry}
@@ -16,16 +16,17 @@ use Rattle.wire.specs.HeaderLaws.{Bytes}
 use Rattle.block.specs.Slots.{zeros, slot, badSlot, anyBad}
 use Rattle.block.specs.Places.{selectedAt, entryAt, slotsFrom, slotsOf}
 use Rattle.block.specs.FieldPlaces.{AllListed}
-use Rattle.block.specs.Sizes.{allPlaces}
+use Rattle.block.specs.Sizes.{fixedSize, fixedEnd, mostBitfields, allPlaces}
 use Rattle.orders.specs.Shapes.{countAt, mostOf, fixedGood}
 use Rattle.messages.specs.ByteLaws.{bytes-front, bytes-append, bytes-zeros, below, bytes-below, ends-at}
+use Rattle.messages.specs.OrderPlaces.{orderMost}
 use Rattle.messages.specs.Taken.{TakenBothWays}
 use Rattle.messages.specs.ValidOrders.{orderOf, UnitFits, GoodFixed, GoodBits, chosenRecord, sampleFixed, allBits}
 use Rattle.messages.specs.FieldPlace.{selected-small}
 use Rattle.messages.specs.EveryChoice.{by-direction, every-choice-is-taken}
 
-venue-bytes : Bytes (zeros 8 ++ (65 ∷ zeros 50))
-venue-bytes = bytes-append (zeros 8) (65 ∷ zeros 50) (bytes-zeros 8) (bytes-front 65 (zeros 50) (omega arith) (bytes-zeros 50))
+venue-bytes : Bytes (zeros 8 ++ (65 ∷ zeros (fixedSize - 9)))
+venue-bytes = bytes-append (zeros 8) (65 ∷ zeros (fixedSize - 9)) (bytes-zeros 8) (bytes-front 65 (zeros (fixedSize - 9)) (omega arith) (bytes-zeros (fixedSize - 9)))
 
 -- A FIXED PART IS GOOD: there is one of each type
 pub a-fixed-part-is-good : (direction message : ℕ) → orderOf direction message ≡ true → GoodFixed message (sampleFixed message)
@@ -34,28 +35,38 @@ a-fixed-part-is-good direction message o =
     by-direction direction message o (λ (d x : ℕ). GoodFixed x (sampleFixed x))
     (record {
       whole = refl;
-      bytes = bytes-append (65 ∷ zeros 19) (49 ∷ 1 ∷ zeros 37) (bytes-front 65 (zeros 19) (omega arith) (bytes-zeros 19)) (bytes-front 49 (1 ∷ zeros 37) (omega arith) (bytes-front 1 (zeros 37) (omega arith) (bytes-zeros 37)));
+      bytes = bytes-append (65 ∷ zeros 19) (49 ∷ 1 ∷ zeros (fixedSize - 22)) (bytes-front 65 (zeros 19) (omega arith) (bytes-zeros 19)) (bytes-front 49 (1 ∷ zeros (fixedSize - 22)) (omega arith) (bytes-front 1 (zeros (fixedSize - 22)) (omega arith) (bytes-zeros (fixedSize - 22))));
       good = refl;
-      ends = λ i h. ends-at 25 34 (65 ∷ zeros 19 ++ (49 ∷ 1 ∷ zeros 37)) refl i (omega arith);
+      ends = λ i h. ends-at 25 (fixedSize - 25) (65 ∷ zeros 19 ++ (49 ∷ 1 ∷ zeros (fixedSize - 22))) refl i (omega arith);
     })
     (record {
       whole = refl;
-      bytes = bytes-front 65 (zeros 58) (omega arith) (bytes-zeros 58);
+      bytes = bytes-front 65 (zeros (fixedSize - 1)) (omega arith) (bytes-zeros (fixedSize - 1));
       good = refl;
-      ends = λ i h. ends-at 20 39 (65 ∷ zeros 58) refl i (omega arith);
-    })
-    (record {
-      whole = refl;
-      bytes = venue-bytes;
-      good = refl;
-      ends = λ i h. ends-at 37 22 (zeros 8 ++ (65 ∷ zeros 50)) refl i (omega arith);
+      ends = λ i h. ends-at 20 (fixedSize - 20) (65 ∷ zeros (fixedSize - 1)) refl i (omega arith);
     })
     (record {
       whole = refl;
       bytes = venue-bytes;
       good = refl;
-      ends = λ i h. ends-at 59 0 (zeros 8 ++ (65 ∷ zeros 50)) refl i (omega arith);
+      ends = λ i h. ends-at 37 (fixedSize - 37) (zeros 8 ++ (65 ∷ zeros (fixedSize - 9))) refl i (omega arith);
     })
+    (record {
+      whole = refl;
+      bytes = venue-bytes;
+      good = refl;
+      ends = λ i h. ends-at 59 (fixedSize - 59) (zeros 8 ++ (65 ∷ zeros (fixedSize - 9))) refl i (omega arith);
+    })
+    (rejection 0x26 refl refl refl) (rejection 0x29 refl refl refl) (rejection 0x2B refl refl refl)
+  where
+    -- a rejection: its fixed part is the longest
+    rejection : (x : ℕ) → sampleFixed x ≡ zeros 8 ++ (65 ∷ zeros (fixedSize - 9)) → fixedGood x (sampleFixed x) ≡ true → countAt x ≡ fixedEnd → GoodFixed x (sampleFixed x)
+    rejection x e g n = record {
+      whole = ap length e;
+      bytes = subst Bytes (sym e) venue-bytes;
+      good = g;
+      ends = λ i h. ap (λ (l : List ℕ). getD l i 0) e ∙ ends-at fixedSize 0 (zeros 8 ++ (65 ∷ zeros (fixedSize - 9))) refl i (omega (arith, n, h));
+    }
 
 -- where no slot is bad, every set bit among them is listed
 none-bad-listed : (set : ℕ → Bool) (entry : ℕ → Entry) (n k : ℕ) → anyBad (slotsFrom set entry n k) ≡ false → (i : ℕ) → i < n → set (k + i) ≡ true → entry (k + i) ≡ Refused → ⊥
@@ -75,7 +86,7 @@ none-bad-listed set entry (suc n) k z (suc i) h e q =
     rest true b y = absurd (false≢true (sym y))
     rest false b y = y
 
-all-listed : (message count : ℕ) (bits : List ℕ) → count ≤ 15 → anyBad (slotsOf message count bits) ≡ false → AllListed (selectedAt count bits) (entryAt message)
+all-listed : (message count : ℕ) (bits : List ℕ) → count ≤ mostBitfields → anyBad (slotsOf message count bits) ≡ false → AllListed (selectedAt count bits) (entryAt message)
 all-listed message count bits few z k e q =
     let p : 0 + k ≡ k = omega arith in
     none-bad-listed (selectedAt count bits) (entryAt message) allPlaces 0 z k (selected-small count bits k e few) (ap (selectedAt count bits) p ∙ e) (ap (entryAt message) p ∙ q)
@@ -89,16 +100,19 @@ all-listed-bits-are-a-choice direction message o =
       whole = refl;
       bytes = bytes-below (allBits 0x38) refl;
       few = omega arith;
-      ends = ends-at 10 5 (allBits 0x38) refl;
+      ends = ends-at 10 (mostBitfields - 10) (allBits 0x38) refl;
       listed = all-listed 0x38 10 (allBits 0x38) (omega arith) refl;
       required = record { symbol = λ q. refl; capacity = λ q. refl; price-or-type = λ q. refl };
     })
-    (without 0x39 2 refl (λ q. omega (arith, q)) (omega arith) refl refl (ends-at 2 13 (allBits 0x39) refl) refl)
-    (without 0x25 15 refl (λ q. omega (arith, q)) (omega arith) refl refl (ends-at 15 0 (allBits 0x25) refl) refl)
-    (without 0x2C 15 refl (λ q. omega (arith, q)) (omega arith) refl refl (ends-at 15 0 (allBits 0x2C) refl) refl)
+    (without 0x39 2 refl (λ q. omega (arith, q)) (omega arith) refl refl (ends-at 2 (mostBitfields - 2) (allBits 0x39) refl) refl)
+    (without 0x25 15 refl (λ q. omega (arith, q)) (omega arith) refl refl (ends-at 15 (mostBitfields - 15) (allBits 0x25) refl) refl)
+    (without 0x2C 15 refl (λ q. omega (arith, q)) (omega arith) refl refl (ends-at 15 (mostBitfields - 15) (allBits 0x2C) refl) refl)
+    (without 0x26 19 refl (λ q. omega (arith, q)) (omega arith) refl refl (ends-at 19 (mostBitfields - 19) (allBits 0x26) refl) refl)
+    (without 0x29 19 refl (λ q. omega (arith, q)) (omega arith) refl refl (ends-at 19 (mostBitfields - 19) (allBits 0x29) refl) refl)
+    (without 0x2B 19 refl (λ q. omega (arith, q)) (omega arith) refl refl (ends-at 19 (mostBitfields - 19) (allBits 0x2B) refl) refl)
   where
     -- a type that requires no field
-    without : (x count : ℕ) → mostOf x ≡ count → (x ≡ 0x38 → ⊥) → count ≤ 15 → length (allBits x) ≡ 15 → below (allBits x) ≡ true → ((i : ℕ) → count ≤ i → getD (allBits x) i 0 ≡ 0)
+    without : (x count : ℕ) → mostOf x ≡ count → (x ≡ 0x38 → ⊥) → count ≤ mostBitfields → length (allBits x) ≡ mostBitfields → below (allBits x) ≡ true → ((i : ℕ) → count ≤ i → getD (allBits x) i 0 ≡ 0)
         → anyBad (slotsOf x count (allBits x)) ≡ false → GoodBits x (mostOf x) (allBits x)
     without x count e none few long small ends z =
         subst (λ (n : ℕ). GoodBits x n (allBits x)) (sym e)
@@ -112,7 +126,7 @@ all-listed-bits-are-a-choice direction message o =
         })
 
 -- AN ORDER OF EACH TYPE IS TAKEN
-pub an-order-of-each-type-is-taken : (direction message unit number : ℕ) → orderOf direction message ≡ true → UnitFits direction unit → number < 4294967296 → (out : List ℕ) → 239 ≤ length out
+pub an-order-of-each-type-is-taken : (direction message unit number : ℕ) → orderOf direction message ≡ true → UnitFits message unit number → number < 4294967296 → (out : List ℕ) → orderMost ≤ length out
     → TakenBothWays direction (chosenRecord message unit number (sampleFixed message) (mostOf message) (allBits message)) out
 an-order-of-each-type-is-taken direction message unit number o u n out h =
     every-choice-is-taken direction message unit number (sampleFixed message) (mostOf message) (allBits message) o u n (a-fixed-part-is-good direction message o) (all-listed-bits-are-a-choice direction message o) out h

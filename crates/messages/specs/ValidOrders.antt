@@ -3,27 +3,33 @@
 use mathlib.Core.Path.{_≡_}
 use mathlib.Core.Bool.{Bool, true, cond, _&&_, _||_}
 use mathlib.Core.List.{List, _∷_, _++_}
-use Prim.Native.Nat.{ℕ, _+_, _≤_, _<_}
+use Prim.Native.Nat.{ℕ, _+_, _-_, _≤_, _<_}
 use lib.Dec.{eqb}
 use lib.ListN.{length, getD, take, drop}
+use Rattle.numbers.specs.Numbers.{numberAt}
 use Rattle.wire.specs.HeaderLaws.{Bytes}
 use Rattle.block.specs.Slots.{zeros}
 use Rattle.block.specs.Places.{selectedAt, entryAt}
 use Rattle.block.specs.FieldPlaces.{widthsBefore, AllListed, AllAgree, Unselected}
-use Rattle.block.specs.Sizes.{fixedSize, allPlaces, layoutSize}
-use Rattle.orders.specs.Shapes.{countAt, mostOf, fixedGood}
+use Rattle.block.specs.Sizes.{fixedSize, mostBitfields, allPlaces, layoutSize}
+use Rattle.orders.specs.Shapes.{ofMember, sequenced, unsequenced, countAt, mostOf, fixedGood}
 use Rattle.order_records.specs.Records.{recordBytes}
 use Rattle.messages.specs.OrderPlaces.{countIn, layoutIn, setInRecord}
 
--- the types with bitfields of a direction: of 0, the member's, New Order and Cancel Order; of 1, the venue's, Order Acknowledgment and Order Execution
+-- the types with bitfields of a direction: of 0, the member's, New Order and Cancel Order; of 1, the venue's, Order Acknowledgment and Order Execution,
+-- which are sequenced, and Order Rejected, User Modify Rejected and Cancel Rejected, which are not
 abbrev pub orderOf : ℕ → ℕ → Bool
-orderOf direction message = (eqb direction 0 && (eqb message 0x38 || eqb message 0x39)) || (eqb direction 1 && (eqb message 0x25 || eqb message 0x2C))
+orderOf direction message =
+    (eqb direction 0 && (eqb message 0x38 || eqb message 0x39))
+    || (eqb direction 1 && (eqb message 0x25 || (eqb message 0x2C || (eqb message 0x26 || (eqb message 0x29 || eqb message 0x2B)))))
 
--- a member's message has unit 0, the venue's a unit 1 to 32
-pub record UnitFits (direction unit : ℕ) : Type 0 where
-  pub of-member : direction ≡ 0 → unit ≡ 0
-  pub of-venue : direction ≡ 1 → 1 ≤ unit
-  pub at-most : direction ≡ 1 → unit ≤ 32
+-- a member's message has unit 0 and any number; a sequenced one of the venue's a unit 1 to 32 and any number; an unsequenced one unit 0 and number 0
+pub record UnitFits (message unit number : ℕ) : Type 0 where
+  pub of-member : ofMember message ≡ true → unit ≡ 0
+  pub at-least : sequenced message ≡ true → 1 ≤ unit
+  pub at-most : sequenced message ≡ true → unit ≤ 32
+  pub no-unit : unsequenced message ≡ true → unit ≡ 0
+  pub no-number : unsequenced message ≡ true → number ≡ 0
 
 -- New Order requires Symbol (byte 2, bit 1), Capacity (byte 2, bit 64), and Price or OrdType (byte 1, bits 4 and 16)
 pub record Required (message : ℕ) (set : ℕ → Bool) : Type 0 where
@@ -31,11 +37,10 @@ pub record Required (message : ℕ) (set : ℕ → Bool) : Type 0 where
   pub capacity : message ≡ 0x38 → set 14 ≡ true
   pub price-or-type : message ≡ 0x38 → (set 2 || set 4) ≡ true
 
--- a record r: its type at 0, its unit at 1, its number, which may be any, at 2, its fixed part from 6 on, its count of bitfields at 65, the bitfields from
--- 66 on, its full layout from 81 on
+-- a record r: its type at 0, its unit at 1, its number at 2, its fixed part from 6 on, then its count of bitfields, the bitfields, its full layout
 pub record Valid (direction : ℕ) (r : List ℕ) : Type 0 where
   pub type : orderOf direction (getD r 0 0) ≡ true
-  pub unit : UnitFits direction (getD r 1 0)
+  pub unit : UnitFits (getD r 0 0) (getD r 1 0) (numberAt 4 2 r)
   pub fixed : fixedGood (getD r 0 0) (take fixedSize (drop 6 r)) ≡ true
   pub count : getD r countIn 0 ≤ mostOf (getD r 0 0)
   pub listed : AllListed (setInRecord r) (entryAt (getD r 0 0))
@@ -60,14 +65,14 @@ pub record GoodFixed (message : ℕ) (fixed : List ℕ) : Type 0 where
 
 -- bitfields, `count` of them with zeros after them, that set listed bits alone, the required ones among them
 pub record GoodBits (message count : ℕ) (bits : List ℕ) : Type 0 where
-  pub whole : length bits ≡ 15
+  pub whole : length bits ≡ mostBitfields
   pub bytes : Bytes bits
   pub few : count ≤ mostOf message
   pub ends : (i : ℕ) → count ≤ i → getD bits i 0 ≡ 0
   pub listed : AllListed (selectedAt count bits) (entryAt message)
   pub required : Required message (selectedAt count bits)
 
--- the record of such a choice,: every optional field, selected or not, is blank or zero
+-- the record of such a choice: every optional field, selected or not, is blank or zero
 unfoldable pub chosenRecord : ℕ → ℕ → ℕ → List ℕ → ℕ → List ℕ → List ℕ
 chosenRecord message unit number fixed count bits =
     recordBytes (record { message = message; unit = unit; number = number; fixed = fixed; count = count; bits = bits; slots = zeros layoutSize })
@@ -75,14 +80,17 @@ chosenRecord message unit number fixed count bits =
 -- a fixed part of each type: the identifier A, and in New Order the side 1 and the quantity 1; all else zero
 abbrev pub sampleFixed : ℕ → List ℕ
 sampleFixed message =
-    cond (eqb message 0x38) (65 ∷ zeros 19 ++ (49 ∷ 1 ∷ zeros 37))
-    (cond (eqb message 0x39) (65 ∷ zeros 58)
-    (zeros 8 ++ (65 ∷ zeros 50)))
+    cond (eqb message 0x38) (65 ∷ zeros 19 ++ (49 ∷ 1 ∷ zeros (fixedSize - 22)))
+    (cond (eqb message 0x39) (65 ∷ zeros (fixedSize - 1))
+    (zeros 8 ++ (65 ∷ zeros (fixedSize - 9))))
 
 -- all listed bits of each type at once
 abbrev pub allBits : ℕ → List ℕ
 allBits message =
-    cond (eqb message 0x38) (255 ∷ 195 ∷ 193 ∷ 0 ∷ 0 ∷ 51 ∷ 0 ∷ 0 ∷ 0 ∷ 2 ∷ zeros 5)
-    (cond (eqb message 0x39) (1 ∷ zeros 14)
-    (cond (eqb message 0x25) (125 ∷ 67 ∷ 87 ∷ 0 ∷ 142 ∷ zeros 10)
-    (125 ∷ 67 ∷ 87 ∷ zeros 12)))
+    cond (eqb message 0x38) (255 ∷ 195 ∷ 193 ∷ 0 ∷ 0 ∷ 51 ∷ 0 ∷ 0 ∷ 0 ∷ 2 ∷ zeros (mostBitfields - 10))
+    (cond (eqb message 0x39) (1 ∷ zeros (mostBitfields - 1))
+    (cond (eqb message 0x25) (125 ∷ 67 ∷ 87 ∷ 0 ∷ 142 ∷ zeros (mostBitfields - 5))
+    (cond (eqb message 0x2C) (125 ∷ 67 ∷ 87 ∷ zeros (mostBitfields - 3))
+    (cond (eqb message 0x26) (127 ∷ 67 ∷ 255 ∷ 0 ∷ 0 ∷ 25 ∷ 0 ∷ 126 ∷ zeros (mostBitfields - 8))
+    (cond (eqb message 0x2B) (127 ∷ 67 ∷ 0 ∷ 0 ∷ 0 ∷ 0 ∷ 0 ∷ 6 ∷ zeros (mostBitfields - 8))
+    (zeros mostBitfields))))))

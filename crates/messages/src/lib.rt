@@ -1,5 +1,5 @@
 // The two directions: one reader and one writer each, over all types of that direction. Direction 0 is from the member, 1 from the venue.
-// A record is the first bytes of a lent buffer, as many as its type's record has: 439 of a session message, 235 of an order.
+// A record is the first bytes of a lent buffer, as many as its type's record has: session_messages::RECORD of a session message, block::RECORD of an order.
 ghost use mathlib.Core.Path.{_≡_};
 ghost use mathlib.Core.List.{_++_};
 ghost use Prim.Native.Nat.{_-_, _≤_};

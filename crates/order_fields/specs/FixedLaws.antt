@@ -17,8 +17,8 @@ use Rattle.numbers.specs.NumberLaws.{length-bytesOf, put-is-there, read-of-writ
 use Rattle.numbers.specs.PriceLaws.{bits-fit, signed-back}
 use Rattle.orders.specs.declared.Record.{Record}
 use Rattle.order_fields.specs.declared.Found.{Found}
-use Rattle.order_fields.specs.Named.{found, nowhere, pick, fixedOf, numberIn, longIn, priceIn, bytesIn, text1In, text4In, text20In}
-use Rattle.order_fields.specs.Named.{numberFixed, longFixed, priceFixed, text1Fixed, text4Fixed, text20Fixed, choose, fixing, fixingOf}
+use Rattle.order_fields.specs.Named.{found, nowhere, pick, fixedOf, numberIn, longIn, priceIn, bytesIn, text1In, text4In, text20In, text60In}
+use Rattle.order_fields.specs.Named.{numberFixed, longFixed, priceFixed, text1Fixed, text4Fixed, text20Fixed, text60Fixed, choose, fixing, fixingOf}
 use Rattle.order_fields.specs.OtherLaws.{kept-after, kept-before}
 use Rattle.order_fields.specs.LocalLaws.{Local, got-alike}
 use Rattle.block.specs.Sizes.{fixedSize}
@@ -118,6 +118,12 @@ pub text20-fixed-is-got : {message at : ℕ} {r : Record} → Part message at 20
     → text20Fixed message at (fixingOf message at bytes r) ≡ record { selected = true; bytes = bytes }
 unfolding text20In
 text20-fixed-is-got {message} {at} {r} i bytes l =
+    ap₂ (λ (b : Bool) (s : List ℕ). record { selected = b; bytes = s }) (ap (λ (f : Found). f .selected) (fixed-is-found i bytes)) (fixed-is-held i bytes l)
+
+pub text60-fixed-is-got : {message at : ℕ} {r : Record} → Part message at 60 r → (bytes : List ℕ) → length bytes ≡ 60
+    → text60Fixed message at (fixingOf message at bytes r) ≡ record { selected = true; bytes = bytes }
+unfolding text60In
+text60-fixed-is-got {message} {at} {r} i bytes l =
     ap₂ (λ (b : Bool) (s : List ℕ). record { selected = b; bytes = s }) (ap (λ (f : Found). f .selected) (fixed-is-found i bytes)) (fixed-is-held i bytes l)
 
 -- ---- setting a field of the fixed part leaves every part of it that lies apart

@@ -11,14 +11,16 @@ use borrow.Author.Tests.{ltb-true, ltb-false}
 use Rattle.kinds.specs.declared.Kind.{Kind}
 use Rattle.dictionary.specs.declared.Entry.the-variants.{Field}
 use Rattle.dictionary.specs.Dictionary.{entryOf}
+use Rattle.block.specs.Sizes.{mostBitfields}
 use Rattle.orders.specs.declared.Record.{Record}
 use Rattle.order_fields.specs.declared.Found.{Found}
 use Rattle.order_fields.specs.Named.{found, nowhere, pick, placeIn, selectedOf, optionalOf, fixedOf, bytesIn}
-use Rattle.order_fields.specs.Named.{numberOf, longOf, priceOf, text1Of, text4Of, text8Of, text16Of, text64Of}
+use Rattle.order_fields.specs.Named.{shortOf, numberOf, longOf, priceOf, text1Of, text3Of, text4Of, text6Of, text8Of, text16Of, text64Of}
 use Rattle.order_fields.specs.Named.{choose, selecting, storing, settableOf, settingOf, fixingOf}
 use Rattle.order_fields.specs.NamedLaws.{placed, Listed}
 use Rattle.order_fields.specs.OtherLaws.{other-slot-kept}
-use Rattle.order_fields.specs.LocalLaws.{Local, got-alike, bytes-local, number-local, long-local, price-local, text1-local, text4-local, text8-local, text16-local, text64-local}
+use Rattle.order_fields.specs.LocalLaws.{Local, got-alike, bytes-local, short-local, number-local, long-local, price-local}
+use Rattle.order_fields.specs.LocalLaws.{text1-local, text3-local, text4-local, text6-local, text8-local, text16-local, text64-local}
 use Rattle.order_fields.specs.FixedLaws.{fixing-keeps-the-rest}
 use Rattle.order_fields.specs.SelectionLaws.{UnusedZero, other-selection-kept}
 
@@ -28,7 +30,7 @@ use Rattle.order_fields.specs.SelectionLaws.{UnusedZero, other-selection
 pub record Other (message byte bit byte′ bit′ w′ p′ : ℕ) (k′ : Kind) : Type 0 where
   pub listed : Field w′ k′ p′ ≡ entryOf message byte′ bit′
   pub from-one : 1 ≤ byte′
-  pub in-block : byte′ ≤ 15
+  pub in-block : byte′ ≤ mostBitfields
   pub low-bit : bit′ < 8
   pub elsewhere : byte ≡ byte′ → bit ≡ bit′ → ⊥
 
@@ -45,7 +47,7 @@ in-order : (byte bit byte′ bit′ : ℕ) → 1 ≤ byte → bit < 8 → 1 ≤ 
 in-order byte bit byte′ bit′ a b c d other =
     one-first (8 * (byte - 1) + bit) (8 * (byte′ - 1) + bit′) (λ e. other (omega (arith, a, b, c, d, e)) (omega (arith, a, b, c, d, e)))
 
-module _ {message byte bit w p : ℕ} {k : Kind} {r : Record} (i : Listed message byte bit w p k r) (small : byte ≤ 15) (unused : UnusedZero r) (bytes : List ℕ) (l : length bytes ≡ w) where
+module _ {message byte bit w p : ℕ} {k : Kind} {r : Record} (i : Listed message byte bit w p k r) (small : byte ≤ mostBitfields) (unused : UnusedZero r) (bytes : List ℕ) (l : length bytes ≡ w) where
   module _ {byte′ bit′ w′ p′ : ℕ} {k′ : Kind} (o : Other message byte bit byte′ bit′ w′ p′ k′) where
     -- it is selected as before, and stands where it stood
     pub other-found-kept : (width : ℕ) → optionalOf message byte′ bit′ width (settingOf message byte bit bytes r) ≡ optionalOf message byte′ bit′ width r
@@ -74,6 +76,9 @@ module _ {message byte bit w p : ℕ} {k : Kind} {r : Record} (i : Listed messag
     other-field-kept = other-answer-kept (bytes-local w′ p′)
 
   module _ {byte′ bit′ p′ : ℕ} {k′ : Kind} where
+    pub other-short-kept : Other message byte bit byte′ bit′ 2 p′ k′ → shortOf message byte′ bit′ (settingOf message byte bit bytes r) ≡ shortOf message byte′ bit′ r
+    other-short-kept o = other-answer-kept o (short-local p′)
+
     pub other-number-kept : Other message byte bit byte′ bit′ 4 p′ k′ → numberOf message byte′ bit′ (settingOf message byte bit bytes r) ≡ numberOf message byte′ bit′ r
     other-number-kept o = other-answer-kept o (number-local p′)
 
@@ -86,8 +91,14 @@ module _ {message byte bit w p : ℕ} {k : Kind} {r : Record} (i : Listed messag
     pub other-text1-kept : Other message byte bit byte′ bit′ 1 p′ k′ → text1Of message byte′ bit′ (settingOf message byte bit bytes r) ≡ text1Of message byte′ bit′ r
     other-text1-kept o = other-answer-kept o (text1-local p′)
 
+    pub other-text3-kept : Other message byte bit byte′ bit′ 3 p′ k′ → text3Of message byte′ bit′ (settingOf message byte bit bytes r) ≡ text3Of message byte′ bit′ r
+    other-text3-kept o = other-answer-kept o (text3-local p′)
+
     pub other-text4-kept : Other message byte bit byte′ bit′ 4 p′ k′ → text4Of message byte′ bit′ (settingOf message byte bit bytes r) ≡ text4Of message byte′ bit′ r
     other-text4-kept o = other-answer-kept o (text4-local p′)
+
+    pub other-text6-kept : Other message byte bit byte′ bit′ 6 p′ k′ → text6Of message byte′ bit′ (settingOf message byte bit bytes r) ≡ text6Of message byte′ bit′ r
+    other-text6-kept o = other-answer-kept o (text6-local p′)
 
     pub other-text8-kept : Other message byte bit byte′ bit′ 8 p′ k′ → text8Of message byte′ bit′ (settingOf message byte bit bytes r) ≡ text8Of message byte′ bit′ r
     other-text8-kept o = other-answer-kept o (text8-local p′)

@@ -9,7 +9,8 @@ use lib.Seq.{getD-take, getD-drop}
 use Rattle.numbers.specs.Numbers.{numberAt}
 use Rattle.numbers.specs.Prices.{signedOf}
 use Rattle.order_fields.specs.declared.Found.{Found}
-use Rattle.order_fields.specs.Named.{found, nowhere, pick, numberIn, longIn, priceIn, bytesIn, text1In, text4In, text8In, text16In, text20In, text64In}
+use Rattle.order_fields.specs.Named.{found, nowhere, pick, shortIn, numberIn, longIn, priceIn, bytesIn}
+use Rattle.order_fields.specs.Named.{text1In, text3In, text4In, text6In, text8In, text16In, text20In, text60In, text64In}
 
 -- what is got of a field of w bytes at p, from any two buffers that have the same bytes there
 pub record Local {A : Type 0} (get : Found → List ℕ → A) (w p : ℕ) : Type 0 where
@@ -47,6 +48,10 @@ same-number-there n p s t h = number-in-bytes n p s ∙ ap (numberAt n 0) h ∙ 
 pub bytes-local : (w p : ℕ) → Local (bytesIn w) w p
 bytes-local w p = record { where-found = λ s t h. h; where-not = λ s t. refl }
 
+pub short-local : (p : ℕ) → Local shortIn 2 p
+unfolding shortIn
+short-local p = record { where-found = λ s t h. ap (λ (x : ℕ). record { selected = true; value = x }) (same-number-there 2 p s t h); where-not = λ s t. refl }
+
 pub number-local : (p : ℕ) → Local numberIn 4 p
 unfolding numberIn
 number-local p = record { where-found = λ s t h. ap (λ (x : ℕ). record { selected = true; value = x }) (same-number-there 4 p s t h); where-not = λ s t. refl }
@@ -63,9 +68,17 @@ pub text1-local : (p : ℕ) → Local text1In 1 p
 unfolding text1In
 text1-local p = record { where-found = λ s t h. ap (λ (x : List ℕ). record { selected = true; bytes = x }) h; where-not = λ s t. refl }
 
+pub text3-local : (p : ℕ) → Local text3In 3 p
+unfolding text3In
+text3-local p = record { where-found = λ s t h. ap (λ (x : List ℕ). record { selected = true; bytes = x }) h; where-not = λ s t. refl }
+
 pub text4-local : (p : ℕ) → Local text4In 4 p
 unfolding text4In
 text4-local p = record { where-found = λ s t h. ap (λ (x : List ℕ). record { selected = true; bytes = x }) h; where-not = λ s t. refl }
+
+pub text6-local : (p : ℕ) → Local text6In 6 p
+unfolding text6In
+text6-local p = record { where-found = λ s t h. ap (λ (x : List ℕ). record { selected = true; bytes = x }) h; where-not = λ s t. refl }
 
 pub text8-local : (p : ℕ) → Local text8In 8 p
 unfolding text8In
@@ -78,6 +91,10 @@ text16-local p = record { where-found = λ s t h. ap (λ (x : List ℕ). record 
 pub text20-local : (p : ℕ) → Local text20In 20 p
 unfolding text20In
 text20-local p = record { where-found = λ s t h. ap (λ (x : List ℕ). record { selected = true; bytes = x }) h; where-not = λ s t. refl }
+
+pub text60-local : (p : ℕ) → Local text60In 60 p
+unfolding text60In
+text60-local p = record { where-found = λ s t h. ap (λ (x : List ℕ). record { selected = true; bytes = x }) h; where-not = λ s t. refl }
 
 pub text64-local : (p : ℕ) → Local text64In 64 p
 unfolding text64In

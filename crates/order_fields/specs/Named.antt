@@ -14,14 +14,18 @@ use Rattle.block.specs.Slots.{zeros}
 use Rattle.block.specs.Places.{bitSet}
 use Rattle.orders.specs.declared.Record.{Record}
 use Rattle.order_fields.specs.declared.Found.{Found}
+use Rattle.order_fields.specs.declared.ShortField.{ShortField}
 use Rattle.order_fields.specs.declared.NumberField.{NumberField}
 use Rattle.order_fields.specs.declared.LongField.{LongField}
 use Rattle.order_fields.specs.declared.PriceField.{PriceField}
 use Rattle.order_fields.specs.declared.Text1.{Text1}
+use Rattle.order_fields.specs.declared.Text3.{Text3}
 use Rattle.order_fields.specs.declared.Text4.{Text4}
+use Rattle.order_fields.specs.declared.Text6.{Text6}
 use Rattle.order_fields.specs.declared.Text8.{Text8}
 use Rattle.order_fields.specs.declared.Text16.{Text16}
 use Rattle.order_fields.specs.declared.Text20.{Text20}
+use Rattle.order_fields.specs.declared.Text60.{Text60}
 use Rattle.order_fields.specs.declared.Text64.{Text64}
 
 -- ---- where a field stands
@@ -59,6 +63,10 @@ fixedOf message at r = pick (eqb (r .message) message) (found at) nowhere
 
 -- ---- what is read there: 0 or zeros where the field is not selected
 
+-- a number of two bytes
+unfoldable pub shortIn : Found → List ℕ → ShortField
+shortIn f s = record { selected = f .selected; value = cond (f .selected) (numberAt 2 (f .at) s) 0 }
+
 -- a number of four bytes
 unfoldable pub numberIn : Found → List ℕ → NumberField
 numberIn f s = record { selected = f .selected; value = cond (f .selected) (numberAt 4 (f .at) s) 0 }
@@ -79,8 +87,14 @@ bytesIn width f s = cond (f .selected) (take width (drop (f .at) s)) (zeros widt
 unfoldable pub text1In : Found → List ℕ → Text1
 text1In f s = record { selected = f .selected; bytes = bytesIn 1 f s }
 
+unfoldable pub text3In : Found → List ℕ → Text3
+text3In f s = record { selected = f .selected; bytes = bytesIn 3 f s }
+
 unfoldable pub text4In : Found → List ℕ → Text4
 text4In f s = record { selected = f .selected; bytes = bytesIn 4 f s }
+
+unfoldable pub text6In : Found → List ℕ → Text6
+text6In f s = record { selected = f .selected; bytes = bytesIn 6 f s }
 
 unfoldable pub text8In : Found → List ℕ → Text8
 text8In f s = record { selected = f .selected; bytes = bytesIn 8 f s }
@@ -91,12 +105,18 @@ text16In f s = record { selected = f .selected; bytes = bytesIn 16 f s }
 unfoldable pub text20In : Found → List ℕ → Text20
 text20In f s = record { selected = f .selected; bytes = bytesIn 20 f s }
 
+unfoldable pub text60In : Found → List ℕ → Text60
+text60In f s = record { selected = f .selected; bytes = bytesIn 60 f s }
+
 unfoldable pub text64In : Found → List ℕ → Text64
 text64In f s = record { selected = f .selected; bytes = bytesIn 64 f s }
 
 -- ---- the optional fields, and those of the fixed part
 
 -- an optional field, by its message, bitfield byte and bit
+abbrev pub shortOf : ℕ → ℕ → ℕ → Record → ShortField
+shortOf message byte bit r = shortIn (optionalOf message byte bit 2 r) (r .slots)
+
 abbrev pub numberOf : ℕ → ℕ → ℕ → Record → NumberField
 numberOf message byte bit r = numberIn (optionalOf message byte bit 4 r) (r .slots)
 
@@ -109,8 +129,14 @@ priceOf message byte bit r = priceIn (optionalOf message byte bit 8 r) (r .slots
 abbrev pub text1Of : ℕ → ℕ → ℕ → Record → Text1
 text1Of message byte bit r = text1In (optionalOf message byte bit 1 r) (r .slots)
 
+abbrev pub text3Of : ℕ → ℕ → ℕ → Record → Text3
+text3Of message byte bit r = text3In (optionalOf message byte bit 3 r) (r .slots)
+
 abbrev pub text4Of : ℕ → ℕ → ℕ → Record → Text4
 text4Of message byte bit r = text4In (optionalOf message byte bit 4 r) (r .slots)
+
+abbrev pub text6Of : ℕ → ℕ → ℕ → Record → Text6
+text6Of message byte bit r = text6In (optionalOf message byte bit 6 r) (r .slots)
 
 abbrev pub text8Of : ℕ → ℕ → ℕ → Record → Text8
 text8Of message byte bit r = text8In (optionalOf message byte bit 8 r) (r .slots)
@@ -139,6 +165,9 @@ text4Fixed message at r = text4In (fixedOf message at r) (r .fixed)
 
 abbrev pub text20Fixed : ℕ → ℕ → Record → Text20
 text20Fixed message at r = text20In (fixedOf message at r) (r .fixed)
+
+abbrev pub text60Fixed : ℕ → ℕ → Record → Text60
+text60Fixed message at r = text60In (fixedOf message at r) (r .fixed)
 
 -- ---- a record in which a field is set
 

@@ -16,7 +16,7 @@ use Rattle.block.specs.Dictionaries.{before, before-grows, dictionary-placed, f
 use Rattle.orders.specs.declared.Record.{Record}
 use Rattle.order_fields.specs.Named.{settingOf}
 use Rattle.order_fields.specs.NamedLaws.{Listed, set-slots}
-use Rattle.block.specs.Sizes.{allPlaces}
+use Rattle.block.specs.Sizes.{mostBitfields, allPlaces}
 
 -- ---- bytes before and after those that are put
 
@@ -72,8 +72,8 @@ apart message i j {w} {p} {w′} {p′} h l e f =
 
 -- ---- setting a field leaves the slot of every other listed bit as it was
 
-module _ {message byte bit w p : ℕ} {k : Kind} {r : Record} (i : Listed message byte bit w p k r) (small : byte ≤ 15) where
-  pub other-slot-kept : (byte′ bit′ : ℕ) {w′ p′ : ℕ} {k′ : Kind} → Field w′ k′ p′ ≡ entryOf message byte′ bit′ → 1 ≤ byte′ → byte′ ≤ 15 → bit′ < 8
+module _ {message byte bit w p : ℕ} {k : Kind} {r : Record} (i : Listed message byte bit w p k r) (small : byte ≤ mostBitfields) where
+  pub other-slot-kept : (byte′ bit′ : ℕ) {w′ p′ : ℕ} {k′ : Kind} → Field w′ k′ p′ ≡ entryOf message byte′ bit′ → 1 ≤ byte′ → byte′ ≤ mostBitfields → bit′ < 8
       → (8 * (byte - 1) + bit < 8 * (byte′ - 1) + bit′) ⊎ (8 * (byte′ - 1) + bit′ < 8 * (byte - 1) + bit)
       → (bytes : List ℕ) → length bytes ≡ w
       → take w′ (drop p′ (settingOf message byte bit bytes r .slots)) ≡ take w′ (drop p′ (r .slots))

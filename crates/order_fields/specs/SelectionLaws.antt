@@ -16,6 +16,7 @@ use Rattle.block.specs.Slots.{zeros}
 use Rattle.block.specs.SlotLaws.{both-true, zeros-are-nul}
 use Rattle.block.specs.Places.{bitSet, selectedAt}
 use Rattle.block.specs.Loops.{nul-at}
+use Rattle.block.specs.Sizes.{mostBitfields}
 use Rattle.orders.specs.Shapes.{countAt}
 use Rattle.orders.specs.Orders.{countOf, bitsOf, readRefusal, recordOf, zeroUnused}
 use Rattle.orders.specs.OrderLaws.{good}
@@ -124,11 +125,11 @@ unfolding recordOf bitsOf
 unused-as-read m z =
     let t = drop (countAt (recordOf m .message) + 1) m in
     let n : countOf m ≤ length t = simp length-drop (omega (arith, good m z .there)) in
-    nul-past (bitsOf m) (countOf m) (ap allNul (drop-at (take (countOf m) t) (zeros (15 - countOf m)) (countOf m) (length-take-le (countOf m) t n)) ∙ zeros-are-nul (15 - countOf m))
+    nul-past (bitsOf m) (countOf m) (ap allNul (drop-at (take (countOf m) t) (zeros (mostBitfields - countOf m)) (countOf m) (length-take-le (countOf m) t n)) ∙ zeros-are-nul (mostBitfields - countOf m))
 
 -- a record whose bitfields are all zero
-pub unused-at-first : (r : Record) → r .bits ≡ zeros 15 → UnusedZero r
-unused-at-first r e j l = ap (λ (s : List ℕ). getD s j 0) e ∙ nul-at (zeros 15) (zeros-are-nul 15) j
+pub unused-at-first : (r : Record) → r .bits ≡ zeros mostBitfields → UnusedZero r
+unused-at-first r e j l = ap (λ (s : List ℕ). getD s j 0) e ∙ nul-at (zeros mostBitfields) (zeros-are-nul mostBitfields) j
 
 -- a record in which a field is set
 pub unused-stay-zero : (message byte bit : ℕ) (bytes : List ℕ) (r : Record) → 1 ≤ byte → UnusedZero r → UnusedZero (settingOf message byte bit bytes r)

@@ -1,10 +1,15 @@
 // A record's fields by name, read and set. A getter answers whether the field is selected, and its value: 0 or zeros where it is not.
-// In a record of another type no field is selected. A module for each message; `reading` has how a field is read, and how one is set stands here.
+// In a record of another type no field is selected. A module for each message; `reading` has how a field is read,
+// `values` what is read where it stands, and how one is set stands here.
 pub mod acknowledgment;
 pub mod cancel_order;
+pub mod cancel_rejection;
 pub mod execution;
+pub mod modify_rejection;
 pub mod new_order;
 mod reading;
+pub mod rejection;
+mod values;
 
 ghost use mathlib.Core.Path.{_≡_};
 ghost use Prim.Native.Nat.{_+_, _≤_, _<_};
@@ -14,7 +19,7 @@ ghost use Rattle.block.specs.Places.{bitSet};
 ghost use Rattle.order_fields.specs.Named.{placeIn, withBit, larger, selecting, storing, fixing, settableOf, settingOf, fixingOf};
 ghost use Rattle.numbers.specs.Numbers.{bytesOf, patched};
 ghost use Rattle.numbers.specs.Prices.{bitsOf};
-ghost use Rattle.block.specs.Sizes.{fixedSize, layoutSize};
+ghost use Rattle.block.specs.Sizes.{fixedSize, mostBitfields, layoutSize};
 use dictionary::Entry;
 use orders::Record;
 
@@ -22,6 +27,12 @@ use orders::Record;
 struct Found {
     selected: bool,
     at: usize,
+}
+
+// A number of two bytes.
+pub struct ShortField {
+    pub selected: bool,
+    pub value: u16,
 }
 
 // A number of four bytes.
@@ -48,10 +59,22 @@ pub struct Text1 {
     pub bytes: [u8; 1],
 }
 
+// A text of three bytes.
+pub struct Text3 {
+    pub selected: bool,
+    pub bytes: [u8; 3],
+}
+
 // A text of four bytes.
 pub struct Text4 {
     pub selected: bool,
     pub bytes: [u8; 4],
+}
+
+// A text of six bytes.
+pub struct Text6 {
+    pub selected: bool,
+    pub bytes: [u8; 6],
 }
 
 // A text of eight bytes.
@@ -70,6 +93,12 @@ pub struct Text16 {
 pub struct Text20 {
     pub selected: bool,
     pub bytes: [u8; 20],
+}
+
+// A text of 60 bytes.
+pub struct Text60 {
+    pub selected: bool,
+    pub bytes: [u8; 60],
 }
 
 // A text of 64 bytes.
@@ -139,7 +168,7 @@ fn larger_of(a: u8, b: u8) -> u8
 
 // The record with a bit set in its bitfields, and the count raised to its byte where it was less.
 fn with_selected(r: Record, byte: u8, bit: u8) -> Record
-    requires { ⌜ (1 ≤ byte) × (byte ≤ 15) × (bit < 8) ⌝ }
+    requires { ⌜ (1 ≤ byte) × (byte ≤ mostBitfields) × (bit < 8) ⌝ }
     ensures { λ o. ⌜ o ≡ selecting byte bit r ⌝ }
 {
     let mut bits = r.bits;
@@ -224,7 +253,7 @@ fn settable(r: Record, message: u8, byte: u8, bit: u8, width: usize) -> Found
 
 // The record with an optional field set.
 fn set_optional(r: Record, message: u8, byte: u8, bit: u8, bytes: &[u8]) -> Record
-    requires { ⌜ (1 ≤ byte) × (byte ≤ 15) × (bit < 8) × (length (now bytes) ≤ layoutSize) ⌝ }
+    requires { ⌜ (1 ≤ byte) × (byte ≤ mostBitfields) × (bit < 8) × (length (now bytes) ≤ layoutSize) ⌝ }
     ensures { λ o. ⌜ o ≡ settingOf message byte bit (now (bytes .entry)) r ⌝ }
 {
     let f = settable(r, message, byte, bit, bytes.len());
@@ -246,6 +275,11 @@ fn set_fixed(r: Record, message: u8, at: usize, bytes: &[u8]) -> Record
     r
 }
 
+// Two bytes.
+struct Bytes2 {
+    bytes: [u8; 2],
+}
+
 // Four bytes.
 struct Bytes4 {
     bytes: [u8; 4],
@@ -256,7 +290,16 @@ struct Bytes8 {
     bytes: [u8; 8],
 }
 
-// The bytes of a number of four bytes.
+// The bytes of a number of two bytes.
+fn little2(v: u16) -> Bytes2
+    ensures { λ b. ⌜ b .bytes ≡ bytesOf 2 v ⌝ }
+{
+    let mut bytes: [u8; 2] = [0; 2];
+    numbers::write_u16(&mut bytes, 0, v);
+    Bytes2 { bytes: bytes }
+}
+
+// The same for a number of four bytes.
 fn little4(v: u32) -> Bytes4
     ensures { λ b. ⌜ b .bytes ≡ bytesOf 4 v ⌝ }
 {
@@ -274,9 +317,18 @@ fn little8(v: u64) -> Bytes8
     Bytes8 { bytes: bytes }
 }
 
+// The record with an optional number of two bytes set.
+fn set_short(r: Record, message: u8, byte: u8, bit: u8, v: u16) -> Record
+    requires { ⌜ (1 ≤ byte) × (byte ≤ mostBitfields) × (bit < 8) ⌝ }
+    ensures { λ o. ⌜ o ≡ settingOf message byte bit (bytesOf 2 v) r ⌝ }
+{
+    let b = little2(v);
+    set_optional(r, message, byte, bit, &b.bytes)
+}
+
 // The record with an optional number of four bytes set.
 fn set_number(r: Record, message: u8, byte: u8, bit: u8, v: u32) -> Record
-    requires { ⌜ (1 ≤ byte) × (byte ≤ 15) × (bit < 8) ⌝ }
+    requires { ⌜ (1 ≤ byte) × (byte ≤ mostBitfields) × (bit < 8) ⌝ }
     ensures { λ o. ⌜ o ≡ settingOf message byte bit (bytesOf 4 v) r ⌝ }
 {
     let b = little4(v);
@@ -285,7 +337,7 @@ fn set_number(r: Record, message: u8, byte: u8, bit: u8, v: u32) -> Record
 
 // The record with an optional number of eight bytes set.
 fn set_long(r: Record, message: u8, byte: u8, bit: u8, v: u64) -> Record
-    requires { ⌜ (1 ≤ byte) × (byte ≤ 15) × (bit < 8) ⌝ }
+    requires { ⌜ (1 ≤ byte) × (byte ≤ mostBitfields) × (bit < 8) ⌝ }
     ensures { λ o. ⌜ o ≡ settingOf message byte bit (bytesOf 8 v) r ⌝ }
 {
     let b = little8(v);
@@ -312,7 +364,7 @@ fn set_long_fixed(r: Record, message: u8, at: usize, v: u64) -> Record
 
 // The record with an optional price set.
 fn set_price(r: Record, message: u8, byte: u8, bit: u8, p: i64) -> Record
-    requires { ⌜ (1 ≤ byte) × (byte ≤ 15) × (bit < 8) ⌝ }
+    requires { ⌜ (1 ≤ byte) × (byte ≤ mostBitfields) × (bit < 8) ⌝ }
     ensures { λ o. ⌜ o ≡ settingOf message byte bit (bytesOf 8 (bitsOf p)) r ⌝ }
 {
     set_long(r, message, byte, bit, numbers::prices::bits(p))

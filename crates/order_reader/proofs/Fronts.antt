@@ -19,11 +19,11 @@ use Rattle.orders.specs.Orders.{layoutOf}
 use Rattle.orders.specs.OrderLaws.{count-bounds}
 use Rattle.order_records.specs.Records.{recordBytes}
 use Rattle.order_reader.specs.Stages.{frontBytes, thereBytes}
-use Rattle.block.specs.Sizes.{allPlaces, fixedEnd, fixedSize, layoutSize}
+use Rattle.block.specs.Sizes.{allPlaces, fixedEnd, fixedSize, layoutSize, mostBitfields, slotsPlace}
 
 -- the bitfields with zeros after them
-pub pad-long : (bits : List ℕ) → length bits ≤ 15 → length (bits ++ zeros (15 - length bits)) ≡ 15
-pad-long bits h = length-append bits (zeros (15 - length bits)) ∙ omega (arith, length-zeros (15 - length bits))
+pub pad-long : (bits : List ℕ) → length bits ≤ mostBitfields → length (bits ++ zeros (mostBitfields - length bits)) ≡ mostBitfields
+pad-long bits h = length-append bits (zeros (mostBitfields - length bits)) ∙ omega (arith, length-zeros (mostBitfields - length bits))
 
 -- the fixed part with zeros after it
 pub fixed-long : (m : List ℕ) (message : ℕ) → countAt message ≤ length m → length (take (countAt message - 10) (drop 10 m) ++ zeros (fixedEnd - countAt message)) ≡ fixedSize
@@ -34,12 +34,12 @@ fixed-long m message h =
     length-append (take (countAt message - 10) (drop 10 m)) (zeros (fixedEnd - countAt message)) ∙ omega (arith, f, length-zeros (fixedEnd - countAt message), b .low, b .high)
 
 -- what stands after the head
-pub body-long : (m : List ℕ) (message count : ℕ) (bits : List ℕ) → countAt message ≤ length m → length bits ≤ 15
-    → length ((take (countAt message - 10) (drop 10 m) ++ zeros (fixedEnd - countAt message)) ++ (count ∷ (bits ++ zeros (15 - length bits)))) ≡ 75
+pub body-long : (m : List ℕ) (message count : ℕ) (bits : List ℕ) → countAt message ≤ length m → length bits ≤ mostBitfields
+    → length ((take (countAt message - 10) (drop 10 m) ++ zeros (fixedEnd - countAt message)) ++ (count ∷ (bits ++ zeros (mostBitfields - length bits)))) ≡ (fixedSize + 1 + mostBitfields)
 body-long m message count bits h l =
-    length-append (take (countAt message - 10) (drop 10 m) ++ zeros (fixedEnd - countAt message)) (count ∷ (bits ++ zeros (15 - length bits))) ∙ omega (arith, fixed-long m message h, pad-long bits l)
+    length-append (take (countAt message - 10) (drop 10 m) ++ zeros (fixedEnd - countAt message)) (count ∷ (bits ++ zeros (mostBitfields - length bits))) ∙ omega (arith, fixed-long m message h, pad-long bits l)
 
-pub front-long : (m : List ℕ) (message count : ℕ) (bits : List ℕ) → countAt message ≤ length m → length bits ≤ 15 → length (frontBytes m message count bits) ≡ 81
+pub front-long : (m : List ℕ) (message count : ℕ) (bits : List ℕ) → countAt message ≤ length m → length bits ≤ mostBitfields → length (frontBytes m message count bits) ≡ slotsPlace
 unfolding frontBytes
 front-long m message count bits h l = let n = body-long m message count bits h l in omega (arith, n)
 
@@ -49,7 +49,7 @@ unfolding frontBytes thereBytes recordBytes
 front-and-layout m message count bits slots =
     let head : List ℕ = message ∷ unitOf m ∷ bytesOf 4 (numberOf m) in
     let fixed : List ℕ = take (countAt message - 10) (drop 10 m) ++ zeros (fixedEnd - countAt message) in
-    let pad : List ℕ = bits ++ zeros (15 - length bits) in
+    let pad : List ℕ = bits ++ zeros (mostBitfields - length bits) in
     append-assoc head (fixed ++ (count ∷ pad)) slots ∙ ap (λ (x : List ℕ). head ++ x) (append-assoc fixed (count ∷ pad) slots)
 
 module _ (message count : ℕ) (bits optional : List ℕ) (h : sum takes (slotsOf message count bits) ≡ length optional) where

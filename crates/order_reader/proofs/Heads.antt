@@ -1,6 +1,6 @@
 -- The head of a message: its refusals by its type, and what a good head says of the places of the message.
 -- Assumes nothing.
-use mathlib.Core.Path.{_≡_, sym, ap, _∙_}
+use mathlib.Core.Path.{_≡_, sym, ap, ap₂, _∙_}
 use mathlib.Core.Bool.{Bool, true, false, cond, not, _||_}
 use mathlib.Core.List.{List}
 use Prim.Native.Nat.{ℕ, _+_, _≤_}
@@ -10,13 +10,13 @@ use lib.ListN.{length, getD}
 use borrow.Author.Tests.{ltb-false, ne-eqb}
 use Rattle.refusals.specs.Names.{unknownType, badUnit}
 use Rattle.refusals.specs.ToldLaws.{passed-told}
-use Rattle.wire.specs.Header.{typeOf, unitOf}
+use Rattle.wire.specs.Header.{typeOf, unitOf, numberOf}
 use Rattle.wire.specs.FrameLaws.{passed}
 use Rattle.orders.specs.Shapes.{ofMember, ofVenue, countAt, mostOf, unitGood}
 use Rattle.orders.specs.Orders.{headRefusal, countOf}
 use Rattle.orders.specs.OrderLaws.{count-bounds, most-bound}
 use Rattle.order_reader.specs.Stages.{countRefusal, typeHead}
-use Rattle.block.specs.Sizes.{fixedEnd}
+use Rattle.block.specs.Sizes.{fixedEnd, mostBitfields}
 
 -- ---- the refusals by the type
 
@@ -35,17 +35,18 @@ module _ (m : List ℕ) (message : ℕ) (e : message ≡ typeOf m) where
       ∙ ap (λ (x : ℕ). headBy (ofMember x || ofVenue x) (typeHead x (countAt x) (mostOf x) m)) (sym f)
       ∙ head-is
 
-  pub unknown-type : (message ≡ 0x38 → ⊥) → (message ≡ 0x39 → ⊥) → (message ≡ 0x25 → ⊥) → (message ≡ 0x2C → ⊥) → unknownType ≡ headRefusal m
-  unknown-type a b c d =
-      let none : (ofMember message || ofVenue message) ≡ false = rw (ne-eqb message 0x38 a, ne-eqb message 0x39 b, ne-eqb message 0x25 c, ne-eqb message 0x2C d) in
+  pub unknown-type : (message ≡ 0x38 → ⊥) → (message ≡ 0x39 → ⊥) → (message ≡ 0x25 → ⊥) → (message ≡ 0x2C → ⊥) → (message ≡ 0x26 → ⊥) → (message ≡ 0x29 → ⊥) → (message ≡ 0x2B → ⊥)
+      → unknownType ≡ headRefusal m
+  unknown-type a b c d e f g =
+      let none : (ofMember message || ofVenue message) ≡ false = rw (ne-eqb message 0x38 a, ne-eqb message 0x39 b, ne-eqb message 0x25 c, ne-eqb message 0x2C d, ne-eqb message 0x26 e, ne-eqb message 0x29 f, ne-eqb message 0x2B g) in
       ap (λ (b : Bool). headBy b (typeHead message (countAt message) (mostOf message) m)) (sym none) ∙ head-is
 
--- ---- those of a message of a type, by its unit
+-- ---- those of a message of a type, by its unit and number
 
-module _ (m : List ℕ) (message unit at most : ℕ) (f : unit ≡ unitOf m) (u : Bool) (g : u ≡ unitGood message unit) where
+module _ (m : List ℕ) (message unit number at most : ℕ) (f : unit ≡ unitOf m) (n : number ≡ numberOf m) (u : Bool) (g : u ≡ unitGood message unit number) where
   by-unit : cond (not u) badUnit (countRefusal at most m) ≡ typeHead message at most m
   unfolding typeHead
-  by-unit = ap (λ (v : Bool). cond (not v) badUnit (countRefusal at most m)) (g ∙ ap (unitGood message) f)
+  by-unit = ap (λ (v : Bool). cond (not v) badUnit (countRefusal at most m)) (g ∙ ap₂ (unitGood message) f n)
 
   pub bad-unit : not u ≡ true → badUnit ≡ typeHead message at most m
   bad-unit h = ap (λ (b : Bool). cond b badUnit (countRefusal at most m)) (sym h) ∙ by-unit
@@ -59,20 +60,20 @@ module _ (m : List ℕ) (message unit at most : ℕ) (f : unit ≡ unitOf m) (u 
 pub record GoodHead (m : List ℕ) (at count : ℕ) : Type 0 where
   pub at-least : 30 ≤ at
   pub at-most : at ≤ fixedEnd
-  pub few : count ≤ 15
+  pub few : count ≤ mostBitfields
   pub fits : at + 1 + count ≤ length m
 
 pub good-head : (m : List ℕ) (message at count : ℕ) → headRefusal m ≡ 0 → message ≡ typeOf m → at ≡ countAt message → count ≡ getD m at 0 → GoodHead m at count
 unfolding headRefusal
 good-head m message at count z e f g =
     let p1 = passed (not (ofMember (typeOf m) || ofVenue (typeOf m))) _ _ z in
-    let p2 = passed (not (unitGood (typeOf m) (unitOf m))) _ _ (p1 .1) in
+    let p2 = passed (not (unitGood (typeOf m) (unitOf m) (numberOf m))) _ _ (p1 .1) in
     let p3 = passed-told (leb (length m) (countAt (typeOf m))) _ _ _ (p2 .1) in
     let p4 = passed-told (ltb (mostOf (typeOf m)) (countOf m)) _ _ _ (p3 .1) in
     let p5 = passed-told (ltb (length m) (countAt (typeOf m) + 1 + countOf m)) _ _ _ (p4 .1) in
     let most : countOf m ≤ mostOf (typeOf m) = ltb-false _ _ (p4 .0) in
     let whole : countAt (typeOf m) + 1 + countOf m ≤ length m = ltb-false _ _ (p5 .0) in
-    let bound : mostOf (typeOf m) ≤ 15 = most-bound (typeOf m) in
+    let bound : mostOf (typeOf m) ≤ mostBitfields = most-bound (typeOf m) in
     let low : 30 ≤ countAt (typeOf m) = count-bounds (typeOf m) .low in
     let high : countAt (typeOf m) ≤ fixedEnd = count-bounds (typeOf m) .high in
     let a : at ≡ countAt (typeOf m) = f ∙ ap countAt e in

@@ -19,7 +19,7 @@ use Rattle.block.specs.SlotLaws.{length-zeros, drop-zeros}
 use Rattle.block.specs.Places.{bitSet, selectedAt, entryAt, slotsFrom, slotsOf, hasRequired}
 use Rattle.refusals.specs.FirstBad.{Tested, allGood, firstBad}
 use Rattle.orders.specs.Shapes.{countAt, fixedGood}
-use Rattle.orders.specs.FixedFields.{newOrderFields, cancelOrderFields, acknowledgmentFields, executionFields, fixedFields, fixedWrong}
+use Rattle.orders.specs.FixedFields.{newOrderFields, cancelOrderFields, acknowledgmentFields, executionFields, rejectionFields, fixedFields, fixedWrong}
 use Rattle.orders.specs.FixedFieldLaws.{fields-good}
 use Rattle.orders.specs.declared.Record.{Record}
 use Rattle.orders.specs.Orders.{countOf, bitsOf, fixedOf, optionalOf, headRefusal, blockRefusal, readRefusal, layoutOf, recordOf}
@@ -27,7 +27,7 @@ use Rattle.order_records.specs.Records.{recordBytes}
 use Rattle.order_reader.specs.Stages.{thereBytes, readRecord}
 use Rattle.order_reader.proofs.Heads.{good-head}
 use Rattle.order_reader.proofs.Judging.{total-right}
-use Rattle.block.specs.Sizes.{allPlaces, fixedEnd, layoutSize}
+use Rattle.block.specs.Sizes.{allPlaces, fixedEnd, layoutSize, mostBitfields}
 
 -- ---- bitfields with zeros after them
 
@@ -82,19 +82,20 @@ module _ (x z : List ℕ) (n : ℕ) (h : n ≤ length x) where
   number-front zero i l = refl
   number-front (suc k) i l = ap₂ (λ (a b : ℕ). a + 256 * b) (byte-front i (omega arith)) (number-front k (i + 1) (omega arith))
 
-  fields-by : Bool → Bool → Bool → List ℕ → List Tested
-  fields-by a b c f = cond a (newOrderFields f) (cond b (cancelOrderFields f) (cond c (acknowledgmentFields f) (executionFields f)))
+  fields-by : Bool → Bool → Bool → Bool → List ℕ → List Tested
+  fields-by a b c d f = cond a (newOrderFields f) (cond b (cancelOrderFields f) (cond c (acknowledgmentFields f) (cond d (executionFields f) (rejectionFields f))))
 
-  by-type : (a b c : Bool) → n ≡ cond a 35 (cond b 30 (cond c 47 fixedEnd)) - 10 → fields-by a b c (take n x ++ z) ≡ fields-by a b c x
+  by-type : (a b c d : Bool) → n ≡ cond a 35 (cond b 30 (cond c 47 (cond d 69 fixedEnd))) - 10 → fields-by a b c d (take n x ++ z) ≡ fields-by a b c d x
   unfolding fields-by
-  by-type true b c e = rw (part-front 0 20 (omega arith), part-front 20 1 (omega arith), number-front 4 21 (omega arith))
-  by-type false true c e = rw (part-front 0 20 (omega arith))
-  by-type false false true e = rw (part-front 8 20 (omega arith))
-  by-type false false false e = rw (part-front 8 20 (omega arith), part-front 52 1 (omega arith), part-front 53 1 (omega arith), part-front 54 4 (omega arith))
+  by-type true b c d e = rw (part-front 0 20 (omega arith), part-front 20 1 (omega arith), number-front 4 21 (omega arith))
+  by-type false true c d e = rw (part-front 0 20 (omega arith))
+  by-type false false true d e = rw (part-front 8 20 (omega arith))
+  by-type false false false true e = rw (part-front 8 20 (omega arith), part-front 52 1 (omega arith), part-front 53 1 (omega arith), part-front 54 4 (omega arith))
+  by-type false false false false e = rw (part-front 8 20 (omega arith), part-front 28 1 (omega arith), part-front 29 60 (omega arith))
 
   fields-front : (message : ℕ) → n ≡ countAt message - 10 → fixedFields message (take n x ++ z) ≡ fixedFields message x
   unfolding fixedFields countAt fields-by
-  fields-front message e = by-type (eqb message 0x38) (eqb message 0x39) (eqb message 0x25) e
+  fields-front message e = by-type (eqb message 0x38) (eqb message 0x39) (eqb message 0x25) (eqb message 0x2C) e
 
   pub wrong-front : (message : ℕ) → n ≡ countAt message - 10 → fixedWrong message (take n x ++ z) ≡ fixedWrong message x
   unfolding fixedWrong
@@ -115,8 +116,8 @@ module _ (m : List ℕ) (ok : headRefusal m ≡ 0) where
       sym
       (rw (
         eq-eqb (headRefusal m) 0 ok,
-        slots-padded (countOf m) bs (15 - countOf m) (typeOf m),
-        required-padded (countOf m) bs (15 - countOf m) (typeOf m),
+        slots-padded (countOf m) bs (mostBitfields - countOf m) (typeOf m),
+        required-padded (countOf m) bs (mostBitfields - countOf m) (typeOf m),
         good-front (drop 10 m) (zeros (fixedEnd - countAt (typeOf m))) (countAt (typeOf m) - 10) (omega (arith, d, g .fits, g .at-least)) (typeOf m) refl,
         wrong-front (drop 10 m) (zeros (fixedEnd - countAt (typeOf m))) (countAt (typeOf m) - 10) (omega (arith, d, g .fits, g .at-least)) (typeOf m) refl,
       ))
@@ -155,8 +156,8 @@ module _ (m : List ℕ) (ok : headRefusal m ≡ 0) where
   bytes-there : thereBytes m (typeOf m) (countOf m) (take (countOf m) (drop (countAt (typeOf m) + 1) m)) (layoutOf (typeOf m) (countOf m) (take (countOf m) (drop (countAt (typeOf m) + 1) m)) (drop (countAt (typeOf m) + 1 + countOf m) m)) ≡ recordBytes (recordOf m)
   unfolding thereBytes recordOf bitsOf fixedOf optionalOf
   bytes-there =
-      ap₂ (λ (i : ℕ) (l : List ℕ). recordBytes (with (take (countOf m) (drop (countAt (typeOf m) + 1) m) ++ zeros (15 - i)) l)) bits-long
-      (layout-there (take (countOf m) (drop (countAt (typeOf m) + 1) m)) (drop (countAt (typeOf m) + 1 + countOf m) m) (15 - countOf m))
+      ap₂ (λ (i : ℕ) (l : List ℕ). recordBytes (with (take (countOf m) (drop (countAt (typeOf m) + 1) m) ++ zeros (mostBitfields - i)) l)) bits-long
+      (layout-there (take (countOf m) (drop (countAt (typeOf m) + 1) m)) (drop (countAt (typeOf m) + 1 + countOf m) m) (mostBitfields - countOf m))
 
   -- the record of a message that is not refused
   pub read-is : (message at count : ℕ) → message ≡ typeOf m → at ≡ countAt message → count ≡ getD m at 0 → (buffer : List ℕ) {out : List ℕ} → readRefusal m ≡ 0

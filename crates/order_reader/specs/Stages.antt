@@ -15,7 +15,7 @@ use Rattle.orders.specs.FixedFields.{fixedWrong}
 use Rattle.block.specs.Slots.{zeros}
 use Rattle.orders.specs.Orders.{readRefusal, recordOf}
 use Rattle.order_records.specs.Records.{recordBytes}
-use Rattle.block.specs.Sizes.{fixedEnd}
+use Rattle.block.specs.Sizes.{fixedEnd, mostBitfields}
 
 -- 6 if the message ends before its count byte is whole; 7; 6 if the bitfields do not fit, where the count byte stands at `at` and says at most `most`
 unfoldable pub countRefusal : ℕ → ℕ → List ℕ → ℕ
@@ -27,7 +27,7 @@ countRefusal at most m =
 
 -- 5, and then these, of a message of a type
 unfoldable pub typeHead : ℕ → ℕ → ℕ → List ℕ → ℕ
-typeHead message at most m = cond (not (unitGood message (unitOf m))) badUnit (countRefusal at most m)
+typeHead message at most m = cond (not (unitGood message (unitOf m) (numberOf m))) badUnit (countRefusal at most m)
 
 -- 10, by the place of the first bad field of the fixed part, and the first bad optional field, counted from 1 after the byte at `last`
 unfoldable pub valueRefusal : ℕ → ℕ → ℕ → ℕ
@@ -49,7 +49,7 @@ unfoldable pub frontBytes : List ℕ → ℕ → ℕ → List ℕ → List ℕ
 frontBytes m message count bits =
     (message ∷ unitOf m ∷ bytesOf 4 (numberOf m))
     ++ ((take (countAt message - 10) (drop 10 m) ++ zeros (fixedEnd - countAt message))
-    ++ (count ∷ (bits ++ zeros (15 - length bits))))
+    ++ (count ∷ (bits ++ zeros (mostBitfields - length bits))))
 
 -- the bytes of a message's record: its type, unit and number, its fixed part, its count and bitfields, each as it stands in the message with
 -- zeros after it, and the layout of its optional fields
@@ -62,7 +62,7 @@ thereBytes m message count bits slots =
       number = numberOf m;
       fixed = take (countAt message - 10) (drop 10 m) ++ zeros (fixedEnd - countAt message);
       count = count;
-      bits = bits ++ zeros (15 - length bits);
+      bits = bits ++ zeros (mostBitfields - length bits);
       slots = slots;
     })
 

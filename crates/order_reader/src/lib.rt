@@ -10,7 +10,7 @@ ghost use Rattle.block.specs.Places.{slotsOf};
 ghost use Rattle.orders.specs.Shapes.{countAt};
 ghost use Rattle.orders.specs.Orders.{headRefusal, blockRefusal, layoutOf, readRefusal};
 ghost use Rattle.order_reader.specs.Stages.{countRefusal, typeHead, valueRefusal, judgedOf, frontBytes, thereBytes, readRecord};
-ghost use Rattle.block.specs.Sizes.{fixedEnd, fixedSize, layoutSize, recordSize};
+ghost use Rattle.block.specs.Sizes.{fixedEnd, fixedSize, layoutSize, recordSize, mostBitfields, slotsPlace};
 use block_judge::Judged;
 
 // 4; 5; 6 if the message ends before its count byte is whole; 7; 6 if the bitfields do not fit. Each type's numbers are literals.
@@ -23,6 +23,9 @@ fn head_refusal(m: &[u8], message: u8) -> u32
         0x39 => type_head(m, 0x39, 30, 2),
         0x25 => type_head(m, 0x25, 47, 15),
         0x2C => type_head(m, 0x2C, 69, 15),
+        0x26 => type_head(m, 0x26, 100, 19),
+        0x29 => type_head(m, 0x29, 100, 19),
+        0x2B => type_head(m, 0x2B, 100, 19),
         _ => refusals::UNKNOWN_TYPE,
     }
 }
@@ -32,7 +35,9 @@ fn type_head(m: &[u8], message: u8, at: usize, most: u8) -> u32
     requires { ⌜ at ≤ fixedEnd ⌝ }
     ensures { λ r. ⌜ r ≡ typeHead message at most (now (m .entry)) ⌝ }
 {
-    if !orders::unit_good(message, wire::header::unit_of(m)) {
+    let unit = wire::header::unit_of(m);
+    let number = wire::header::number_of(m);
+    if !orders::unit_good(message, unit, number) {
         return refusals::BAD_UNIT;
     }
     count_refusal(m, at, most)
@@ -98,7 +103,7 @@ fn judged(m: &[u8], message: u8, bits: &[u8], count: u8, t: Judged, have: usize)
 
 // The refusal of a message m of which the bitfields and the optional bytes are lent where they stand.
 fn block_refusal(m: &[u8], message: u8, bits: &[u8], count: u8, optional: &[u8]) -> u32
-    requires { ⌜ (length (now bits) ≡ count) × (count ≤ 15) × (countAt message ≤ length (now m)) ⌝ }
+    requires { ⌜ (length (now bits) ≡ count) × (count ≤ mostBitfields) × (countAt message ≤ length (now m)) ⌝ }
     ensures { λ r. ⌜ r ≡ blockRefusal (totalOf (now (m .entry))) message count (now (bits .entry)) (drop 10 (now (m .entry))) (now (optional .entry)) ⌝ }
 {
     let t = block_judge::judge_all(message, bits, count, optional);
@@ -107,7 +112,7 @@ fn block_refusal(m: &[u8], message: u8, bits: &[u8], count: u8, optional: &[u8])
 
 // The refusal of a body whose count stands at a place. Nothing is copied.
 fn body_refusal(m: &[u8], message: u8, at: usize, count: u8) -> u32
-    requires { ⌜ (30 ≤ at) × (at + 1 + count ≤ length (now m)) × (count ≤ 15) × (at ≡ countAt message) ⌝ }
+    requires { ⌜ (30 ≤ at) × (at + 1 + count ≤ length (now m)) × (count ≤ mostBitfields) × (at ≡ countAt message) ⌝ }
     ensures { λ r. ⌜ r ≡ blockRefusal (totalOf (now (m .entry))) message count (take count (drop (at + 1) (now (m .entry)))) (drop 10 (now (m .entry))) (drop (at + 1 + count) (now (m .entry))) ⌝ }
 {
     let start = at + 1;
@@ -131,17 +136,17 @@ pub fn order_refusal(m: &[u8]) -> u32
 
 // The bitfields into the front of a lent tail, with zeros after them.
 fn put_bits(bits: &[u8], tail: &mut [u8])
-    requires { ⌜ (length (now bits) ≤ 15) × (15 ≤ length (now tail)) ⌝ }
-    ensures { λ _. ⌜ now (tail .exit) ≡ patched (now (tail .entry)) 0 (now (bits .entry) ++ zeros (15 - length (now (bits .entry)))) ⌝ }
+    requires { ⌜ (length (now bits) ≤ mostBitfields) × (mostBitfields ≤ length (now tail)) ⌝ }
+    ensures { λ _. ⌜ now (tail .exit) ≡ patched (now (tail .entry)) 0 (now (bits .entry) ++ zeros (mostBitfields - length (now (bits .entry)))) ⌝ }
 {
-    block::clear(15, tail);
+    block::clear(block::BITFIELDS, tail);
     block::copy_few(bits, tail);
 }
 
 // The count, and these after it.
 fn put_block(count: u8, bits: &[u8], tail: &mut [u8])
-    requires { ⌜ (length (now bits) ≤ 15) × (16 ≤ length (now tail)) ⌝ }
-    ensures { λ _. ⌜ now (tail .exit) ≡ patched (now (tail .entry)) 0 (count ∷ (now (bits .entry) ++ zeros (15 - length (now (bits .entry))))) ⌝ }
+    requires { ⌜ (length (now bits) ≤ mostBitfields) × (1 + mostBitfields ≤ length (now tail)) ⌝ }
+    ensures { λ _. ⌜ now (tail .exit) ≡ patched (now (tail .entry)) 0 (count ∷ (now (bits .entry) ++ zeros (mostBitfields - length (now (bits .entry))))) ⌝ }
 {
     tail[0] = count;
     put_bits(bits, &mut tail[1..]);
@@ -166,14 +171,15 @@ fn put_fixed(m: &[u8], message: u8, tail: &mut [u8])
         0x38 => put_up_to(m, 35, tail),
         0x39 => put_up_to(m, 30, tail),
         0x25 => put_up_to(m, 47, tail),
-        _ => put_up_to(m, 69, tail),
+        0x2C => put_up_to(m, 69, tail),
+        _ => put_up_to(m, block::FIXED_END, tail),
     }
 }
 
 // The fixed part, and the count and the bitfields after it.
 fn put_body(m: &[u8], message: u8, count: u8, bits: &[u8], tail: &mut [u8])
-    requires { ⌜ (countAt message ≤ length (now m)) × (length (now bits) ≤ 15) × (75 ≤ length (now tail)) ⌝ }
-    ensures { λ _. ⌜ now (tail .exit) ≡ patched (now (tail .entry)) 0 ((take (countAt message - 10) (drop 10 (now (m .entry))) ++ zeros (fixedEnd - countAt message)) ++ (count ∷ (now (bits .entry) ++ zeros (15 - length (now (bits .entry)))))) ⌝ }
+    requires { ⌜ (countAt message ≤ length (now m)) × (length (now bits) ≤ mostBitfields) × (fixedSize + 1 + mostBitfields ≤ length (now tail)) ⌝ }
+    ensures { λ _. ⌜ now (tail .exit) ≡ patched (now (tail .entry)) 0 ((take (countAt message - 10) (drop 10 (now (m .entry))) ++ zeros (fixedEnd - countAt message)) ++ (count ∷ (now (bits .entry) ++ zeros (mostBitfields - length (now (bits .entry)))))) ⌝ }
 {
     put_fixed(m, message, tail);
     put_block(count, bits, &mut tail[block::FIXED..]);
@@ -181,7 +187,7 @@ fn put_body(m: &[u8], message: u8, count: u8, bits: &[u8], tail: &mut [u8])
 
 // A message's record up to its layout, straight from the message.
 fn put_front(m: &[u8], message: u8, count: u8, bits: &[u8], buffer: &mut [u8])
-    requires { ⌜ (countAt message ≤ length (now m)) × (length (now bits) ≤ 15) × (81 ≤ length (now buffer)) ⌝ }
+    requires { ⌜ (countAt message ≤ length (now m)) × (length (now bits) ≤ mostBitfields) × (slotsPlace ≤ length (now buffer)) ⌝ }
     ensures { λ _. ⌜ now (buffer .exit) ≡ patched (now (buffer .entry)) 0 (frontBytes (now (m .entry)) message count (now (bits .entry))) ⌝ }
 {
     let unit = wire::header::unit_of(m);
@@ -192,7 +198,7 @@ fn put_front(m: &[u8], message: u8, count: u8, bits: &[u8], buffer: &mut [u8])
 
 // The optional block, whose bytes are handed on to the field reader: the full layout into the front of a lent tail.
 fn put_layout(message: u8, bits: &[u8], count: u8, optional: &[u8], tail: &mut [u8])
-    requires { ⌜ (length (now bits) ≡ count) × (count ≤ 15) × (sum takes (slotsOf message count (now bits)) ≡ length (now optional)) × (layoutSize ≤ length (now tail)) ⌝ }
+    requires { ⌜ (length (now bits) ≡ count) × (count ≤ mostBitfields) × (sum takes (slotsOf message count (now bits)) ≡ length (now optional)) × (layoutSize ≤ length (now tail)) ⌝ }
     ensures { λ _. ⌜ now (tail .exit) ≡ patched (now (tail .entry)) 0 (layoutOf message count (now (bits .entry)) (now (optional .entry))) ⌝ }
 {
     block::clear(block::LAYOUT, tail);
@@ -201,16 +207,22 @@ fn put_layout(message: u8, bits: &[u8], count: u8, optional: &[u8], tail: &mut [
 
 // A message's record, of which each part is lent where it stands.
 fn put_record(m: &[u8], message: u8, count: u8, bits: &[u8], optional: &[u8], buffer: &mut [u8])
-    requires { ⌜ (countAt message ≤ length (now m)) × (length (now bits) ≡ count) × (count ≤ 15) × (sum takes (slotsOf message count (now bits)) ≡ length (now optional)) × (recordSize ≤ length (now buffer)) ⌝ }
+    requires { ⌜ (countAt message ≤ length (now m)) × (length (now bits) ≡ count) × (count ≤ mostBitfields) × (sum takes (slotsOf message count (now bits)) ≡ length (now optional)) × (recordSize ≤ length (now buffer)) ⌝ }
     ensures { λ _. ⌜ now (buffer .exit) ≡ patched (now (buffer .entry)) 0 (thereBytes (now (m .entry)) message count (now (bits .entry)) (layoutOf message count (now (bits .entry)) (now (optional .entry)))) ⌝ }
 {
     put_front(m, message, count, bits, buffer);
-    put_layout(message, bits, count, optional, &mut buffer[81..]);
+    put_layout(
+        message,
+        bits,
+        count,
+        optional,
+        &mut buffer[block::SLOTS_AT..],
+    );
 }
 
 // The record of a message that is not refused, whose count stands at a place.
 fn put_there(m: &[u8], message: u8, at: usize, count: u8, buffer: &mut [u8])
-    requires { ⌜ (30 ≤ at) × (at + 1 + count ≤ length (now m)) × (count ≤ 15) × (at ≡ countAt message) × (sum takes (slotsOf message count (take count (drop (at + 1) (now m)))) ≡ length (drop (at + 1 + count) (now m))) × (recordSize ≤ length (now buffer)) ⌝ }
+    requires { ⌜ (30 ≤ at) × (at + 1 + count ≤ length (now m)) × (count ≤ mostBitfields) × (at ≡ countAt message) × (sum takes (slotsOf message count (take count (drop (at + 1) (now m)))) ≡ length (drop (at + 1 + count) (now m))) × (recordSize ≤ length (now buffer)) ⌝ }
     ensures { λ _. ⌜ now (buffer .exit) ≡ patched (now (buffer .entry)) 0 (thereBytes (now (m .entry)) message count (take count (drop (at + 1) (now (m .entry)))) (layoutOf message count (take count (drop (at + 1) (now (m .entry)))) (drop (at + 1 + count) (now (m .entry))))) ⌝ }
 {
     let start = at + 1;

@@ -11,7 +11,7 @@ use borrow.Author.Tests.{lt-ltb, le-ltb}
 use Rattle.orders.specs.declared.Record.{Record}
 use Rattle.orders.specs.Orders.{blank}
 use Rattle.order_records.specs.Records.{recordBytes, recordAt, loadOf, storeRefusal, storeBuffer}
-use Rattle.block.specs.Sizes.{fixedSize, layoutSize, recordSize}
+use Rattle.block.specs.Sizes.{fixedSize, layoutSize, recordSize, mostBitfields, countPlace, bitsPlace, slotsPlace}
 
 -- the first two bytes stored and the number put after them
 pub head-put : (out out′ : List ℕ) (m u n : ℕ) → 6 ≤ length out → out′ ≡ putBuffer (set (set out 0 m) 1 u) 2 (bytesOf 4 n) → out′ ≡ patched out 0 (m ∷ u ∷ bytesOf 4 n)
@@ -21,12 +21,12 @@ head-put (x ∷ []) out′ m u n h e = absurd (omega (arith, h))
 head-put (x ∷ y ∷ out) out′ m u n h e = e ∙ put-stores (m ∷ u ∷ out) 2 (bytesOf 4 n) (omega (arith, h))
 
 -- the parts make up the record
-pub record-is : (s : List ℕ) {n : ℕ} {f b v : List ℕ} → n ≡ numberAt 4 2 s → f ≡ take fixedSize (drop 6 s) → b ≡ take 15 (drop 66 s) → v ≡ take layoutSize (drop 81 s)
-    → record { message = getD s 0 0; unit = getD s 1 0; number = n; fixed = f; count = getD s 65 0; bits = b; slots = v } ≡ recordAt s
+pub record-is : (s : List ℕ) {n : ℕ} {f b v : List ℕ} → n ≡ numberAt 4 2 s → f ≡ take fixedSize (drop 6 s) → b ≡ take mostBitfields (drop bitsPlace s) → v ≡ take layoutSize (drop slotsPlace s)
+    → record { message = getD s 0 0; unit = getD s 1 0; number = n; fixed = f; count = getD s countPlace 0; bits = b; slots = v } ≡ recordAt s
 unfolding recordAt
 record-is s {n} {f} {b} {v} p q t u =
-    ap₂ (λ (x : ℕ) (y : List ℕ). record { message = getD s 0 0; unit = getD s 1 0; number = x; fixed = y; count = getD s 65 0; bits = b; slots = v }) p q
-    ∙ ap₂ (λ (x y : List ℕ). record { message = getD s 0 0; unit = getD s 1 0; number = numberAt 4 2 s; fixed = take fixedSize (drop 6 s); count = getD s 65 0; bits = x; slots = y }) t u
+    ap₂ (λ (x : ℕ) (y : List ℕ). record { message = getD s 0 0; unit = getD s 1 0; number = x; fixed = y; count = getD s countPlace 0; bits = b; slots = v }) p q
+    ∙ ap₂ (λ (x y : List ℕ). record { message = getD s 0 0; unit = getD s 1 0; number = numberAt 4 2 s; fixed = take fixedSize (drop 6 s); count = getD s countPlace 0; bits = x; slots = y }) t u
 
 pub load-short : (s : List ℕ) → length s < recordSize → loadOf s ≡ record { refusal = 13; order = blank }
 unfolding loadOf storeRefusal

@@ -11,7 +11,7 @@ use Rattle.wire.specs.HeaderLaws.{Bytes}
 use Rattle.orders.specs.declared.Record.{Record}
 use Rattle.orders.specs.RoundTrip.{Sound}
 use Rattle.order_records.specs.Records.{recordBytes, recordAt}
-use Rattle.block.specs.Sizes.{fixedSize, layoutSize, recordSize}
+use Rattle.block.specs.Sizes.{fixedSize, layoutSize, recordSize, mostBitfields, countPlace, bitsPlace, slotsPlace}
 
 pub record-length : (r : Record) → Sound r → length (recordBytes r) ≡ recordSize
 unfolding recordBytes
@@ -40,7 +40,7 @@ module _ (r : Record) (ok : Sound r) (t : List ℕ) where
       ∙ ap (λ (x : List ℕ). h ++ x)
       (append-assoc (r .fixed) (r .count ∷ (r .bits ++ r .slots)) t ∙ ap (λ (x : List ℕ). r .fixed ++ (r .count ∷ x)) (append-assoc (r .bits) (r .slots) t))
 
-  after-count : drop 60 body ≡ r .bits ++ (r .slots ++ t)
+  after-count : drop (fixedSize + 1) body ≡ r .bits ++ (r .slots ++ t)
   unfolding body
   after-count =
       sym (drop-drop 1 fixedSize (r .fixed ++ (r .count ∷ (r .bits ++ (r .slots ++ t)))))
@@ -55,8 +55,8 @@ module _ (r : Record) (ok : Sound r) (t : List ℕ) where
       (number-after 4 0 (r .message ∷ r .unit ∷ []) (bytesOf 4 (r .number) ++ body) ∙ number-back 4 (r .number) body (ok .number-range))
       (take-at (r .fixed) (r .count ∷ (r .bits ++ (r .slots ++ t))) fixedSize (ok .fixed-length))
       (getD-at (r .fixed) (r .count) (r .bits ++ (r .slots ++ t)) 0 fixedSize (ok .fixed-length))
-      (ap (take 15) after-count ∙ take-at (r .bits) (r .slots ++ t) 15 (ok .bits-length))
-      (ap (take layoutSize) (sym (drop-drop 15 60 body) ∙ ap (drop 15) after-count ∙ drop-at (r .bits) (r .slots ++ t) 15 (ok .bits-length)) ∙ take-at (r .slots) t layoutSize (ok .slots-length))
+      (ap (take mostBitfields) after-count ∙ take-at (r .bits) (r .slots ++ t) mostBitfields (ok .bits-length))
+      (ap (take layoutSize) (sym (drop-drop mostBitfields (fixedSize + 1) body) ∙ ap (drop mostBitfields) after-count ∙ drop-at (r .bits) (r .slots ++ t) mostBitfields (ok .bits-length)) ∙ take-at (r .slots) t layoutSize (ok .slots-length))
 
 module _ (s : List ℕ) (bytes : Bytes s) (h : recordSize ≤ length s) where
   part-length : (n a : ℕ) → a + n ≤ recordSize → length (take n (drop a s)) ≡ n
@@ -66,8 +66,8 @@ module _ (s : List ℕ) (bytes : Bytes s) (h : recordSize ≤ length s) where
   unfolding recordAt
   at-sound = record {
     fixed-length = part-length fixedSize 6 (omega arith);
-    bits-length = part-length 15 66 (omega arith);
-    slots-length = part-length layoutSize 81 (omega arith);
+    bits-length = part-length mostBitfields bitsPlace (omega arith);
+    slots-length = part-length layoutSize slotsPlace (omega arith);
     number-range = number-fits 4 2 s bytes;
   }
 
@@ -87,13 +87,13 @@ one-byte (x ∷ s) (suc n) h = one-byte s n (omega (arith, h))
 pub joined : (a n m : ℕ) (s : List ℕ) → take n (drop a s) ++ take m (drop (a + n) s) ≡ take (n + m) (drop a s)
 joined a n m s = ap (λ (x : List ℕ). take n (drop a s) ++ take m x) (sym (drop-drop n a s)) ∙ sym (take-add n m (drop a s))
 
--- BYTES AGAIN: the bytes of the record of 235 bytes are these
+-- BYTES AGAIN: the bytes of the record of a record's bytes are these
 pub bytes-again : (s : List ℕ) → Bytes s → recordSize ≤ length s → recordBytes (recordAt s) ≡ take recordSize s
 unfolding recordBytes recordAt
 bytes-again s k h =
-    let d = joined 66 15 layoutSize s in
-    let c : getD s 65 0 ∷ (take 15 (drop 66 s) ++ take layoutSize (drop 81 s)) ≡ take 170 (drop 65 s) =
-    ap₂ (λ (x y : List ℕ). x ++ y) (one-byte s 65 (omega arith)) d ∙ joined 65 1 169 s in
+    let d = joined bitsPlace mostBitfields layoutSize s in
+    let c : getD s countPlace 0 ∷ (take mostBitfields (drop bitsPlace s) ++ take layoutSize (drop slotsPlace s)) ≡ take (1 + mostBitfields + layoutSize) (drop countPlace s) =
+    ap₂ (λ (x y : List ℕ). x ++ y) (one-byte s countPlace (omega arith)) d ∙ joined countPlace 1 (mostBitfields + layoutSize) s in
     ap₂ (λ (x y : List ℕ). x ++ (take fixedSize (drop 6 s) ++ y)) (head-again s k (omega arith)) c
-    ∙ ap (λ (x : List ℕ). take 6 s ++ x) (joined 6 fixedSize 170 s)
-    ∙ joined 0 6 229 s
+    ∙ ap (λ (x : List ℕ). take 6 s ++ x) (joined 6 fixedSize (1 + mostBitfields + layoutSize) s)
+    ∙ joined 0 6 (recordSize - 6) s

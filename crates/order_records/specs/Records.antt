@@ -1,4 +1,4 @@
--- A record as 235 bytes: type, unit, number, the fixed part's 59 bytes, the count, the 15 bitfields, the 154 bytes of the full layout.
+-- A record as `recordSize` bytes: type, unit, number, the fixed part, the count, the bitfields, the full layout.
 -- Definitions alone. Assumes nothing.
 use Prim.Native.Nat.{ℕ}
 use mathlib.Core.Bool.{cond}
@@ -10,13 +10,13 @@ use Rattle.numbers.specs.Numbers.{numberAt, bytesOf, patched}
 use Rattle.orders.specs.declared.Record.{Record}
 use Rattle.orders.specs.Orders.{blank}
 use Rattle.order_records.specs.declared.Loaded.{Loaded}
-use Rattle.block.specs.Sizes.{fixedSize, layoutSize, recordSize}
+use Rattle.block.specs.Sizes.{fixedSize, layoutSize, recordSize, mostBitfields, countPlace, bitsPlace, slotsPlace}
 
 -- a record's bytes
 unfoldable pub recordBytes : Record → List ℕ
 recordBytes r = (r .message ∷ r .unit ∷ bytesOf 4 (r .number)) ++ (r .fixed ++ (r .count ∷ (r .bits ++ r .slots)))
 
--- the record that the first 235 bytes are
+-- the record that the first `recordSize` bytes are
 unfoldable pub recordAt : List ℕ → Record
 recordAt s =
     record {
@@ -24,19 +24,19 @@ recordAt s =
       unit = getD s 1 0;
       number = numberAt 4 2 s;
       fixed = take fixedSize (drop 6 s);
-      count = getD s 65 0;
-      bits = take 15 (drop 66 s);
-      slots = take layoutSize (drop 81 s);
+      count = getD s countPlace 0;
+      bits = take mostBitfields (drop bitsPlace s);
+      slots = take layoutSize (drop slotsPlace s);
     }
 
--- 01, Numbers of refusal: 13 where there are under 235 bytes, in a buffer that a record is stored in as in bytes that one is loaded from
+-- 01, Numbers of refusal: 13 where there are under `recordSize` bytes, in a buffer that a record is stored in as in bytes that one is loaded from
 unfoldable pub storeRefusal : ℕ → ℕ
 storeRefusal room = cond (ltb room recordSize) noRoom 0
 
--- a record from any bytes: that of the first 235, and the blank one where there are fewer
+-- a record from any bytes: that of the first `recordSize`, and the blank one where there are fewer
 unfoldable pub loadOf : List ℕ → Loaded
 loadOf s = record { refusal = storeRefusal (length s); order = cond (ltb (length s) recordSize) blank (recordAt s) }
 
--- the buffer that a record is stored in: as it was where it has under 235 bytes, and else with the record's bytes in its front
+-- the buffer that a record is stored in: as it was where it has under `recordSize` bytes, and else with the record's bytes in its front
 unfoldable pub storeBuffer : Record → List ℕ → List ℕ
 storeBuffer r out = cond (ltb (length out) recordSize) out (patched out 0 (recordBytes r))

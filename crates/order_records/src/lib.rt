@@ -1,25 +1,25 @@
-// A record as bytes, for callers that have numbers and byte buffers only: 235 of them, every part at a place of its own.
+// A record as bytes, for callers that have numbers and byte buffers only: RECORD of them, every part at a place of its own.
 ghost use mathlib.Core.Path.{_≡_};
 ghost use mathlib.Core.List.{_∷_, _++_};
-ghost use Prim.Native.Nat.{_≤_};
+ghost use Prim.Native.Nat.{_+_, _-_, _≤_};
 ghost use lib.ListN.{length};
 ghost use Rattle.numbers.specs.Numbers.{bytesOf, patched};
 ghost use Rattle.order_records.specs.Records.{recordBytes, recordAt, loadOf, storeRefusal, storeBuffer};
-ghost use Rattle.block.specs.Sizes.{fixedSize, layoutSize, recordSize};
+ghost use Rattle.block.specs.Sizes.{fixedSize, layoutSize, recordSize, mostBitfields};
 use orders::Record;
 
 // The bitfields, and the layout after them, into the front of a lent tail.
 fn put_fields(bits: &[u8], slots: &[u8], tail: &mut [u8])
-    requires { ⌜ (length (now bits) ≡ 15) × (length (now slots) ≡ layoutSize) × (169 ≤ length (now tail)) ⌝ }
+    requires { ⌜ (length (now bits) ≡ mostBitfields) × (length (now slots) ≡ layoutSize) × (mostBitfields + layoutSize ≤ length (now tail)) ⌝ }
     ensures { λ _. ⌜ now (tail .exit) ≡ patched (now (tail .entry)) 0 (now (bits .entry) ++ now (slots .entry)) ⌝ }
 {
     block::copy(bits, tail);
-    block::copy_layout(slots, &mut tail[15..]);
+    block::copy_layout(slots, &mut tail[block::BITFIELDS..]);
 }
 
 // The count, the bitfields and the layout.
 fn put_block(count: u8, bits: &[u8], slots: &[u8], tail: &mut [u8])
-    requires { ⌜ (length (now bits) ≡ 15) × (length (now slots) ≡ layoutSize) × (170 ≤ length (now tail)) ⌝ }
+    requires { ⌜ (length (now bits) ≡ mostBitfields) × (length (now slots) ≡ layoutSize) × (1 + mostBitfields + layoutSize ≤ length (now tail)) ⌝ }
     ensures { λ _. ⌜ now (tail .exit) ≡ patched (now (tail .entry)) 0 (count ∷ (now (bits .entry) ++ now (slots .entry))) ⌝ }
 {
     tail[0] = count;
@@ -28,7 +28,7 @@ fn put_block(count: u8, bits: &[u8], slots: &[u8], tail: &mut [u8])
 
 // The fixed part, and these after it.
 fn put_body(fixed: &[u8], count: u8, bits: &[u8], slots: &[u8], tail: &mut [u8])
-    requires { ⌜ (length (now fixed) ≡ fixedSize) × (length (now bits) ≡ 15) × (length (now slots) ≡ layoutSize) × (229 ≤ length (now tail)) ⌝ }
+    requires { ⌜ (length (now fixed) ≡ fixedSize) × (length (now bits) ≡ mostBitfields) × (length (now slots) ≡ layoutSize) × (recordSize - 6 ≤ length (now tail)) ⌝ }
     ensures { λ _. ⌜ now (tail .exit) ≡ patched (now (tail .entry)) 0 (now (fixed .entry) ++ (count ∷ (now (bits .entry) ++ now (slots .entry)))) ⌝ }
 {
     block::copy(fixed, tail);
@@ -56,7 +56,7 @@ fn pack_parts(
     slots: &[u8],
     out: &mut [u8],
 )
-    requires { ⌜ (length (now fixed) ≡ fixedSize) × (length (now bits) ≡ 15) × (length (now slots) ≡ layoutSize) × (recordSize ≤ length (now out)) ⌝ }
+    requires { ⌜ (length (now fixed) ≡ fixedSize) × (length (now bits) ≡ mostBitfields) × (length (now slots) ≡ layoutSize) × (recordSize ≤ length (now out)) ⌝ }
     ensures { λ _. ⌜ now (out .exit) ≡ patched (now (out .entry)) 0 (recordBytes (record { message = message; unit = unit; number = number; fixed = now (fixed .entry); count = count; bits = now (bits .entry); slots = now (slots .entry) })) ⌝ }
 {
     put_head(message, unit, number, out);
@@ -83,23 +83,23 @@ fn pack(r: Record, out: &mut [u8])
     );
 }
 
-// The record of the first 235 bytes.
+// The record of the first RECORD bytes.
 fn unpack(s: &[u8]) -> Record
     requires { ⌜ recordSize ≤ length (now s) ⌝ }
     ensures { λ r. ⌜ r ≡ recordAt (now (s .entry)) ⌝ }
 {
     let mut fixed = [0u8; block::FIXED];
-    block::copy(&s[6..65], &mut fixed);
-    let mut bits = [0u8; 15];
-    block::copy(&s[66..81], &mut bits);
+    block::copy(&s[6..block::COUNT_AT], &mut fixed);
+    let mut bits = [0u8; block::BITFIELDS];
+    block::copy(&s[block::BITS_AT..block::SLOTS_AT], &mut bits);
     let mut slots = [0u8; block::LAYOUT];
-    block::copy(&s[81..block::RECORD], &mut slots);
+    block::copy(&s[block::SLOTS_AT..block::RECORD], &mut slots);
     Record {
         message: s[0],
         unit: s[1],
         number: numbers::read_u32(s, 2),
         fixed: fixed,
-        count: s[65],
+        count: s[block::COUNT_AT],
         bits: bits,
         slots: slots,
     }
@@ -111,7 +111,7 @@ pub struct Loaded {
     pub order: Record,
 }
 
-// The record of the first 235 of any bytes: 0 and the record; or 13 and the blank one where there are fewer.
+// The record of the first RECORD of any bytes: 0 and the record; or 13 and the blank one where there are fewer.
 pub fn load(s: &[u8]) -> Loaded
     ensures { λ r. ⌜ r ≡ loadOf (now (s .entry)) ⌝ }
 {
@@ -129,7 +129,7 @@ pub fn load(s: &[u8]) -> Loaded
     }
 }
 
-// A record into the front of any buffer: 0, and its 235 bytes stand there; or 13 for a buffer under 235 bytes, which is as it was.
+// A record into the front of any buffer: 0, and its bytes stand there; or 13 for a buffer under RECORD bytes, which is as it was.
 pub fn store(r: Record, out: &mut [u8]) -> u32
     ensures { λ n. ⌜ (n ≡ storeRefusal (length (now (out .entry)))) × (now (out .exit) ≡ storeBuffer r (now (out .entry))) ⌝ }
 {

@@ -17,7 +17,7 @@ use Rattle.block_write.specs.State.{giving, giveWalk}
 use Rattle.orders.specs.Shapes.{countAt}
 use Rattle.orders.specs.OrderLaws.{count-bounds}
 use Rattle.order_writer.specs.Stages.{fieldBytes, restBytes}
-use Rattle.block.specs.Sizes.{allPlaces, fixedSize, layoutSize}
+use Rattle.block.specs.Sizes.{allPlaces, fixedSize, layoutSize, mostBitfields}
 
 -- the selected fields given at a place
 pub fields-given : (message count : ℕ) (bits v out out′ : List ℕ) (at r : ℕ) → length v ≡ layoutSize → at + sum takes (slotsOf message count bits) ≤ length out
@@ -55,7 +55,7 @@ count-length message count bits v lv lb =
     ∙ ap₂ (λ (x y : ℕ). x + y) (length-take-le count bits lb) (fields-length message count bits v lv)
 
 -- all that follows the header, in all
-pub rest-length : (message count : ℕ) (fixed bits v : List ℕ) → length fixed ≡ fixedSize → length v ≡ layoutSize → length bits ≡ 15 → count ≤ 15
+pub rest-length : (message count : ℕ) (fixed bits v : List ℕ) → length fixed ≡ fixedSize → length v ≡ layoutSize → length bits ≡ mostBitfields → count ≤ mostBitfields
     → length (restBytes message count fixed bits v) ≡ countAt message - 10 + (1 + (count + sum takes (slotsOf message count bits)))
 unfolding restBytes
 rest-length message count fixed bits v lf lv lb lc =

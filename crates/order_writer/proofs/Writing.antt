@@ -32,7 +32,7 @@ use Rattle.orders.specs.FixedFieldLaws.{fixed-found}
 use Rattle.orders.specs.OrderLaws.{most-bound}
 use Rattle.orders.specs.declared.Record.{Record}
 use Rattle.order_writer.specs.Stages.{topRefusal, unusedZero, seenRefusal, fieldBytes, restBytes}
-use Rattle.block.specs.Sizes.{allPlaces, layoutSize}
+use Rattle.block.specs.Sizes.{allPlaces, layoutSize, mostBitfields}
 
 -- ---- the stages in a row
 
@@ -64,12 +64,12 @@ top-chain a b c place rest =
     one-more a unknownType _ _ rest (λ z. omega (arith, z))
     (one-more b badUnit _ _ rest (λ z. omega (arith, z)) (one-last c (told tooManyBitfields place) rest (some _ place)))
 
--- the bitfields of a record that passes the top are at most 15
-pub count-fits : (message unit count : ℕ) → topRefusal message unit count ≡ 0 → count ≤ 15
+-- the bitfields of a record that passes the top are no more than a record has
+pub count-fits : (message unit number count : ℕ) → topRefusal message unit number count ≡ 0 → count ≤ mostBitfields
 unfolding topRefusal
-count-fits message unit count z =
+count-fits message unit number count z =
     let p4 = passed (not (ofMember message || ofVenue message)) _ _ z in
-    let p5 = passed (not (unitGood message unit)) _ _ (p4 .1) in
+    let p5 = passed (not (unitGood message unit number)) _ _ (p4 .1) in
     let p7 = passed-told (ltb (mostOf message) count) _ _ _ (p5 .1) in
     omega (arith, ltb-false (mostOf message) count (p7 .0), most-bound message)
 
@@ -142,19 +142,19 @@ module _ (r : Record) (s : Seen) (rest : List ℕ) (lv : length (r .slots) ≡ l
   -- the whole of the refusal
   in-stages : (room : ℕ)
       → writeRefusal r room
-      ≡ thenNext (topRefusal (r .message) (r .unit) (r .count))
+      ≡ thenNext (topRefusal (r .message) (r .unit) (r .number) (r .count))
       (thenNext (seenRefusal (r .message) (r .count) (r .fixed) (r .bits) rest s) (cond (ltb room (sizeOf r)) noRoom 0))
   unfolding writeRefusal topRefusal writeSlots
   in-stages room =
       let ss = slotsOf (r .message) (r .count) (r .bits) in
       let last = cond (ltb room (sizeOf r)) noRoom 0 in
-      let top = topRefusal (r .message) (r .unit) (r .count) in
-      top-chain (not (ofMember (r .message) || ofVenue (r .message))) (not (unitGood (r .message) (r .unit))) (ltb (mostOf (r .message)) (r .count)) _ _
+      let top = topRefusal (r .message) (r .unit) (r .number) (r .count) in
+      top-chain (not (ofMember (r .message) || ofVenue (r .message))) (not (unitGood (r .message) (r .unit) (r .number))) (ltb (mostOf (r .message)) (r .count)) _ _
       ∙ ap (thenNext top)
       (block-chain r (anyBad ss) (badByte 0 ss) (fixedGood (r .message) (r .fixed)) (agreeHeld ss (r .slots)) (wrongHeld 0 ss (r .slots)) (zeroUnused r) last
       ∙ ap (λ (x : ℕ). thenNext x last) (sym seen-is))
 
-  module _ (room : ℕ) (top : topRefusal (r .message) (r .unit) (r .count) ≡ 0) where
+  module _ (room : ℕ) (top : topRefusal (r .message) (r .unit) (r .number) (r .count) ≡ 0) where
     pub seen-stops : (seenRefusal (r .message) (r .count) (r .fixed) (r .bits) rest s ≡ 0 → ⊥)
         → seenRefusal (r .message) (r .count) (r .fixed) (r .bits) rest s ≡ writeRefusal r room
     seen-stops n = sym (in-stages room ∙ then-go _ _ top ∙ then-stop _ _ n)
@@ -186,7 +186,7 @@ bytes-are r e = ap (λ (x : ℕ). headerBytes (x - 2) (r .message) (r .unit) (r 
 
 -- ---- the top
 
-pub top-stops : (r : Record) (room : ℕ) → (topRefusal (r .message) (r .unit) (r .count) ≡ 0 → ⊥) → topRefusal (r .message) (r .unit) (r .count) ≡ writeRefusal r room
+pub top-stops : (r : Record) (room : ℕ) → (topRefusal (r .message) (r .unit) (r .number) (r .count) ≡ 0 → ⊥) → topRefusal (r .message) (r .unit) (r .number) (r .count) ≡ writeRefusal r room
 unfolding writeRefusal topRefusal
 top-stops r room n =
-    sym (top-chain (not (ofMember (r .message) || ofVenue (r .message))) (not (unitGood (r .message) (r .unit))) (ltb (mostOf (r .message)) (r .count)) _ _ ∙ then-stop _ _ n)
+    sym (top-chain (not (ofMember (r .message) || ofVenue (r .message))) (not (unitGood (r .message) (r .unit) (r .number))) (ltb (mostOf (r .message)) (r .count)) _ _ ∙ then-stop _ _ n)

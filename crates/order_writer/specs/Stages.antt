@@ -15,10 +15,10 @@ use Rattle.orders.specs.Shapes.{ofMember, ofVenue, countAt, mostOf, unitGood}
 use Rattle.orders.specs.FixedFields.{fixedWrong}
 
 -- 4, 5, 7
-unfoldable pub topRefusal : ℕ → ℕ → ℕ → ℕ
-topRefusal message unit count =
+unfoldable pub topRefusal : ℕ → ℕ → ℕ → ℕ → ℕ
+topRefusal message unit number count =
     cond (not (ofMember message || ofVenue message)) unknownType
-    (cond (not (unitGood message unit)) badUnit
+    (cond (not (unitGood message unit number)) badUnit
     (cond (ltb (mostOf message) count) (told tooManyBitfields (countAt message))
     0))
 

@@ -13,17 +13,17 @@ ghost use Rattle.orders.specs.Shapes.{countAt};
 ghost use Rattle.orders.specs.Orders.{writeRefusal, writeBuffer};
 ghost use Rattle.order_records.specs.Records.{recordAt};
 ghost use Rattle.order_writer.specs.Stages.{recordFrom, topRefusal, unusedZero, seenRefusal, fieldBytes, restBytes};
-ghost use Rattle.block.specs.Sizes.{fixedSize, layoutSize, recordSize};
+ghost use Rattle.block.specs.Sizes.{fixedSize, layoutSize, recordSize, mostBitfields};
 use block_write::Seen;
 
 // 4, 5, 7. Places are those in the message that would be written.
-fn top_refusal(message: u8, unit: u8, count: u8) -> u32
-    ensures { λ r. ⌜ r ≡ topRefusal message unit count ⌝ }
+fn top_refusal(message: u8, unit: u8, number: u32, count: u8) -> u32
+    ensures { λ r. ⌜ r ≡ topRefusal message unit number count ⌝ }
 {
     if !orders::is_known(message) {
         return refusals::UNKNOWN_TYPE;
     }
-    if !orders::unit_good(message, unit) {
+    if !orders::unit_good(message, unit, number) {
         return refusals::BAD_UNIT;
     }
     if orders::most_of(message) < count {
@@ -42,13 +42,17 @@ fn two_blank(a: &[u8], b: &[u8]) -> bool
     kinds::is_blank(b)
 }
 
-// Whether at most sixteen bytes are blank, in a few steps: the first and the last eight, or the first and the last four, which may overlap; fewer
-// than four are read as one number.
+// Whether at most 32 bytes are blank, in a few steps: the first and the last sixteen, eight or four, which may overlap; fewer than four are read as
+// one number.
 fn blank_few(s: &[u8]) -> bool
-    requires { ⌜ length (now s) ≤ 16 ⌝ }
+    requires { ⌜ length (now s) ≤ 32 ⌝ }
     ensures { λ r. ⌜ r ≡ allNul (now (s .entry)) ⌝ }
 {
     let n = s.len();
+    if 16 <= n {
+        let from = n - 16;
+        return two_blank(&s[0..16], &s[from..n]);
+    }
     if 8 <= n {
         let from = n - 8;
         return two_blank(&s[0..8], &s[from..n]);
@@ -60,22 +64,24 @@ fn blank_few(s: &[u8]) -> bool
     numbers::read_u32(s, 0) == 0
 }
 
-// Whether the places of a fixed part that its message does not use are zero, in two windows that overlap, each of 16 or 32 bytes: a few steps.
+// Whether the places of a fixed part that its message does not use are zero, in two windows that overlap, each of 16, 32 or 64 bytes: a few steps.
 fn fixed_blank(message: u8, fixed: &[u8]) -> bool
     requires { ⌜ length (now fixed) ≡ fixedSize ⌝ }
     ensures { λ r. ⌜ r ≡ allNul (drop (countAt message - 10) (now (fixed .entry))) ⌝ }
 {
     match message {
-        0x38 => two_blank(&fixed[25..57], &fixed[43..block::FIXED]),
-        0x39 => two_blank(&fixed[20..52], &fixed[43..block::FIXED]),
-        0x25 => two_blank(&fixed[37..53], &fixed[43..block::FIXED]),
+        0x38 => two_blank(&fixed[25..89], &fixed[74..block::FIXED]),
+        0x39 => two_blank(&fixed[20..84], &fixed[74..block::FIXED]),
+        0x25 => two_blank(&fixed[37..69], &fixed[58..block::FIXED]),
+        0x2C => two_blank(&fixed[59..75], &fixed[74..block::FIXED]),
         _ => true,
     }
 }
 
-// Whether the unused places of a record are zero, where `rest` is what is left of its layout without the selected fields.
+// Whether the unused places of a record are zero, where `rest` is what is left of its layout without the selected fields, looked at in two windows that
+// overlap: so no byte is looked at alone.
 fn unused_zero(message: u8, count: u8, fixed: &[u8], bits: &[u8], rest: &[u8]) -> bool
-    requires { ⌜ (length (now fixed) ≡ fixedSize) × (length (now bits) ≡ 15) × (count ≤ 15) ⌝ }
+    requires { ⌜ (length (now fixed) ≡ fixedSize) × (length (now bits) ≡ mostBitfields) × (count ≤ mostBitfields) × (length (now rest) ≡ layoutSize) ⌝ }
     ensures { λ r. ⌜ r ≡ unusedZero message count (now (fixed .entry)) (now (bits .entry)) (now (rest .entry)) ⌝ }
 {
     if !fixed_blank(message, fixed) {
@@ -85,12 +91,12 @@ fn unused_zero(message: u8, count: u8, fixed: &[u8], bits: &[u8], rest: &[u8]) -
     if !blank_few(&bits[k..]) {
         return false;
     }
-    kinds::is_blank(rest)
+    two_blank(&rest[0..160], &rest[159..block::LAYOUT])
 }
 
 // 8, 9, 10, 12, by what was seen of the selected fields and what is left of the layout without them.
 fn seen_refusal(message: u8, count: u8, fixed: &[u8], bits: &[u8], rest: &[u8], s: Seen) -> u32
-    requires { ⌜ (length (now fixed) ≡ fixedSize) × (length (now bits) ≡ 15) × (count ≤ 15) × (s .bad ≤ 100) × (s .wrong ≤ 1000) ⌝ }
+    requires { ⌜ (length (now fixed) ≡ fixedSize) × (length (now bits) ≡ mostBitfields) × (count ≤ mostBitfields) × (s .bad ≤ 100) × (s .wrong ≤ 1000) × (length (now rest) ≡ layoutSize) ⌝ }
     ensures { λ r. ⌜ r ≡ seenRefusal message count (now (fixed .entry)) (now (bits .entry)) (now (rest .entry)) s ⌝ }
 {
     let at = orders::count_at(message);
@@ -116,7 +122,7 @@ fn seen_refusal(message: u8, count: u8, fixed: &[u8], bits: &[u8], rest: &[u8], 
 
 // The bitfields and the selected fields into the front of a lent tail.
 fn put_fields(message: u8, count: u8, bits: &[u8], slots: &[u8], tail: &mut [u8])
-    requires { ⌜ (count ≤ 15) × (length (now slots) ≡ layoutSize) × (length (now bits) ≡ 15) × (count + sum takes (slotsOf message count (now bits)) ≤ length (now tail)) ⌝ }
+    requires { ⌜ (count ≤ mostBitfields) × (length (now slots) ≡ layoutSize) × (length (now bits) ≡ mostBitfields) × (count + sum takes (slotsOf message count (now bits)) ≤ length (now tail)) ⌝ }
     ensures { λ _. ⌜ now (tail .exit) ≡ patched (now (tail .entry)) 0 (fieldBytes message count (now (bits .entry)) (now (slots .entry))) ⌝ }
 {
     let n = count as usize;
@@ -126,7 +132,7 @@ fn put_fields(message: u8, count: u8, bits: &[u8], slots: &[u8], tail: &mut [u8]
 
 // The count, and these after it.
 fn put_count(message: u8, count: u8, bits: &[u8], slots: &[u8], tail: &mut [u8])
-    requires { ⌜ (count ≤ 15) × (length (now slots) ≡ layoutSize) × (length (now bits) ≡ 15) × (1 + (count + sum takes (slotsOf message count (now bits))) ≤ length (now tail)) ⌝ }
+    requires { ⌜ (count ≤ mostBitfields) × (length (now slots) ≡ layoutSize) × (length (now bits) ≡ mostBitfields) × (1 + (count + sum takes (slotsOf message count (now bits))) ≤ length (now tail)) ⌝ }
     ensures { λ _. ⌜ now (tail .exit) ≡ patched (now (tail .entry)) 0 (count ∷ fieldBytes message count (now (bits .entry)) (now (slots .entry))) ⌝ }
 {
     tail[0] = count;
@@ -150,13 +156,14 @@ fn put_fixed(message: u8, fixed: &[u8], tail: &mut [u8])
         0x38 => put_part(message, 25, fixed, tail),
         0x39 => put_part(message, 20, fixed, tail),
         0x25 => put_part(message, 37, fixed, tail),
-        _ => put_part(message, 59, fixed, tail),
+        0x2C => put_part(message, 59, fixed, tail),
+        _ => put_part(message, block::FIXED, fixed, tail),
     }
 }
 
 // The fixed part, and these after it.
 fn put_rest(message: u8, count: u8, fixed: &[u8], bits: &[u8], slots: &[u8], tail: &mut [u8])
-    requires { ⌜ (count ≤ 15) × (length (now fixed) ≡ fixedSize) × (length (now slots) ≡ layoutSize) × (length (now bits) ≡ 15) × (countAt message - 10 + (1 + (count + sum takes (slotsOf message count (now bits)))) ≤ length (now tail)) ⌝ }
+    requires { ⌜ (count ≤ mostBitfields) × (length (now fixed) ≡ fixedSize) × (length (now slots) ≡ layoutSize) × (length (now bits) ≡ mostBitfields) × (countAt message - 10 + (1 + (count + sum takes (slotsOf message count (now bits)))) ≤ length (now tail)) ⌝ }
     ensures { λ _. ⌜ now (tail .exit) ≡ patched (now (tail .entry)) 0 (restBytes message count (now (fixed .entry)) (now (bits .entry)) (now (slots .entry))) ⌝ }
 {
     let n = orders::count_at(message) - 10;
@@ -176,7 +183,7 @@ fn put_order(
     size: usize,
     out: &mut [u8],
 )
-    requires { ⌜ (count ≤ 15) × (length (now fixed) ≡ fixedSize) × (length (now slots) ≡ layoutSize) × (length (now bits) ≡ 15) × (size ≡ countAt message + 1 + count + sum takes (slotsOf message count (now bits))) × (size ≤ length (now out)) × (size ≤ 2048) ⌝ }
+    requires { ⌜ (count ≤ mostBitfields) × (length (now fixed) ≡ fixedSize) × (length (now slots) ≡ layoutSize) × (length (now bits) ≡ mostBitfields) × (size ≡ countAt message + 1 + count + sum takes (slotsOf message count (now bits))) × (size ≤ length (now out)) × (size ≤ 2048) ⌝ }
     ensures { λ _. ⌜ now (out .exit) ≡ patched (now (out .entry)) 0 (headerBytes (size - 2) message unit number ++ restBytes message count (now (fixed .entry)) (now (bits .entry)) (now (slots .entry))) ⌝ }
 {
     wire::header::write_header(out, (size - 2) as u16, message, unit, number);
@@ -194,10 +201,10 @@ fn write_parts(
     slots: &[u8],
     out: &mut [u8],
 ) -> u32
-    requires { ⌜ (length (now fixed) ≡ fixedSize) × (length (now slots) ≡ layoutSize) × (length (now bits) ≡ 15) ⌝ }
+    requires { ⌜ (length (now fixed) ≡ fixedSize) × (length (now slots) ≡ layoutSize) × (length (now bits) ≡ mostBitfields) ⌝ }
     ensures { λ n. ⌜ (n ≡ writeRefusal (recordFrom message unit number (now (fixed .entry)) count (now (bits .entry)) (now (slots .entry))) (length (now (out .entry)))) × (now (out .exit) ≡ writeBuffer (recordFrom message unit number (now (fixed .entry)) count (now (bits .entry)) (now (slots .entry))) (now (out .entry))) ⌝ }
 {
-    let top = top_refusal(message, unit, count);
+    let top = top_refusal(message, unit, number, count);
     if top != 0 {
         return top;
     }
@@ -216,7 +223,7 @@ fn write_parts(
     0
 }
 
-// Writes a record, which is the first 235 bytes given: 0, and the buffer begins with the message's bytes and is otherwise as it was; or the
+// Writes a record, which is the first RECORD bytes given: 0, and the buffer begins with the message's bytes and is otherwise as it was; or the
 // refusal (4, 5, 7, 8, 9, 10, 12 or 13; 7 to 10 with the place in the message that would be written), and the buffer is as it was.
 pub fn write_order(given: &[u8], out: &mut [u8]) -> u32
     requires { ⌜ recordSize ≤ length (now given) ⌝ }
@@ -227,10 +234,10 @@ pub fn write_order(given: &[u8], out: &mut [u8]) -> u32
         given[0],
         given[1],
         number,
-        &given[6..65],
-        given[65],
-        &given[66..81],
-        &given[81..block::RECORD],
+        &given[6..block::COUNT_AT],
+        given[block::COUNT_AT],
+        &given[block::BITS_AT..block::SLOTS_AT],
+        &given[block::SLOTS_AT..block::RECORD],
         out,
     )
 }

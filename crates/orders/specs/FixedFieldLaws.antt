@@ -8,11 +8,11 @@ use lib.Dec.{leb, eqb}
 use lib.ListN.{take, drop}
 use Rattle.refusals.specs.FirstBad.{tested, allGood, placesWithin}
 use Rattle.refusals.specs.FirstBadLaws.{First, first-bad-is-first, first-within, first-found}
-use Rattle.kinds.specs.declared.Kind.the-variants.{Alphanumeric, Identifier}
+use Rattle.kinds.specs.declared.Kind.the-variants.{Alphanumeric, Text, Identifier}
 use Rattle.kinds.specs.Kinds.{agreesOf, agreesFilledOf}
 use Rattle.numbers.specs.Numbers.{numberAt}
-use Rattle.orders.specs.Shapes.{countAt, newOrderGood, cancelOrderGood, acknowledgmentGood, executionGood, fixedGood}
-use Rattle.orders.specs.FixedFields.{newOrderFields, cancelOrderFields, acknowledgmentFields, executionFields, fixedFields, fixedWrong}
+use Rattle.orders.specs.Shapes.{countAt, newOrderGood, cancelOrderGood, acknowledgmentGood, executionGood, rejectionGood, fixedGood}
+use Rattle.orders.specs.FixedFields.{newOrderFields, cancelOrderFields, acknowledgmentFields, executionFields, rejectionFields, fixedFields, fixedWrong}
 
 -- ---- one to four fields in a row
 
@@ -34,29 +34,33 @@ four-good p q r s false b c d = refl
 -- the fields are good where the part is
 pub fields-good : (message : ℕ) (f : List ℕ) → allGood (fixedFields message f) ≡ fixedGood message f
 unfolding fixedFields fixedGood
-fields-good message f = by (eqb message 0x38) (eqb message 0x39) (eqb message 0x25)
+fields-good message f = by (eqb message 0x38) (eqb message 0x39) (eqb message 0x25) (eqb message 0x2C)
   where
-    by : (a b c : Bool)
-        → allGood (cond a (newOrderFields f) (cond b (cancelOrderFields f) (cond c (acknowledgmentFields f) (executionFields f))))
-        ≡ cond a (newOrderGood f) (cond b (cancelOrderGood f) (cond c (acknowledgmentGood f) (executionGood f)))
-    by true b c = three-good 10 30 31 (agreesFilledOf Identifier (take 20 f)) (agreesFilledOf Alphanumeric (take 1 (drop 20 f))) (leb 1 (numberAt 4 21 f) && leb (numberAt 4 21 f) 999999)
-    by false true c = one-good 10 (agreesFilledOf Identifier (take 20 f))
-    by false false true = one-good 18 (agreesFilledOf Identifier (take 20 (drop 8 f)))
-    by false false false =
+    by : (a b c d : Bool)
+        → allGood (cond a (newOrderFields f) (cond b (cancelOrderFields f) (cond c (acknowledgmentFields f) (cond d (executionFields f) (rejectionFields f)))))
+        ≡ cond a (newOrderGood f) (cond b (cancelOrderGood f) (cond c (acknowledgmentGood f) (cond d (executionGood f) (rejectionGood f))))
+    by true b c d = three-good 10 30 31 (agreesFilledOf Identifier (take 20 f)) (agreesFilledOf Alphanumeric (take 1 (drop 20 f))) (leb 1 (numberAt 4 21 f) && leb (numberAt 4 21 f) 999999)
+    by false true c d = one-good 10 (agreesFilledOf Identifier (take 20 f))
+    by false false true d = one-good 18 (agreesFilledOf Identifier (take 20 (drop 8 f)))
+    by false false false true =
         four-good 18 62 63 64 (agreesFilledOf Identifier (take 20 (drop 8 f))) (agreesOf Alphanumeric (take 1 (drop 52 f))) (agreesOf Alphanumeric (take 1 (drop 53 f)))
         (agreesOf Alphanumeric (take 4 (drop 54 f)))
+    by false false false false = three-good 18 38 39 (agreesFilledOf Identifier (take 20 (drop 8 f))) (agreesOf Text (take 1 (drop 28 f))) (agreesOf Text (take 60 (drop 29 f)))
 
 -- every place lies from byte 10 up to the count byte
 fields-within : (message : ℕ) (f : List ℕ) → placesWithin 10 (countAt message) (fixedFields message f) ≡ true
 unfolding fixedFields countAt
-fields-within message f = by (eqb message 0x38) (eqb message 0x39) (eqb message 0x25)
+fields-within message f = by (eqb message 0x38) (eqb message 0x39) (eqb message 0x25) (eqb message 0x2C)
   where
-    by : (a b c : Bool)
-        → placesWithin 10 (cond a 35 (cond b 30 (cond c 47 69))) (cond a (newOrderFields f) (cond b (cancelOrderFields f) (cond c (acknowledgmentFields f) (executionFields f)))) ≡ true
-    by true b c = refl
-    by false true c = refl
-    by false false true = refl
-    by false false false = refl
+    by : (a b c d : Bool)
+        → placesWithin 10 (cond a 35 (cond b 30 (cond c 47 (cond d 69 100))))
+        (cond a (newOrderFields f) (cond b (cancelOrderFields f) (cond c (acknowledgmentFields f) (cond d (executionFields f) (rejectionFields f)))))
+        ≡ true
+    by true b c d = refl
+    by false true c d = refl
+    by false false true d = refl
+    by false false false true = refl
+    by false false false false = refl
 
 -- so a bad field is told exactly where the part is not good
 pub fixed-found : (message : ℕ) (f : List ℕ) → eqb (fixedWrong message f) 0 ≡ fixedGood message f

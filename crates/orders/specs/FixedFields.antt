@@ -5,7 +5,7 @@ use mathlib.Core.List.{List, [], _∷_}
 use lib.Dec.{leb, eqb}
 use lib.ListN.{take, drop}
 use Rattle.refusals.specs.FirstBad.{Tested, tested, firstBad}
-use Rattle.kinds.specs.declared.Kind.the-variants.{Alphanumeric, Identifier}
+use Rattle.kinds.specs.declared.Kind.the-variants.{Alphanumeric, Text, Identifier}
 use Rattle.kinds.specs.Kinds.{agreesOf, agreesFilledOf}
 use Rattle.numbers.specs.Numbers.{numberAt}
 
@@ -35,13 +35,22 @@ executionFields f =
     ∷ tested 64 (agreesOf Alphanumeric (take 4 (drop 54 f)))
     ∷ []
 
+-- the rejections: ClOrdID at 18, the reason at 38, Text at 39
+abbrev pub rejectionFields : List ℕ → List Tested
+rejectionFields f =
+    tested 18 (agreesFilledOf Identifier (take 20 (drop 8 f)))
+    ∷ tested 38 (agreesOf Text (take 1 (drop 28 f)))
+    ∷ tested 39 (agreesOf Text (take 60 (drop 29 f)))
+    ∷ []
+
 -- those of a message of the type
 unfoldable pub fixedFields : ℕ → List ℕ → List Tested
 fixedFields message f =
     cond (eqb message 0x38) (newOrderFields f)
     (cond (eqb message 0x39) (cancelOrderFields f)
     (cond (eqb message 0x25) (acknowledgmentFields f)
-    (executionFields f)))
+    (cond (eqb message 0x2C) (executionFields f)
+    (rejectionFields f))))
 
 -- 10: the place of the first that is bad; 0 where none is
 unfoldable pub fixedWrong : ℕ → List ℕ → ℕ

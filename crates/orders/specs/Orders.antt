@@ -14,7 +14,7 @@ use Rattle.block.specs.Places.{slotsOf, hasRequired}
 use Rattle.orders.specs.Shapes.{ofMember, ofVenue, countAt, mostOf, unitGood, fixedGood}
 use Rattle.orders.specs.FixedFields.{fixedWrong}
 use Rattle.orders.specs.declared.Record.{Record}
-use Rattle.block.specs.Sizes.{fixedEnd, fixedSize, layoutSize}
+use Rattle.block.specs.Sizes.{fixedEnd, fixedSize, mostBitfields, layoutSize}
 
 -- ---- reading a whole message m
 
@@ -24,7 +24,7 @@ countOf m = getD m (countAt (typeOf m)) 0
 
 -- the bitfields, with zeros after them
 unfoldable pub bitsOf : List ℕ → List ℕ
-bitsOf m = take (countOf m) (drop (countAt (typeOf m) + 1) m) ++ zeros (15 - countOf m)
+bitsOf m = take (countOf m) (drop (countAt (typeOf m) + 1) m) ++ zeros (mostBitfields - countOf m)
 
 -- the optional bytes: all that follows the bitfields
 unfoldable pub optionalOf : List ℕ → List ℕ
@@ -41,7 +41,7 @@ fixedOf m = take (countAt (typeOf m) - 10) (drop 10 m) ++ zeros (fixedEnd - coun
 unfoldable pub headRefusal : List ℕ → ℕ
 headRefusal m =
     cond (not (ofMember (typeOf m) || ofVenue (typeOf m))) unknownType
-    (cond (not (unitGood (typeOf m) (unitOf m))) badUnit
+    (cond (not (unitGood (typeOf m) (unitOf m) (numberOf m))) badUnit
     (cond (leb (length m) (countAt (typeOf m))) (told wrongTotal (totalOf m))
     (cond (ltb (mostOf (typeOf m)) (countOf m)) (told tooManyBitfields (countAt (typeOf m)))
     (cond (ltb (length m) (countAt (typeOf m) + 1 + countOf m)) (told wrongTotal (totalOf m))
@@ -81,7 +81,7 @@ recordOf m =
 
 -- the record with which a new one begins
 abbrev pub blank : Record
-blank = record { message = 0; unit = 0; number = 0; fixed = zeros fixedSize; count = 0; bits = zeros 15; slots = zeros layoutSize }
+blank = record { message = 0; unit = 0; number = 0; fixed = zeros fixedSize; count = 0; bits = zeros mostBitfields; slots = zeros layoutSize }
 
 -- ---- writing a record
 
@@ -112,7 +112,7 @@ orderBytes r =
 unfoldable pub writeRefusal : Record → ℕ → ℕ
 writeRefusal r room =
     cond (not (ofMember (r .message) || ofVenue (r .message))) unknownType
-    (cond (not (unitGood (r .message) (r .unit))) badUnit
+    (cond (not (unitGood (r .message) (r .unit) (r .number))) badUnit
     (cond (ltb (mostOf (r .message)) (r .count)) (told tooManyBitfields (countAt (r .message)))
     (cond (anyBad (writeSlots r)) (told unlistedBit (countAt (r .message) + badByte 0 (writeSlots r)))
     (cond (not (hasRequired (r .message) (r .count) (r .bits))) (told notSelected (countAt (r .message) + r .count))

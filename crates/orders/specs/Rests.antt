@@ -5,7 +5,7 @@ use mathlib.Core.Bool.{cond, _&&_}
 use mathlib.Core.List.{List}
 use lib.Dec.{leb, eqb}
 use lib.ListN.{take, drop}
-use Rattle.kinds.specs.declared.Kind.the-variants.{Alphanumeric}
+use Rattle.kinds.specs.declared.Kind.the-variants.{Alphanumeric, Text}
 use Rattle.kinds.specs.Kinds.{agreesOf, agreesFilledOf}
 use Rattle.numbers.specs.Numbers.{numberAt}
 
@@ -13,7 +13,7 @@ use Rattle.numbers.specs.Numbers.{numberAt}
 unfoldable pub nameAt : ℕ → ℕ
 nameAt message = cond (eqb message 0x38) 0 (cond (eqb message 0x39) 0 8)
 
--- the first bad field of those that follow the identifier in New Order, and in Order Execution
+-- the first bad field of those that follow the identifier in New Order, in Order Execution, and in the rejections
 abbrev pub newOrderRest : List ℕ → ℕ
 newOrderRest f =
     cond (agreesFilledOf Alphanumeric (take 1 (drop 20 f)))
@@ -27,3 +27,9 @@ executionRest f =
     (cond (agreesOf Alphanumeric (take 4 (drop 54 f))) 0 64)
     63)
     62
+
+abbrev pub rejectionRest : List ℕ → ℕ
+rejectionRest f =
+    cond (agreesOf Text (take 1 (drop 28 f)))
+    (cond (agreesOf Text (take 60 (drop 29 f))) 0 39)
+    38

@@ -23,7 +23,7 @@ use Rattle.orders.specs.Shapes.{ofMember, ofVenue, countAt, unitGood, fi
 use Rattle.orders.specs.Orders.{countOf, bitsOf, optionalOf, fixedOf, layoutOf, readRefusal, recordOf, writeSlots, sizeOf, orderBytes, writeRefusal}
 use Rattle.orders.specs.OrderLaws.{count-bounds, most-bound, good, is-read, fit, is-written}
 use Rattle.orders.specs.declared.Record.{Record}
-use Rattle.block.specs.Sizes.{fixedEnd, fixedSize, layoutSize}
+use Rattle.block.specs.Sizes.{fixedEnd, fixedSize, layoutSize, mostBitfields}
 
 -- ---- five parts one after the other
 
@@ -116,7 +116,7 @@ module _ (m : List ℕ) (bytes : Bytes m) (w : Whole m) (exact : length m ≡ to
 
   bits-again : take (countOf m) (bitsOf m) ≡ take (countOf m) (drop (countAt (typeOf m) + 1) m)
   unfolding bitsOf
-  bits-again = take-at (take (countOf m) (drop (countAt (typeOf m) + 1) m)) (zeros (15 - countOf m)) (countOf m) front-bits
+  bits-again = take-at (take (countOf m) (drop (countAt (typeOf m) + 1) m)) (zeros (mostBitfields - countOf m)) (countOf m) front-bits
 
   fixed-again : take (countAt (typeOf m) - 10) (fixedOf m) ≡ take (countAt (typeOf m) - 10) (drop 10 m)
   unfolding fixedOf
@@ -156,7 +156,7 @@ module _ (m : List ℕ) (bytes : Bytes m) (w : Whole m) (exact : length m ≡ to
         fixed = y .fixed;
         agree = agree-spread (slotsOf (typeOf m) (countOf m) (bitsOf m)) (optionalOf m) (zeros (layoutSize - sum width (slotsOf (typeOf m) (countOf m) (bitsOf m)))) (omega (arith, y .total)) ∙ y .agree;
         zero-fixed = ap allNul (drop-at (take (countAt (typeOf m) - 10) (drop 10 m)) (zeros (fixedEnd - countAt (typeOf m))) (countAt (typeOf m) - 10) front-fixed) ∙ zeros-are-nul (fixedEnd - countAt (typeOf m));
-        zero-bits = ap allNul (drop-at (take (countOf m) (drop (countAt (typeOf m) + 1) m)) (zeros (15 - countOf m)) (countOf m) front-bits) ∙ zeros-are-nul (15 - countOf m);
+        zero-bits = ap allNul (drop-at (take (countOf m) (drop (countAt (typeOf m) + 1) m)) (zeros (mostBitfields - countOf m)) (countOf m) front-bits) ∙ zeros-are-nul (mostBitfields - countOf m);
         zero-slots = spread-zero (slotsOf (typeOf m) (countOf m) (bitsOf m)) (optionalOf m) (layoutSize - sum width (slotsOf (typeOf m) (countOf m) (bitsOf m))) (omega (arith, y .total));
         has-room = omega (arith, size-again, h);
       })
@@ -166,7 +166,7 @@ module _ (m : List ℕ) (bytes : Bytes m) (w : Whole m) (exact : length m ≡ to
 -- the values of a record's types: its arrays' lengths and its number's range
 pub record Sound (r : Record) : Type 0 where
   pub fixed-length : length (r .fixed) ≡ fixedSize
-  pub bits-length : length (r .bits) ≡ 15
+  pub bits-length : length (r .bits) ≡ mostBitfields
   pub slots-length : length (r .slots) ≡ layoutSize
   pub number-range : r .number < 4294967296
 
@@ -181,7 +181,7 @@ read-sound m bytes z =
     let e : fixedSize - (countAt (typeOf m) - 10) ≡ fixedEnd - countAt (typeOf m) = omega (arith, b .low) in
     record {
       fixed-length = ap (λ (n : ℕ). length (take (countAt (typeOf m) - 10) (drop 10 m) ++ zeros n)) (sym e) ∙ p;
-      bits-length = padded (countOf m) (countAt (typeOf m) + 1) 15 m (omega (arith, g .there)) (omega (arith, g .count, most-bound (typeOf m)));
+      bits-length = padded (countOf m) (countAt (typeOf m) + 1) mostBitfields m (omega (arith, g .there)) (omega (arith, g .count, most-bound (typeOf m)));
       slots-length =
           let n = spread-length ss (optionalOf m) (omega (arith, g .total)) in
           length-append (spread ss (optionalOf m)) (zeros (layoutSize - sum width ss)) ∙ omega (arith, n, length-zeros (layoutSize - sum width ss), widths-fit (typeOf m) (countOf m) (bitsOf m));
@@ -198,7 +198,7 @@ module _ (r : Record) (room : ℕ) (ok : Sound r) (z : writeRefusal r room ≡ 0
   count-low : 10 ≤ countAt (r .message)
   count-low = omega (arith, count-bounds (r .message) .low)
 
-  count-small : r .count ≤ 15
+  count-small : r .count ≤ mostBitfields
   count-small = omega (arith, fit r room z .count, most-bound (r .message))
 
   kept-fixed : length (take (countAt (r .message) - 10) (r .fixed)) ≡ countAt (r .message) - 10
@@ -236,10 +236,10 @@ module _ (r : Record) (room : ℕ) (ok : Sound r) (z : writeRefusal r room ≡ 0
   bits-are : bitsOf (orderBytes r) ≡ r .bits
   unfolding orderBytes bitsOf
   bits-are =
-      ap (λ (c : ℕ). take c (drop (countAt (r .message) + 1) (orderBytes r)) ++ zeros (15 - c)) count-is
-      ∙ ap (λ (l : List ℕ). l ++ zeros (15 - r .count))
+      ap (λ (c : ℕ). take c (drop (countAt (r .message) + 1) (orderBytes r)) ++ zeros (mostBitfields - c)) count-is
+      ∙ ap (λ (l : List ℕ). l ++ zeros (mostBitfields - r .count))
       (parts-bits (headerBytes (sizeOf r - 2) (r .message) (r .unit) (r .number)) (take (countAt (r .message) - 10) (r .fixed)) (r .count) (take (r .count) (r .bits)) (gathered (writeSlots r) (r .slots)) (countAt (r .message)) refl kept-fixed kept-bits count-low)
-      ∙ zeros-after (r .count) 15 (r .bits) (ok .bits-length) (fit r room z .zero-bits)
+      ∙ zeros-after (r .count) mostBitfields (r .bits) (ok .bits-length) (fit r room z .zero-bits)
 
   optional-are : optionalOf (orderBytes r) ≡ gathered (writeSlots r) (r .slots)
   unfolding orderBytes optionalOf
@@ -294,7 +294,7 @@ module _ (r : Record) (room : ℕ) (ok : Sound r) (z : writeRefusal r room ≡ 0
       is-read (orderBytes r)
       (record {
         known = ap (λ (t : ℕ). ofMember t || ofVenue t) type-is ∙ f .known;
-        unit = ap₂ unitGood type-is unit-is ∙ f .unit;
+        unit = ap₂ (λ (x y : ℕ). unitGood x y (numberOf (orderBytes r))) type-is unit-is ∙ ap (unitGood (r .message) (r .unit)) number-is ∙ f .unit;
         count = rw (count-is, type-is) (f .count);
         there = rw (count-is, type-is, bytes-length) size-there;
         listed = ap anyBad slots-are ∙ f .listed;
@@ -305,7 +305,7 @@ module _ (r : Record) (room : ℕ) (ok : Sound r) (z : writeRefusal r room ≡ 0
       })
 
   -- any bytes after the message play no part: framing answers the message
-  small : sizeOf r ≤ 239
+  small : sizeOf r ≤ fixedEnd + 1 + mostBitfields + layoutSize
   unfolding sizeOf
   small =
       let n : sum takes (writeSlots r) ≤ layoutSize = omega (arith, takes-below (writeSlots r), slots-fit, ok .slots-length) in

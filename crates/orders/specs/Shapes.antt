@@ -4,7 +4,7 @@ use mathlib.Core.Bool.{Bool, cond, _&&_, _||_}
 use mathlib.Core.List.{List}
 use lib.Dec.{leb, eqb}
 use lib.ListN.{take, drop}
-use Rattle.kinds.specs.declared.Kind.the-variants.{Alphanumeric, Identifier}
+use Rattle.kinds.specs.declared.Kind.the-variants.{Alphanumeric, Text, Identifier}
 use Rattle.kinds.specs.Kinds.{agreesOf, agreesFilledOf}
 use Rattle.numbers.specs.Numbers.{numberAt}
 
@@ -12,21 +12,38 @@ use Rattle.numbers.specs.Numbers.{numberAt}
 abbrev pub ofMember : ℕ → Bool
 ofMember message = eqb message 0x38 || eqb message 0x39
 
--- Order Acknowledgment and Order Execution from the venue
+-- 000, List of Message Types: Order Acknowledgment and Order Execution from the venue are sequenced
+abbrev pub sequenced : ℕ → Bool
+sequenced message = eqb message 0x25 || eqb message 0x2C
+
+-- and Order Rejected, User Modify Rejected and Cancel Rejected are not
+abbrev pub unsequenced : ℕ → Bool
+unsequenced message = eqb message 0x26 || (eqb message 0x29 || eqb message 0x2B)
+
+-- the application messages from the venue
 abbrev pub ofVenue : ℕ → Bool
-ofVenue message = eqb message 0x25 || eqb message 0x2C
+ofVenue message = sequenced message || unsequenced message
 
--- where the count of bitfields stands: New Order 35, Cancel Order 30, Order Acknowledgment 47, Order Execution 69
+-- where the count of bitfields stands: New Order 35, Cancel Order 30, Order Acknowledgment 47, Order Execution 69, the rejections 100
 unfoldable pub countAt : ℕ → ℕ
-countAt message = cond (eqb message 0x38) 35 (cond (eqb message 0x39) 30 (cond (eqb message 0x25) 47 69))
+countAt message =
+    cond (eqb message 0x38) 35
+    (cond (eqb message 0x39) 30
+    (cond (eqb message 0x25) 47
+    (cond (eqb message 0x2C) 69
+    100)))
 
--- the most bitfields: 10, 2, 15 and 15
+-- the most bitfields: 10, 2, 15 and 15, and 19 as the tables of the rejections print
 unfoldable pub mostOf : ℕ → ℕ
-mostOf message = cond (eqb message 0x38) 10 (cond (eqb message 0x39) 2 15)
+mostOf message = cond (eqb message 0x38) 10 (cond (eqb message 0x39) 2 (cond (sequenced message) 15 19))
 
--- members' messages carry unit 0, and application messages from the venue a unit 1 to 32; both any number
-unfoldable pub unitGood : ℕ → ℕ → Bool
-unitGood message unit = cond (ofMember message) (eqb unit 0) (leb 1 unit && leb unit 32)
+-- members' messages carry unit 0 and any number; 02, request 2: an unsequenced one from the venue carries unit 0 and number 0, a sequenced one a unit
+-- 1 to 32 and any number
+unfoldable pub unitGood : ℕ → ℕ → ℕ → Bool
+unitGood message unit number =
+    cond (ofMember message) (eqb unit 0)
+    (cond (unsequenced message) (eqb unit 0 && eqb number 0)
+    (leb 1 unit && leb unit 32))
 
 -- the values of the fixed part f, which begins at byte 10 of the message.
 -- New Order: ClOrdID (20), never blank; Side (1), N, never blank; OrderQty (4), 1 to 999,999
@@ -53,10 +70,19 @@ executionGood f =
     && (agreesOf Alphanumeric (take 1 (drop 53 f))
     && agreesOf Alphanumeric (take 4 (drop 54 f))))
 
+-- Order Rejected, Cancel Rejected and User Modify Rejected: TransactionTime (8); ClOrdID (20), never blank; the reason (1), T; Text (60), T; a
+-- reserved byte
+abbrev pub rejectionGood : List ℕ → Bool
+rejectionGood f =
+    agreesFilledOf Identifier (take 20 (drop 8 f))
+    && (agreesOf Text (take 1 (drop 28 f))
+    && agreesOf Text (take 60 (drop 29 f)))
+
 -- 10: the values of the fixed part of a message of the type
 unfoldable pub fixedGood : ℕ → List ℕ → Bool
 fixedGood message f =
     cond (eqb message 0x38) (newOrderGood f)
     (cond (eqb message 0x39) (cancelOrderGood f)
     (cond (eqb message 0x25) (acknowledgmentGood f)
-    (executionGood f)))
+    (cond (eqb message 0x2C) (executionGood f)
+    (rejectionGood f))))

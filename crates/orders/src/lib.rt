@@ -1,11 +1,13 @@
-// Messages with bitfields: New Order, Cancel Order, Order Acknowledgment and Order Execution, as records.
+// Messages with bitfields, as records: New Order and Cancel Order from the member; Order Acknowledgment, Order Execution, Order Rejected, Cancel
+// Rejected and User Modify Rejected from the venue.
 ghost use mathlib.Core.Path.{_≡_};
-ghost use mathlib.Core.Bool.{_||_};
+ghost use mathlib.Core.Bool.{_&&_, _||_};
+ghost use lib.Dec.{eqb};
 ghost use Prim.Native.Nat.{_+_, _≤_};
 ghost use lib.ListN.{length};
-ghost use Rattle.orders.specs.Shapes.{ofMember, ofVenue, countAt, mostOf, unitGood};
+ghost use Rattle.orders.specs.Shapes.{ofMember, sequenced, unsequenced, ofVenue, countAt, mostOf, unitGood};
 ghost use Rattle.orders.specs.FixedFields.{fixedWrong};
-ghost use Rattle.orders.specs.Rests.{nameAt, newOrderRest, executionRest};
+ghost use Rattle.orders.specs.Rests.{nameAt, newOrderRest, executionRest, rejectionRest};
 ghost use Rattle.orders.specs.Orders.{blank};
 use kinds::Kind;
 use table::Unit;
@@ -18,7 +20,7 @@ pub struct Record {
     pub number: u32,
     pub fixed: [u8; block::FIXED],
     pub count: u8,
-    pub bits: [u8; 15],
+    pub bits: [u8; block::BITFIELDS],
     pub slots: [u8; block::LAYOUT],
 }
 
@@ -32,14 +34,36 @@ pub fn of_member(message: u8) -> bool
     }
 }
 
-// A type of the venue's.
-pub fn of_venue(message: u8) -> bool
-    ensures { λ r. ⌜ r ≡ ofVenue message ⌝ }
+// A type of the venue's that is sequenced: it counts in its unit, and is booked.
+pub fn is_sequenced(message: u8) -> bool
+    ensures { λ r. ⌜ r ≡ sequenced message ⌝ }
 {
     match message {
         0x25 | 0x2C => true,
         _ => false,
     }
+}
+
+// A type of the venue's that is not: it is handed to the desk, and neither booked nor counted.
+pub fn is_unsequenced(message: u8) -> bool
+    ensures { λ r. ⌜ r ≡ unsequenced message ⌝ }
+{
+    match message {
+        0x26 => true,
+        0x29 => true,
+        0x2B => true,
+        _ => false,
+    }
+}
+
+// A type of the venue's.
+pub fn of_venue(message: u8) -> bool
+    ensures { λ r. ⌜ r ≡ ofVenue message ⌝ }
+{
+    if is_sequenced(message) {
+        return true;
+    }
+    is_unsequenced(message)
 }
 
 // A type of either.
@@ -60,7 +84,8 @@ pub fn count_at(message: u8) -> usize
         0x38 => 35,
         0x39 => 30,
         0x25 => 47,
-        _ => 69,
+        0x2C => 69,
+        _ => 100,
     }
 }
 
@@ -71,16 +96,31 @@ pub fn most_of(message: u8) -> u8
     match message {
         0x38 => 10,
         0x39 => 2,
-        _ => 15,
+        0x25 => 15,
+        0x2C => 15,
+        _ => 19,
     }
 }
 
-// Whether a message of a type may carry a unit.
-pub fn unit_good(message: u8, unit: u8) -> bool
-    ensures { λ r. ⌜ r ≡ unitGood message unit ⌝ }
+// Whether unit and number are 0.
+fn both_zero(unit: u8, number: u32) -> bool
+    ensures { λ r. ⌜ r ≡ (eqb unit 0 && eqb number 0) ⌝ }
+{
+    if unit == 0 {
+        return number == 0;
+    }
+    false
+}
+
+// Whether a message of a type may carry a unit and a number.
+pub fn unit_good(message: u8, unit: u8, number: u32) -> bool
+    ensures { λ r. ⌜ r ≡ unitGood message unit number ⌝ }
 {
     if of_member(message) {
         return unit == 0;
+    }
+    if is_unsequenced(message) {
+        return both_zero(unit, number);
     }
     table::unit_refusal(Unit(unit)) == 0
 }
@@ -131,6 +171,20 @@ fn execution_rest(f: &[u8]) -> usize
     0
 }
 
+// A rejection, after ClOrdID: the reason and Text of their kind. 0, or the place of the first that is not.
+fn rejection_rest(f: &[u8]) -> usize
+    requires { ⌜ 89 ≤ length (now f) ⌝ }
+    ensures { λ r. ⌜ r ≡ rejectionRest (now (f .entry)) ⌝ }
+{
+    if !kinds::agrees(Kind::Text, &f[28..29]) {
+        return 38;
+    }
+    if !kinds::agrees(Kind::Text, &f[29..89]) {
+        return 39;
+    }
+    0
+}
+
 // The place in the message of the first field of a fixed part whose value is against its kind or range; 0 where there is none. More bytes may follow
 // the fixed part. Every type has an identifier, never blank; Cancel Order and Order Acknowledgment have nothing else to test.
 pub fn fixed_wrong(message: u8, f: &[u8]) -> usize
@@ -145,7 +199,8 @@ pub fn fixed_wrong(message: u8, f: &[u8]) -> usize
         0x38 => new_order_rest(f),
         0x39 => 0,
         0x25 => 0,
-        _ => execution_rest(f),
+        0x2C => execution_rest(f),
+        _ => rejection_rest(f),
     }
 }
 
@@ -159,7 +214,7 @@ pub fn blank_record() -> Record
         number: 0,
         fixed: [0; block::FIXED],
         count: 0,
-        bits: [0; 15],
+        bits: [0; block::BITFIELDS],
         slots: [0; block::LAYOUT],
     }
 }

@@ -9,7 +9,7 @@ use Rattle.wire.specs.Header.{typeOf, unitOf, numberOf}
 use Rattle.wire.specs.Frame.{frameRefusal, framed}
 use Rattle.block.specs.Slots.{takes, sum, anyBad, agreeSent, agreeHeld}
 use Rattle.block.specs.Places.{slotsOf, hasRequired}
-use Rattle.orders.specs.Shapes.{ofMember, ofVenue, countAt, mostOf, unitGood, fixedGood}
+use Rattle.orders.specs.Shapes.{ofMember, sequenced, ofVenue, countAt, mostOf, unitGood, fixedGood}
 use Rattle.orders.specs.Orders.{countOf, bitsOf, fixedOf, optionalOf, writeSlots, zeroUnused, sizeOf}
 use Rattle.orders.specs.declared.Record.{Record}
 use Rattle.order_records.specs.Records.{recordAt}
@@ -22,7 +22,7 @@ use Rattle.messages.specs.Messages.{isSession, carries, recordSizeOf, sessionAt
 unfoldable pub headNumber : List ℕ → ℕ
 headNumber m =
     cond (not (ofMember (typeOf m) || ofVenue (typeOf m))) 4
-    (cond (not (unitGood (typeOf m) (unitOf m))) 5
+    (cond (not (unitGood (typeOf m) (unitOf m) (numberOf m))) 5
     (cond (leb (length m) (countAt (typeOf m))) 6
     (cond (ltb (mostOf (typeOf m)) (countOf m)) 7
     (cond (ltb (length m) (countAt (typeOf m) + 1 + countOf m)) 6
@@ -44,7 +44,7 @@ orderNumber m = cond (eqb (headNumber m) 0) (blockNumber (typeOf m) (countOf m) 
 unfoldable pub orderWriteNumber : Record → ℕ → ℕ
 orderWriteNumber r room =
     cond (not (ofMember (r .message) || ofVenue (r .message))) 4
-    (cond (not (unitGood (r .message) (r .unit))) 5
+    (cond (not (unitGood (r .message) (r .unit) (r .number))) 5
     (cond (ltb (mostOf (r .message)) (r .count)) 7
     (cond (anyBad (writeSlots r)) 8
     (cond (not (hasRequired (r .message) (r .count) (r .bits))) 9
@@ -104,9 +104,9 @@ writeCallNumber direction s room =
     (sessionWriteNumber (sessionAt s .message) (sessionAt s .unit) (sessionAt s .number) (sessionAt s .body) room)
     (orderWriteNumber (recordAt s) room))))
 
--- ---- the book: 1, 2, 3; 4 for a type that is no application message of the venue's; then the message's own
+-- ---- the book: 1, 2, 3; 4 for a type that is no sequenced message of the venue's; then the message's own
 unfoldable pub bookNumber : List ℕ → ℕ
 bookNumber s =
     cond (eqb (frameRefusal s) 0)
-    (cond (ofVenue (typeOf (framed s))) (orderNumber (framed s)) 4)
+    (cond (sequenced (typeOf (framed s))) (orderNumber (framed s)) 4)
     (frameRefusal s)

@@ -14,7 +14,7 @@ use Rattle.wire.specs.Header.{typeOf, unitOf, numberOf}
 use Rattle.wire.specs.Frame.{startsBad, lengthBad, cutShort, frameRefusal, framed}
 use Rattle.block.specs.Slots.{takes, sum, anyBad, agreeSent, agreeHeld}
 use Rattle.block.specs.Places.{slotsOf, hasRequired}
-use Rattle.orders.specs.Shapes.{ofMember, ofVenue, countAt, mostOf, unitGood, fixedGood}
+use Rattle.orders.specs.Shapes.{ofMember, sequenced, ofVenue, countAt, mostOf, unitGood, fixedGood}
 use Rattle.orders.specs.Orders as orders
 use Rattle.orders.specs.declared.Record.{Record}
 use Rattle.order_records.specs.Records.{recordAt}
@@ -62,7 +62,7 @@ head-was : (m : List ℕ) → Was (orders.headRefusal m) (headNumber m)
 unfolding orders.headRefusal headNumber
 head-was m =
     either (not (ofMember (typeOf m) || ofVenue (typeOf m))) (alone 4 (omega arith))
-    (either (not (unitGood (typeOf m) (unitOf m))) (alone 5 (omega arith))
+    (either (not (unitGood (typeOf m) (unitOf m) (numberOf m))) (alone 5 (omega arith))
     (either (leb (length m) (countAt (typeOf m))) (placed 6 _ (omega arith) (omega arith))
     (either (ltb (mostOf (typeOf m)) (orders.countOf m)) (placed 7 _ (omega arith) (omega arith))
     (either (ltb (length m) (countAt (typeOf m) + 1 + orders.countOf m)) (placed 6 _ (omega arith) (omega arith)) (alone 0 (omega arith))))))
@@ -83,7 +83,7 @@ order-write-was : (r : Record) (room : ℕ) → Was (orders.writeRefusal r room)
 unfolding orders.writeRefusal orderWriteNumber
 order-write-was r room =
     either (not (ofMember (r .message) || ofVenue (r .message))) (alone 4 (omega arith))
-    (either (not (unitGood (r .message) (r .unit))) (alone 5 (omega arith))
+    (either (not (unitGood (r .message) (r .unit) (r .number))) (alone 5 (omega arith))
     (either (ltb (mostOf (r .message)) (r .count)) (placed 7 _ (omega arith) (omega arith))
     (either (anyBad (orders.writeSlots r)) (placed 8 _ (omega arith) (omega arith))
     (either (not (hasRequired (r .message) (r .count) (r .bits))) (placed 9 _ (omega arith) (omega arith))
@@ -142,7 +142,7 @@ write-call-was direction s room =
 
 book-was : (s : List ℕ) → Was (messageRefusal s) (bookNumber s)
 unfolding messageRefusal bookNumber
-book-was s = then (frame-was s) (either (ofVenue (typeOf (framed s))) (order-was (framed s)) (alone 4 (omega arith)))
+book-was s = then (frame-was s) (either (sequenced (typeOf (framed s))) (order-was (framed s)) (alone 4 (omega arith)))
 
 -- NUMBERS STAY: of reading, of writing and of what a book takes, whatever the bytes, the record and the room. The session and the venue answer these
 pub record NumbersStay (direction : ℕ) (s : List ℕ) (room : ℕ) : Type 0 where

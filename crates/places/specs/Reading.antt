@@ -18,9 +18,9 @@ use Rattle.wire.specs.Header.{typeOf, unitOf, numberOf, totalOf}
 use Rattle.block.specs.Slots.{takes, sum, anyBad, badByte, agreeSent, wrongSent}
 use Rattle.block.specs.Places.{selectedAt, entryAt, slotsOf, hasRequired}
 use Rattle.block.specs.FirstBad.{BadBit, BadField, eight-names-the-first-bad-byte, ten-names-the-first-bad-field}
-use Rattle.block.specs.Sizes.{allPlaces}
+use Rattle.block.specs.Sizes.{allPlaces, fixedEnd}
 use Rattle.orders.specs.Shapes.{ofMember, ofVenue, countAt, mostOf, unitGood, fixedGood}
-use Rattle.orders.specs.FixedFields.{newOrderFields, cancelOrderFields, acknowledgmentFields, executionFields, fixedFields, fixedWrong}
+use Rattle.orders.specs.FixedFields.{newOrderFields, cancelOrderFields, acknowledgmentFields, executionFields, rejectionFields, fixedFields, fixedWrong}
 use Rattle.orders.specs.FixedFieldLaws.{fields-good, fixed-within, fixed-names-the-first}
 use Rattle.orders.specs.Orders.{countOf, bitsOf, fixedOf, optionalOf, headRefusal, blockRefusal, readRefusal}
 use Rattle.session_messages.specs.ValueFields.{nameFields, statusFields, reasonFields, valueFields, valuesWrong}
@@ -43,19 +43,20 @@ first-from least most (t ∷ ts) h g =
     by true l z more = more z
     by false l z more = l
 
-fixed-places : (message : ℕ) (f : List ℕ) → placesWithin 10 69 (fixedFields message f) ≡ true
+fixed-places : (message : ℕ) (f : List ℕ) → placesWithin 10 fixedEnd (fixedFields message f) ≡ true
 unfolding fixedFields
-fixed-places message f = by (eqb message 0x38) (eqb message 0x39) (eqb message 0x25)
+fixed-places message f = by (eqb message 0x38) (eqb message 0x39) (eqb message 0x25) (eqb message 0x2C)
   where
-    by : (a b c : Bool) → placesWithin 10 69 (cond a (newOrderFields f) (cond b (cancelOrderFields f) (cond c (acknowledgmentFields f) (executionFields f)))) ≡ true
-    by true b c = refl
-    by false true c = refl
-    by false false true = refl
-    by false false false = refl
+    by : (a b c d : Bool) → placesWithin 10 fixedEnd (cond a (newOrderFields f) (cond b (cancelOrderFields f) (cond c (acknowledgmentFields f) (cond d (executionFields f) (rejectionFields f))))) ≡ true
+    by true b c d = refl
+    by false true c d = refl
+    by false false true d = refl
+    by false false false true = refl
+    by false false false false = refl
 
 pub fixed-from : (message : ℕ) (f : List ℕ) → fixedGood message f ≡ false → 10 ≤ fixedWrong message f
 unfolding fixedWrong
-fixed-from message f g = first-from 10 69 (fixedFields message f) (fixed-places message f) (fields-good message f ∙ g)
+fixed-from message f g = first-from 10 fixedEnd (fixedFields message f) (fixed-places message f) (fields-good message f ∙ g)
 
 value-places : (message : ℕ) (b : List ℕ) → placesWithin 10 69 (valueFields message b) ≡ true
 unfolding valueFields
@@ -139,7 +140,7 @@ module _ (m : List ℕ) where
   head-tells : Tells m (headRefusal m)
   unfolding headRefusal
   head-tells =
-      by (ofMember (typeOf m) || ofVenue (typeOf m)) (unitGood (typeOf m) (unitOf m)) (leb (length m) (countAt (typeOf m))) (ltb (mostOf (typeOf m)) (countOf m)) (ltb (length m) (countAt (typeOf m) + 1 + countOf m)) refl refl
+      by (ofMember (typeOf m) || ofVenue (typeOf m)) (unitGood (typeOf m) (unitOf m) (numberOf m)) (leb (length m) (countAt (typeOf m))) (ltb (mostOf (typeOf m)) (countOf m)) (ltb (length m) (countAt (typeOf m) + 1 + countOf m)) refl refl
     where
       by : (a b c d e : Bool) → leb (length m) (countAt (typeOf m)) ≡ c → ltb (mostOf (typeOf m)) (countOf m) ≡ d
           → Tells m (cond (not a) unknownType (cond (not b) badUnit (cond c (told wrongTotal (totalOf m)) (cond d (told tooManyBitfields (countAt (typeOf m))) (cond e (told wrongTotal (totalOf m)) 0)))))

@@ -21,7 +21,7 @@ use Rattle.block.specs.SlotLaws.{both-true, sum-append}
 use Rattle.block.specs.Places.{selectedAt, entryAt, slotsOf, hasRequired}
 use Rattle.block.specs.Sizes.{allPlaces}
 use Rattle.block.specs.FirstBad.{eight-names-the-first-bad-byte, held-within}
-use Rattle.orders.specs.Shapes.{ofMember, ofVenue, countAt, mostOf, unitGood, fixedGood}
+use Rattle.orders.specs.Shapes.{ofMember, sequenced, ofVenue, countAt, mostOf, unitGood, fixedGood}
 use Rattle.orders.specs.FixedFields.{fixedWrong}
 use Rattle.orders.specs.FixedFieldLaws.{fixed-within}
 use Rattle.orders.specs.OrderLaws.{count-bounds}
@@ -130,7 +130,7 @@ place-within direction s = by (eqb (frameRefusal s) 0) refl (carries direction (
 
 pub booked-within : (s : List ℕ) → Placed (length (framed s)) (messageRefusal s)
 unfolding messageRefusal
-booked-within s = by (eqb (frameRefusal s) 0) refl (ofVenue (typeOf (framed s)))
+booked-within s = by (eqb (frameRefusal s) 0) refl (sequenced (typeOf (framed s)))
   where
     by : (a : Bool) → eqb (frameRefusal s) 0 ≡ a → (b : Bool) → Placed (length (framed s)) (cond a (cond b (orders.readRefusal (framed s)) unknownType) (frameRefusal s))
     by false e b = frame-placed (length (framed s)) s
@@ -144,7 +144,7 @@ booked-within s = by (eqb (frameRefusal s) 0) refl (ofVenue (typeOf (framed s)))
 pub order-written-within : (r : Record) (room : ℕ) → Placed (orders.sizeOf r) (orders.writeRefusal r room)
 unfolding orders.writeRefusal orders.sizeOf orders.writeSlots
 order-written-within r room =
-    by (ofMember (r .message) || ofVenue (r .message)) (unitGood (r .message) (r .unit)) (ltb (mostOf (r .message)) (r .count)) (anyBad (orders.writeSlots r)) (hasRequired (r .message) (r .count) (r .bits))
+    by (ofMember (r .message) || ofVenue (r .message)) (unitGood (r .message) (r .unit) (r .number)) (ltb (mostOf (r .message)) (r .count)) (anyBad (orders.writeSlots r)) (hasRequired (r .message) (r .count) (r .bits))
     (fixedGood (r .message) (r .fixed)) (agreeHeld (orders.writeSlots r) (r .slots)) (orders.zeroUnused r) (ltb room (orders.sizeOf r)) refl refl
   where
     low : 10 ≤ countAt (r .message)

@@ -13,14 +13,15 @@ use Rattle.refusals.specs.Names.{unknownType, badUnit, tooManyBitfields, unlist
 use Rattle.refusals.specs.Told.{told, numberIn}
 use Rattle.refusals.specs.ToldLaws.{told-refuses, number-alone}
 use Rattle.kinds.specs.Kinds.{agreesOf}
-use Rattle.wire.specs.Header.{headerBytes, typeOf, totalOf}
+use Rattle.wire.specs.Header.{headerBytes, typeOf, numberOf, totalOf}
+use Rattle.wire.specs.HeaderLaws.{header-number}
 use Rattle.dictionary.specs.declared.Entry.{Entry}
 use Rattle.dictionary.specs.declared.Entry.the-variants.{Refused, Field}
 use Rattle.block.specs.Slots.{zeros, Slot, slot, widthOf, takes, width, sum, anyBad, badByte, gathered, agreeSlot, agreeSent, agreeHeld, wrongSent, wrongHeld}
 use Rattle.block.specs.SlotLaws.{gathered-length, agree-gathered}
 use Rattle.block.specs.Places.{bitSet, selectedAt, entryAt, slotsFrom, slotsOf, hasRequired}
 use Rattle.block.specs.Dictionaries.{widths-fit}
-use Rattle.block.specs.Sizes.{allPlaces, fixedEnd}
+use Rattle.block.specs.Sizes.{allPlaces, fixedEnd, mostBitfields}
 use Rattle.orders.specs.Shapes.{ofMember, ofVenue, countAt, mostOf, unitGood, fixedGood}
 use Rattle.orders.specs.FixedFields.{fixedWrong}
 use Rattle.orders.specs.OrderLaws.{count-bounds, most-bound}
@@ -84,7 +85,7 @@ valuesOf r =
 abbrev chainOf : Record → ℕ
 chainOf r =
     cond (not (ofMember (r .message) || ofVenue (r .message))) unknownType
-    (cond (not (unitGood (r .message) (r .unit))) badUnit
+    (cond (not (unitGood (r .message) (r .unit) (r .number))) badUnit
     (cond (ltb (mostOf (r .message)) (r .count)) (told tooManyBitfields (countAt (r .message)))
     (valuesOf r)))
 
@@ -117,11 +118,15 @@ module _ (r : Record) (ok : Sound r) where
   unfolding orderBytes
   count-is = count-there (headerBytes (sizeOf r - 2) (r .message) (r .unit) (r .number)) (take (countAt (r .message) - 10) (r .fixed)) _ (r .count) (countAt (r .message)) refl kept-fixed low
 
+  number-there : numberOf (orderBytes r) ≡ r .number
+  unfolding orderBytes
+  number-there = header-number (sizeOf r - 2) (r .message) (r .unit) (r .number) _ (ok .number-range)
+
   has-count : countAt (r .message) < length (orderBytes r)
   unfolding orderBytes
   has-count = long-there (headerBytes (sizeOf r - 2) (r .message) (r .unit) (r .number)) (take (countAt (r .message) - 10) (r .fixed)) _ (r .count) (countAt (r .message)) refl kept-fixed low
 
-  module _ (few : r .count ≤ 15) where
+  module _ (few : r .count ≤ mostBitfields) where
     kept-bits : length (take (r .count) (r .bits)) ≡ r .count
     kept-bits = length-take-le (r .count) (r .bits) (omega (arith, few, ok .bits-length))
 
@@ -137,9 +142,9 @@ module _ (r : Record) (ok : Sound r) where
     bits-are : (j : ℕ) → j < r .count → getD (bitsOf (orderBytes r)) j 0 ≡ getD (r .bits) j 0
     unfolding bitsOf orderBytes
     bits-are j h =
-        ap (λ (c : ℕ). getD (take c (drop (countAt (r .message) + 1) (orderBytes r)) ++ zeros (15 - c)) j 0) count-is
-        ∙ ap (λ (l : List ℕ). getD (l ++ zeros (15 - r .count)) j 0) (parts-bits (headerBytes (sizeOf r - 2) (r .message) (r .unit) (r .number)) (take (countAt (r .message) - 10) (r .fixed)) (r .count) (take (r .count) (r .bits)) (gathered (writeSlots r) (r .slots)) (countAt (r .message)) refl kept-fixed kept-bits low)
-        ∙ List·getD-append (take (r .count) (r .bits)) (zeros (15 - r .count)) 0 j (omega (arith, h, kept-bits))
+        ap (λ (c : ℕ). getD (take c (drop (countAt (r .message) + 1) (orderBytes r)) ++ zeros (mostBitfields - c)) j 0) count-is
+        ∙ ap (λ (l : List ℕ). getD (l ++ zeros (mostBitfields - r .count)) j 0) (parts-bits (headerBytes (sizeOf r - 2) (r .message) (r .unit) (r .number)) (take (countAt (r .message) - 10) (r .fixed)) (r .count) (take (r .count) (r .bits)) (gathered (writeSlots r) (r .slots)) (countAt (r .message)) refl kept-fixed kept-bits low)
+        ∙ List·getD-append (take (r .count) (r .bits)) (zeros (mostBitfields - r .count)) 0 j (omega (arith, h, kept-bits))
         ∙ getD-take (r .count) (r .bits) j 0 h
 
     slots-are : slotsOf (r .message) (r .count) (bitsOf (orderBytes r)) ≡ writeSlots r
@@ -183,20 +188,20 @@ module _ (r : Record) (ok : Sound r) where
 
   -- its head
   head-over : ltb (mostOf (r .message)) (r .count) ≡ true
-      → headRefusal (orderBytes r) ≡ cond (not (ofMember (r .message) || ofVenue (r .message))) unknownType (cond (not (unitGood (r .message) (r .unit))) badUnit (told tooManyBitfields (countAt (r .message))))
+      → headRefusal (orderBytes r) ≡ cond (not (ofMember (r .message) || ofVenue (r .message))) unknownType (cond (not (unitGood (r .message) (r .unit) (r .number))) badUnit (told tooManyBitfields (countAt (r .message))))
   unfolding headRefusal orderBytes
-  head-over e = rw (lt-leb (length (orderBytes r)) (countAt (r .message)) has-count, count-is, e)
+  head-over e = rw (number-there, lt-leb (length (orderBytes r)) (countAt (r .message)) has-count, count-is, e)
 
   head-fine : ltb (mostOf (r .message)) (r .count) ≡ false → countAt (r .message) + 1 + r .count ≤ length (orderBytes r)
-      → headRefusal (orderBytes r) ≡ cond (not (ofMember (r .message) || ofVenue (r .message))) unknownType (cond (not (unitGood (r .message) (r .unit))) badUnit 0)
+      → headRefusal (orderBytes r) ≡ cond (not (ofMember (r .message) || ofVenue (r .message))) unknownType (cond (not (unitGood (r .message) (r .unit) (r .number))) badUnit 0)
   unfolding headRefusal orderBytes
-  head-fine e h = rw (lt-leb (length (orderBytes r)) (countAt (r .message)) has-count, count-is, e, le-ltb (length (orderBytes r)) (countAt (r .message) + 1 + r .count) h)
+  head-fine e h = rw (number-there, lt-leb (length (orderBytes r)) (countAt (r .message)) has-count, count-is, e, le-ltb (length (orderBytes r)) (countAt (r .message) + 1 + r .count) h)
 
   -- what follows it
   abbrev after : ℕ
   after = blockRefusal (totalOf (orderBytes r)) (typeOf (orderBytes r)) (countOf (orderBytes r)) (bitsOf (orderBytes r)) (fixedOf (orderBytes r)) (optionalOf (orderBytes r))
 
-  after-is : r .count ≤ 15 → after ≡ valuesOf r
+  after-is : r .count ≤ mostBitfields → after ≡ valuesOf r
   unfolding orderBytes
   after-is few = ap (λ (c : ℕ). blockRefusal (totalOf (orderBytes r)) (r .message) c (bitsOf (orderBytes r)) (fixedOf (orderBytes r)) (optionalOf (orderBytes r))) count-is ∙ block-is few
 
@@ -208,14 +213,14 @@ module _ (r : Record) (ok : Sound r) where
       by : (b : Bool) → ltb (mostOf (r .message)) (r .count) ≡ b → cond (eqb (headRefusal (orderBytes r)) 0) after (headRefusal (orderBytes r)) ≡ chainOf r
       by true e =
           ap (λ (h : ℕ). cond (eqb h 0) after h) (head-over e)
-          ∙ by-head (ofMember (r .message) || ofVenue (r .message)) (unitGood (r .message) (r .unit)) true (countAt (r .message)) after
-          ∙ ap (λ (o : Bool). cond (not (ofMember (r .message) || ofVenue (r .message))) unknownType (cond (not (unitGood (r .message) (r .unit))) badUnit (cond o (told tooManyBitfields (countAt (r .message))) (valuesOf r)))) (sym e)
+          ∙ by-head (ofMember (r .message) || ofVenue (r .message)) (unitGood (r .message) (r .unit) (r .number)) true (countAt (r .message)) after
+          ∙ ap (λ (o : Bool). cond (not (ofMember (r .message) || ofVenue (r .message))) unknownType (cond (not (unitGood (r .message) (r .unit) (r .number))) badUnit (cond o (told tooManyBitfields (countAt (r .message))) (valuesOf r)))) (sym e)
       by false e =
-          let few : r .count ≤ 15 = omega (arith, ltb-false (mostOf (r .message)) (r .count) e, most-bound (r .message)) in
+          let few : r .count ≤ mostBitfields = omega (arith, ltb-false (mostOf (r .message)) (r .count) e, most-bound (r .message)) in
           ap (λ (h : ℕ). cond (eqb h 0) after h) (head-fine e (there few))
-          ∙ by-head (ofMember (r .message) || ofVenue (r .message)) (unitGood (r .message) (r .unit)) false (countAt (r .message)) after
-          ∙ ap (λ (x : ℕ). cond (not (ofMember (r .message) || ofVenue (r .message))) unknownType (cond (not (unitGood (r .message) (r .unit))) badUnit x)) (after-is few)
-          ∙ ap (λ (o : Bool). cond (not (ofMember (r .message) || ofVenue (r .message))) unknownType (cond (not (unitGood (r .message) (r .unit))) badUnit (cond o (told tooManyBitfields (countAt (r .message))) (valuesOf r)))) (sym e)
+          ∙ by-head (ofMember (r .message) || ofVenue (r .message)) (unitGood (r .message) (r .unit) (r .number)) false (countAt (r .message)) after
+          ∙ ap (λ (x : ℕ). cond (not (ofMember (r .message) || ofVenue (r .message))) unknownType (cond (not (unitGood (r .message) (r .unit) (r .number))) badUnit x)) (after-is few)
+          ∙ ap (λ (o : Bool). cond (not (ofMember (r .message) || ofVenue (r .message))) unknownType (cond (not (unitGood (r .message) (r .unit) (r .number))) badUnit (cond o (told tooManyBitfields (countAt (r .message))) (valuesOf r)))) (sym e)
 
 -- up to 10 the writer's chain is that one
 same-chain : (a b c d e f g h i : Bool) (p q s t u : ℕ)
@@ -240,5 +245,5 @@ pub written-as-read : (r : Record) (room : ℕ) → Sound r → 7 ≤ numberIn (
 unfolding writeRefusal
 written-as-read r room ok l m =
     read-of-written r ok
-    ∙ same-chain (not (ofMember (r .message) || ofVenue (r .message))) (not (unitGood (r .message) (r .unit))) (ltb (mostOf (r .message)) (r .count)) (anyBad (writeSlots r)) (not (hasRequired (r .message) (r .count) (r .bits)))
+    ∙ same-chain (not (ofMember (r .message) || ofVenue (r .message))) (not (unitGood (r .message) (r .unit) (r .number))) (ltb (mostOf (r .message)) (r .count)) (anyBad (writeSlots r)) (not (hasRequired (r .message) (r .count) (r .bits)))
     (not (fixedGood (r .message) (r .fixed))) (not (agreeHeld (writeSlots r) (r .slots))) (not (zeroUnused r)) (ltb room (sizeOf r)) _ _ _ _ _ l m

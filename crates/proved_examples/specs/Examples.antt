@@ -50,7 +50,7 @@ abbrev atZero : ℕ → ℕ
 atZero n = stepOf zeroTable 1 n .refusal
 
 -- the identifier ABC123, NUL-filled to 20
-abbrev abc123 : List ℕ
+abbrev pub abc123 : List ℕ
 abc123 = 0x41 ∷ 0x42 ∷ 0x43 ∷ 0x31 ∷ 0x32 ∷ 0x33 ∷ zeros 14
 
 -- the bytes of 000's table 25, a New Order, with the length n, under 256

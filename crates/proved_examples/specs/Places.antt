@@ -1,7 +1,7 @@
 -- The places of 02's third request on the documents' own messages, as one table: a refusal's number and its place. Assumes nothing.
 use mathlib.Core.Path.{_≡_, refl}
 use mathlib.Core.List.{List, [], _∷_, _++_, map}
-use Prim.Native.Nat.{ℕ}
+use Prim.Native.Nat.{ℕ, _+_}
 use lib.ListN.{take}
 use Rattle.refusals.specs.Told.{numberIn, placeIn}
 use Rattle.numbers.specs.Numbers.{patched}
@@ -19,6 +19,7 @@ use Rattle.session_messages.specs.ValueFields.{valueFields, valuesWrong}
 use Rattle.session_messages.specs.Sessions as sessions
 use Rattle.messages.specs.Messages.{carries, sessionRecordBytes, ownRefusal, recordOf, readRefusal, recordSizeOf, ownWrite, writeCall}
 use Rattle.proved_examples.specs.Examples.{Example, example, newOrder, cancelOrder, test, login}
+use Rattle.block.specs.Sizes.{bitsPlace, slotsPlace}
 
 -- a refusal's number and place
 abbrev named : ℕ → List ℕ
@@ -85,10 +86,10 @@ places =
     -- 000's Cancel with bit 2: 8 at 31; with three bitfields: 7 at 30
     ∷ example 8 (reading (cancelOrder 34 (1 ∷ 2 ∷ test))) (8 ∷ 31 ∷ [])
     ∷ example 7 (reading (cancelOrder 34 (3 ∷ 1 ∷ test))) (7 ∷ 30 ∷ [])
-    -- written: Symbol's slot is at 108 of the record, and Symbol would stand at 47 of the message; a second bitfield with an unlisted bit; no Symbol
-    ∷ example 10 (writing (held 108 0x2D)) (10 ∷ 47 ∷ [])
-    ∷ example 8 (writing (held 67 0xC9)) (8 ∷ 37 ∷ [])
-    ∷ example 9 (writing (held 67 0xC0)) (9 ∷ 38 ∷ [])
+    -- written: Symbol's slot is at 27 of the layout, and Symbol would stand at 47 of the message; a second bitfield with an unlisted bit; no Symbol
+    ∷ example 10 (writing (held (slotsPlace + 27) 0x2D)) (10 ∷ 47 ∷ [])
+    ∷ example 8 (writing (held (bitsPlace + 1) 0xC9)) (8 ∷ 37 ∷ [])
+    ∷ example 9 (writing (held (bitsPlace + 1) 0xC0)) (9 ∷ 38 ∷ [])
     ∷ []
 
 -- every refusal is told with its place

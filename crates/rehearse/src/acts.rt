@@ -69,7 +69,7 @@ fn executes(
 
 // A new day: the book is opened, and the venue has an empty log.
 pub fn opens(book: &mut Room) -> Bench {
-    say::title(b"1. A new day book, a login with nothing to replay, and three orders");
+    say::title(b"1. A new day book, a login with nothing to replay, and four orders");
     let answer = book::open(TODAY, book);
     let b = Bench {
         session: session::closed_with(answer.book),
@@ -96,7 +96,7 @@ pub fn opens(book: &mut Room) -> Bench {
     opened
 }
 
-// The first session: nothing to replay, three orders, and the line breaks.
+// The first session: nothing to replay, four orders, of which the last has the identifier of the first, and the line breaks.
 pub fn first_session(b: Bench, book: &mut Room, log: &Room) -> Bench {
     let before = bench::later(bench::at(b, 9, 29), 59500);
     let asked = bench::logs_in(before, book);
@@ -107,7 +107,9 @@ pub fn first_session(b: Bench, book: &mut Room, log: &Room) -> Bench {
     let two = orders_out::sends(bench::later(one, 100), def);
     let ghi = written::new_order(b"GHI789", written::BUY, 1000, GHI);
     let three = orders_out::sends(bench::later(two, 100), ghi);
-    bench::breaks(bench::later(three, 50), book)
+    let again = written::new_order(b"ABC123", written::BUY, 100, ABC);
+    let four = orders_out::sends(bench::later(three, 100), again);
+    bench::breaks(bench::later(four, 50), book)
 }
 
 // What becomes of the orders while no line stands.
@@ -124,12 +126,15 @@ pub fn while_down(b: Bench, log: &mut Room) -> Bench {
     executes(seven, 3, b"GHI789", 100, GHI, 500, log)
 }
 
-// The first replay, in which the line breaks.
+// The first replay, in which a rejection arrives between two messages, and the line breaks.
 pub fn first_replay(b: Bench, book: &mut Room, log: &Room) -> Bench {
-    say::title(b"3. A new line; it breaks during the replay");
+    say::title(b"3. A new line; a rejection between two messages; it breaks during the replay");
     let asked = bench::logs_in(bench::at(b, 9, 31), book);
     let one = bench::delivers(asked, log, book);
-    let two = bench::delivers(one, log, book);
+    let mut bytes = [0u8; 200];
+    written::order_rejected(b"ABC123", b'D', b"Duplicate ClOrdID", &mut bytes);
+    let told = bench::rejects(one, &bytes, book);
+    let two = bench::delivers(told, log, book);
     let three = bench::delivers(two, log, book);
     let lost = bench::loses(three, log);
     bench::breaks(bench::later(lost, 5), book)
@@ -210,16 +215,21 @@ pub fn full_replay(b: Bench, book: &mut Room, log: &mut Room) -> Bench {
     bench::delivers(three, log, book)
 }
 
-// Live: what was logged meanwhile, and orders whose numbers go on from the last that the venue received.
+// Live: what was logged meanwhile, orders whose numbers go on from the last that the venue received, and a cancel that is rejected.
 pub fn live(b: Bench, book: &mut Room, log: &mut Room) -> Bench {
-    say::title(b"8. Live: what was logged after the login follows, and our orders go on");
+    say::title(
+        b"8. Live: what was logged after the login follows, our orders go on, and a cancel is rejected",
+    );
     let caught_up = bench::delivers(b, log, book);
     let idle = bench::delivers(caught_up, log, book);
     let jkl = written::new_order(b"JKL012", written::BUY, 300, JKL);
     let ordered = orders_out::sends(bench::later(idle, 500), jkl);
     let known = acknowledges(ordered, 1, b"JKL012", JKL, log);
     let told = bench::delivers(known, log, book);
-    orders_out::sends(bench::later(told, 500), written::cancel(b"JKL012"))
+    let cancels = orders_out::sends(bench::later(told, 500), written::cancel(b"JKL012"));
+    let mut bytes = [0u8; 200];
+    written::cancel_rejected(b"JKL012", b'J', b"TOO LATE", &mut bytes);
+    bench::rejects(bench::later(cancels, 10), &bytes, book)
 }
 
 // Messages out of order: a gap, and a repeat.

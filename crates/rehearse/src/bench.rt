@@ -5,6 +5,7 @@ use crate::told;
 use crate::written;
 use asking::writing;
 use session::Session;
+use session::Told;
 use table::Table;
 use venue::Venue;
 
@@ -173,16 +174,27 @@ pub fn loses(b: Bench, log: &Room) -> Bench {
     stepped
 }
 
+// The venue sends a rejection, and it arrives.
+pub fn rejects(b: Bench, bytes: &[u8], book: &mut Room) -> Bench {
+    say::venue(b.clock);
+    writing::text(b"sends ");
+    told::rejection(bytes);
+    told::size(bytes);
+    say::note(b", which is neither numbered nor logged");
+    receives(later(b, 10), bytes, book)
+}
+
 // Bytes of the venue's arrive at our gateway.
 pub fn receives(b: Bench, bytes: &[u8], book: &mut Room) -> Bench {
     let s = b.session;
     let answer = s.receive(bytes, book);
+    let told = answer.told;
     let next = heard(b, answer.session);
     say::gateway(b.clock);
     if answer.refusal != 0 {
         refuses(next, bytes, answer.refusal);
     } else {
-        told_of(next, bytes, book);
+        told_of(next, told, bytes, book);
     }
     next
 }
@@ -204,15 +216,30 @@ fn refuses(b: Bench, bytes: &[u8], refusal: u32) {
     writing::line_end();
 }
 
-// A message is taken: what it brings.
-fn told_of(b: Bench, bytes: &[u8], book: &Room) {
+// A message is taken: what became of it.
+fn told_of(b: Bench, told: Told, bytes: &[u8], book: &Room) {
+    match told {
+        Told::Nothing => heard_of(b, bytes, book),
+        Told::Booked => books(b, bytes),
+        Told::Handed => hands(bytes),
+    }
+}
+
+// A session message is taken: what it brings.
+fn heard_of(b: Bench, bytes: &[u8], book: &Room) {
     match wire::header::type_of(bytes) {
         0x24 => begins(b),
         0x13 => replays::completes(b),
         0x09 => say::note(b"hears a Server Heartbeat; book and table stay as they are"),
-        0x08 => logs_out(b, bytes, book),
-        _ => books(b, bytes),
+        _ => logs_out(b, bytes, book),
     }
+}
+
+// A rejection is handed to the desk.
+fn hands(bytes: &[u8]) {
+    writing::text(b"hands the desk ");
+    told::rejection(bytes);
+    say::note(b"; book and table stay as they are");
 }
 
 // A message is in the book.

@@ -35,6 +35,50 @@ fn executed(r: Record) {
     say::count(b", ", left.value as u64, b" left");
 }
 
+// A reason, and the text beside it.
+fn reason(letter: &[u8], text: &[u8]) {
+    writing::text(b", reason ");
+    say::name(letter);
+    writing::text(b", ");
+    say::name(text);
+}
+
+// What an Order Rejected says.
+fn order_rejected(r: Record) {
+    writing::text(b"Order Rejected of ");
+    let id = order_fields::rejection::cl_ord_id(r);
+    let bytes = id.bytes;
+    say::name(&bytes);
+    let why = order_fields::rejection::order_reject_reason(r);
+    let letter = why.bytes;
+    let text = order_fields::rejection::text(r);
+    let words = text.bytes;
+    reason(&letter, &words);
+}
+
+// What a Cancel Rejected says.
+fn cancel_rejected(r: Record) {
+    writing::text(b"Cancel Rejected of ");
+    let id = order_fields::cancel_rejection::cl_ord_id(r);
+    let bytes = id.bytes;
+    say::name(&bytes);
+    let why = order_fields::cancel_rejection::cancel_reject_reason(r);
+    let letter = why.bytes;
+    let text = order_fields::cancel_rejection::text(r);
+    let words = text.bytes;
+    reason(&letter, &words);
+}
+
+// What a rejection says.
+pub fn rejection(bytes: &[u8]) {
+    let r = record_of(bytes);
+    if r.message == 0x26 {
+        order_rejected(r);
+    } else {
+        cancel_rejected(r);
+    }
+}
+
 // What a message of the venue's log says.
 fn said(r: Record) {
     let message = r.message;

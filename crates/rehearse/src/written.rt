@@ -63,6 +63,39 @@ pub fn execution(
     write(rest, out);
 }
 
+// A text filled up with NULs to the 60 characters of a rejection's.
+fn explained(text: &[u8]) -> [u8; 60] {
+    let mut field = [0u8; 60];
+    if text.len() <= 60 {
+        block::copy(text, &mut field);
+    }
+    field
+}
+
+// An Order Rejected: the venue does not take the order, for a reason.
+pub fn order_rejected(id: &[u8], reason: u8, text: &[u8], out: &mut [u8]) {
+    let r = started(0x26, 0, 0);
+    let timed = order_fields::rejection::with_transaction_time(r, 1755590400000000000);
+    let named = order_fields::rejection::with_cl_ord_id(timed, identifier(id));
+    let reasoned = order_fields::rejection::with_order_reject_reason(named, [reason]);
+    write(
+        order_fields::rejection::with_text(reasoned, explained(text)),
+        out,
+    );
+}
+
+// A Cancel Rejected: the order is not cancelled, for a reason.
+pub fn cancel_rejected(id: &[u8], reason: u8, text: &[u8], out: &mut [u8]) {
+    let r = started(0x2B, 0, 0);
+    let timed = order_fields::cancel_rejection::with_transaction_time(r, 1755590400000000000);
+    let named = order_fields::cancel_rejection::with_cl_ord_id(timed, identifier(id));
+    let reasoned = order_fields::cancel_rejection::with_cancel_reject_reason(named, [reason]);
+    write(
+        order_fields::cancel_rejection::with_text(reasoned, explained(text)),
+        out,
+    );
+}
+
 // A New Order's record, as our desk hands it over: its number is given by the session.
 pub fn new_order(id: &[u8], side: u8, quantity: u32, price: i64) -> Record {
     let r = started(0x38, 0, 0);

@@ -180,13 +180,17 @@ fn logged_in(
     sent(a, out)
 }
 
-// `m-get BYTES ROOM`, `m-message BYTES ROOM`, `m-response BYTES ROOM`: the refusal and the member.
+// `m-get BYTES ROOM`: the refusal, what became of the message, and the member. `m-message BYTES ROOM`, `m-response BYTES ROOM`: the refusal and the
+// member.
 fn get(call: u8, line: &[u8], s: Session, bytes: &mut [u8], book: &mut [u8]) -> Told {
     let run = words::read_bytes(words::word(line, 1), bytes);
     let room = words::read_number(words::word(line, 2), book.len() as u64);
     if run.ok && room.ok {
         let k = run.count;
         let n = room.value as usize;
+        if call == 2 {
+            return received(s, &bytes[0..k], &mut book[0..n]);
+        }
         let a = got(call, s, &bytes[0..k], &mut book[0..n]);
         let after = a.session;
         return refused(a.refusal, after);
@@ -194,13 +198,32 @@ fn get(call: u8, line: &[u8], s: Session, bytes: &mut [u8], book: &mut [u8]) -> 
     unknown(s)
 }
 
-// What the session answers to bytes from the venue: by the call for application messages, by that for a Login Response, by that for any.
-fn got(call: u8, s: Session, bytes: &[u8], book: &mut [u8]) -> session::Answer {
-    match call {
-        7 => s.message(bytes, book),
-        8 => s.response(bytes, book),
-        _ => s.receive(bytes, book),
+// The answer to `m-get` with the book's buffer.
+fn received(s: Session, bytes: &[u8], book: &mut [u8]) -> Told {
+    let a = s.receive(bytes, book);
+    let told = a.told;
+    writing::refusal(a.refusal);
+    became(told);
+    writing::text(b" ");
+    let after = a.session;
+    say(after)
+}
+
+// What became of a message: nothing for the desk, booked, handed.
+fn became(told: session::Told) {
+    match told {
+        session::Told::Nothing => writing::next_decimal(0),
+        session::Told::Booked => writing::next_decimal(1),
+        session::Told::Handed => writing::next_decimal(2),
     }
+}
+
+// What the session answers to bytes from the venue by the call for sequenced messages, and by that for a Login Response.
+fn got(call: u8, s: Session, bytes: &[u8], book: &mut [u8]) -> session::Answer {
+    if call == 7 {
+        return s.message(bytes, book);
+    }
+    s.response(bytes, book)
 }
 
 // `m-order RECORD ROOM`: the refusal, the member and the output.

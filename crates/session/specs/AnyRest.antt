@@ -16,6 +16,7 @@ use Rattle.numbers.specs.Numbers.{patched}
 use Rattle.wire.specs.Header.{typeOf}
 use Rattle.wire.specs.Frame.{framed}
 use Rattle.wire.specs.FrameLaws.{lt-or-le}
+use Rattle.orders.specs.Shapes.{sequenced}
 use Rattle.book.specs.declared.Book.{Book}
 use Rattle.book.specs.Books.{pickBook, markBytes, roomless, appendedBy, marked, closeOf, closeBuffer}
 use Rattle.book_restart.specs.Steps.{mark-long}
@@ -76,30 +77,30 @@ module _ (s : Session) (xs ys : List ℕ) (l : length xs ≡ length ys) (e : tak
   -- a message m that passes
   heard-alike : (m : List ℕ) → take (receivedBy s (length xs) m .book .length) (receivedBuffer s xs m) ≡ take (receivedBy s (length xs) m .book .length) (receivedBuffer s ys m)
   unfolding receivedBy receivedBuffer appendedBy
-  heard-alike m = by (eqb (typeOf m) 0x24) (eqb (typeOf m) 0x13) (eqb (typeOf m) 0x08) (eqb (typeOf m) 0x09)
+  heard-alike m = by (eqb (typeOf m) 0x24) (eqb (typeOf m) 0x13) (eqb (typeOf m) 0x08) (sequenced (typeOf m))
     where
       after : Bool → Bool → Bool → Bool → Session
       after a c d f =
           pickSession a (respondedBy s (statusIn m) (receivedIn m) (length xs))
           (pickSession c (inPhase Live s)
           (pickSession d (endedBy s (length xs))
-          (pickSession f s
-          (withBook s (appendedBy (s .book) m)))))
+          (pickSession f (withBook s (appendedBy (s .book) m))
+          s)))
 
       left : Bool → Bool → Bool → Bool → List ℕ → List ℕ
       left a c d f zs =
           cond a (respondedBuffer s (statusIn m) zs)
           (cond c zs
           (cond d (closeBuffer (s .book) zs)
-          (cond f zs
-          (patched zs (s .book .length) m))))
+          (cond f (patched zs (s .book .length) m)
+          zs)))
 
       by : (a c d f : Bool) → take (after a c d f .book .length) (left a c d f xs) ≡ take (after a c d f .book .length) (left a c d f ys)
       by true c d f = response-alike (statusIn m) (receivedIn m)
       by false true d f = e
       by false false true f = end-alike
-      by false false false true = e
-      by false false false false = put-alike (s .book .length) xs ys m l e
+      by false false false true = put-alike (s .book .length) xs ys m l e
+      by false false false false = e
 
   -- RECEIVE
   pub receive-any-rest : (bytes : List ℕ)

@@ -14,3 +14,4 @@ pub mod MadeItems
 pub mod MemberSteps
 pub mod MemberGets
 pub mod MeetsMember
+pub mod Handed

@@ -8,7 +8,7 @@ use Rattle.wire.specs.Header.{typeOf, unitOf, numberOf}
 use Rattle.wire.specs.Frame.{framed}
 use Rattle.block.specs.Slots.{zeros}
 use Rattle.table.specs.Table.{lastOf}
-use Rattle.orders.specs.Shapes.{ofVenue}
+use Rattle.orders.specs.Shapes.{sequenced}
 use Rattle.book.specs.declared.Answer.{Answer}
 use Rattle.book.specs.Books.{limit, blankBook, openOf, openBuffer}
 use Rattle.book_restart.specs.Restarts as restarts
@@ -20,7 +20,7 @@ use Rattle.day_line.specs.Lent.{lent, kept}
 use Rattle.session.specs.declared.Phase.{Phase}
 use Rattle.session.specs.declared.Phase.the-variants.{Closed, Asked, Replaying, Live}
 use Rattle.session.specs.declared.Session.{Session}
-use Rattle.session.specs.Sessions.{closedWith, isOpen, receiveOf, receiveBuffer, brokenBy, brokenBuffer, loginOf, loginOut, orderOf}
+use Rattle.session.specs.Sessions.{closedWith, isOpen, receiveAnswer, receiveBuffer, brokenBy, brokenBuffer, loginOf, loginOut, orderOf}
 
 -- the session's state, and the bytes that the book holds
 pub record Desk : Type 0 where
@@ -37,7 +37,7 @@ opened date = record { session = closedWith (openOf date 16 .book); bytes = take
 
 -- a message from the venue, with a buffer lent for the book
 abbrev pub gets : ℕ → List ℕ → Desk → Desk
-gets room b d = deskAfter (receiveOf (d .session) room b .session) room (receiveBuffer (d .session) (lent room (d .bytes)) b) (d .bytes)
+gets room b d = deskAfter (receiveAnswer (d .session) room b .session) room (receiveBuffer (d .session) (lent room (d .bytes)) b) (d .bytes)
 
 -- a break
 abbrev pub ended : ℕ → Desk → Desk
@@ -80,7 +80,7 @@ restart date k d = restartedBy date (restarts.restartOf date (take k (d .bytes))
 unfoldable pub refusedForRoom : ℕ → List ℕ → Desk → Bool
 refusedForRoom room b d =
     isOpen (d .session .phase)
-    && (ofVenue (typeOf b)
+    && (sequenced (typeOf b)
     && (eqb (numberOf b) (suc (lastOf (d .session .book .table) (unitOf b)))
     && ltb (min room limit) (length (d .bytes) + length b)))
 

@@ -12,14 +12,14 @@ use Rattle.wire.specs.Header.{typeOf, unitOf, numberOf}
 use Rattle.wire.specs.Frame.{framed}
 use Rattle.table.specs.declared.OutgoingNumber.{OutgoingNumber}
 use Rattle.table.specs.Table.{lastOf}
-use Rattle.orders.specs.Shapes.{ofVenue}
+use Rattle.orders.specs.Shapes.{sequenced}
 use Rattle.messages.specs.Messages.{readRefusal}
 use Rattle.book.specs.declared.Book.{Book}
 use Rattle.book.specs.Books.{limit, roomless, appendRefusal, appendedBy, closeBuffer}
 use Rattle.book.specs.BookLaws.{next}
 use Rattle.book_restart.specs.Cut.{Made, books, appended-has}
 use Rattle.book_restart.specs.Kept.{table-long}
-use Rattle.day_model.specs.Model.{Item, entry, size, Table, bump, Sent, response, message, complete, heartbeat, logout, Member, ends, takes, got, full}
+use Rattle.day_model.specs.Model.{Item, entry, size, Table, bump, Sent, response, message, complete, aside, logout, Member, ends, takes, got, full}
 use Rattle.day_line.specs.Lines.{msgOf, says, Fine}
 use Rattle.day_line.specs.Lent.{lent, lent-long}
 use Rattle.session.specs.declared.Phase.{Phase}
@@ -28,7 +28,7 @@ use Rattle.session.specs.declared.Session.{Session}
 use Rattle.session.specs.Sessions.{isClosed, isOpen, passes, endedBy, receiveRefusal, receivedBy, receiveOf, receivedBuffer, receiveBuffer, respondedBy, respondedBuffer, receivedIn}
 use Rattle.session.specs.Booked.{items}
 use Rattle.session.specs.MemberDay.{deskAfter, gets, phaseOf, refusedForRoom}
-use Rattle.session.specs.MemberKinds.{Kind, aResponse, aComplete, aLogout, aBeat, anAcknowledgment, anExecution, isNext, Application, acknowledgment, execution, not-next, append-is}
+use Rattle.session.specs.MemberKinds.{Kind, aResponse, aComplete, aLogout, anAside, Aside, anAcknowledgment, anExecution, isNext, Application, acknowledgment, execution, not-next, append-is}
 use Rattle.session.specs.MadeItems.{made-items, raised-is}
 use Rattle.session.specs.MemberSteps.{capOf, seen, deskOf, Comes, comes-as, left-alone, as-it-was, at-end, size-is, room-as, ends-as, books-as}
 
@@ -47,9 +47,9 @@ module _ (m : List ℕ) where
   unfolding says
   says-logout e = rw e
 
-  pub says-beat : typeOf m ≡ 0x09 → says m ≡ heartbeat
+  pub says-aside : (v : ℕ) → typeOf m ≡ v → Aside v → says m ≡ aside
   unfolding says
-  says-beat e = rw e
+  says-aside v e a = rw (e, a .no-response, a .no-complete, a .no-logout, a .aside-type)
 
   says-acknowledgment : typeOf m ≡ 0x25 → says m ≡ message (msgOf m)
   unfolding says
@@ -65,7 +65,7 @@ module _ {date k : ℕ} (o : OutgoingNumber) {b : Book} {bytes : List ℕ} (made
 
   -- ---- its refusal, by phase and type
 
-  refusal-at : (p : Phase) (v : ℕ) → typeOf m ≡ v → receiveRefusal (stateIn p) room m ≡ cond (isClosed p) 16 (cond (passes p v) (cond (ofVenue v) (appendRefusal b room m) 0) 16)
+  refusal-at : (p : Phase) (v : ℕ) → typeOf m ≡ v → receiveRefusal (stateIn p) room m ≡ cond (isClosed p) 16 (cond (passes p v) (cond (sequenced v) (appendRefusal b room m) 0) 16)
   unfolding receiveRefusal
   refusal-at p v e = rw (eq-eqb (readRefusal 1 m) 0 (f .reads), f .whole, e)
 
@@ -88,7 +88,7 @@ module _ {date k : ℕ} (o : OutgoingNumber) {b : Book} {bytes : List ℕ} (made
         comes-as (refused n)
         (subst (λ (v : Member). Comes date (deskOf p o b bytes) v) (sym (ap (λ (y : Sent). got (capOf room) y (seen (deskOf p o b bytes))) e ∙ q)) (as-it-was made p o))
 
-    out-of-phase : (v : ℕ) → typeOf m ≡ v → cond (isClosed p) 16 (cond (passes p v) (cond (ofVenue v) (appendRefusal b room m) 0) 16) ≡ 16 → receiveRefusal (stateIn p) room m ≡ 0 → ⊥
+    out-of-phase : (v : ℕ) → typeOf m ≡ v → cond (isClosed p) 16 (cond (passes p v) (cond (sequenced v) (appendRefusal b room m) 0) 16) ≡ 16 → receiveRefusal (stateIn p) room m ≡ 0 → ⊥
     out-of-phase v e h z = omega (arith, sym (refusal-at p v e ∙ h) ∙ z)
 
   -- ---- the kinds of session messages
@@ -124,16 +124,17 @@ module _ {date k : ℕ} (o : OutgoingNumber) {b : Book} {bytes : List ℕ} (made
   unfolding receivedBy receivedBuffer
   logout-in p e z g = ending p 0x08 e z (rw e) (rw e) logout (says-logout m e) g
 
-  beat-in : (p : Phase) → typeOf m ≡ 0x09 → receiveRefusal (stateIn p) room m ≡ 0 → got (capOf room) heartbeat (seen (deskOf p o b bytes)) ≡ seen (deskOf p o b bytes)
+  aside-in : (p : Phase) (v : ℕ) → typeOf m ≡ v → Aside v → receiveRefusal (stateIn p) room m ≡ 0 → got (capOf room) aside (seen (deskOf p o b bytes)) ≡ seen (deskOf p o b bytes)
       → Comes date (gets room m (deskOf p o b bytes)) (got (capOf room) (says m) (seen (deskOf p o b bytes)))
   unfolding receivedBy receivedBuffer
-  beat-in p e z g = moving p p o z (rw e) (rw e) heartbeat (says-beat m e) g
+  aside-in p v e a z g =
+      moving p p o z (rw (e, a .no-response, a .no-complete, a .no-logout, a .not-counted)) (rw (e, a .no-response, a .no-complete, a .no-logout, a .not-counted)) aside (says-aside m v e a) g
 
   complete-in-replaying : typeOf m ≡ 0x13 → Comes date (gets room m (deskOf Replaying o b bytes)) (got (capOf room) (says m) (seen (deskOf Replaying o b bytes)))
   unfolding passes receivedBy receivedBuffer
   complete-in-replaying e = moving Replaying Live o (refusal-at Replaying 0x13 e) (rw e) (rw e) complete (says-complete m e) refl
 
-  -- ---- an application message
+  -- ---- a sequenced message
 
   module _ (p : Phase) (a : Application m) (said : says m ≡ message (msgOf m)) (passed : receiveRefusal (stateIn p) room m ≡ appendRefusal b room m) (v : ℕ) (e : typeOf m ≡ v)
       (book-after : receivedBy (stateIn p) room m ≡ record { phase = p; outgoing = o; book = appendedBy b m }) (buffer-after : receivedBuffer (stateIn p) (lent room bytes) m ≡ patched (lent room bytes) (b .length) m)
@@ -182,13 +183,13 @@ module _ {date k : ℕ} (o : OutgoingNumber) {b : Book} {bytes : List ℕ} (made
     application-in : goal
     application-in = application-by (isNext b m) (leb (size (items bytes) + length m) (capOf room)) refl refl
 
-  application-replaying : (v : ℕ) → typeOf m ≡ v → Application m → says m ≡ message (msgOf m) → ofVenue v ≡ true
+  application-replaying : (v : ℕ) → typeOf m ≡ v → Application m → says m ≡ message (msgOf m) → sequenced v ≡ true
       → receivedBy (stateIn Replaying) room m ≡ record { phase = Replaying; outgoing = o; book = appendedBy b m } → receivedBuffer (stateIn Replaying) (lent room bytes) m ≡ patched (lent room bytes) (b .length) m
       → Comes date (gets room m (deskOf Replaying o b bytes)) (got (capOf room) (says m) (seen (deskOf Replaying o b bytes)))
   unfolding passes
   application-replaying v e a said o′ ba bu = application-in Replaying a said (refusal-at Replaying v e ∙ rw o′) v e ba bu refl
 
-  application-live : (v : ℕ) → typeOf m ≡ v → Application m → says m ≡ message (msgOf m) → ofVenue v ≡ true
+  application-live : (v : ℕ) → typeOf m ≡ v → Application m → says m ≡ message (msgOf m) → sequenced v ≡ true
       → receivedBy (stateIn Live) room m ≡ record { phase = Live; outgoing = o; book = appendedBy b m } → receivedBuffer (stateIn Live) (lent room bytes) m ≡ patched (lent room bytes) (b .length) m
       → Comes date (gets room m (deskOf Live o b bytes)) (got (capOf room) (says m) (seen (deskOf Live o b bytes)))
   unfolding passes
@@ -201,25 +202,25 @@ module _ {date k : ℕ} (o : OutgoingNumber) {b : Book} {bytes : List ℕ} (made
   gets-as Closed (aResponse e) = stays Closed (out-of-phase Closed 0x24 e refl) _ (says-response m e) refl
   gets-as Closed (aComplete e) = stays Closed (out-of-phase Closed 0x13 e refl) _ (says-complete m e) refl
   gets-as Closed (aLogout e) = stays Closed (out-of-phase Closed 0x08 e refl) _ (says-logout m e) refl
-  gets-as Closed (aBeat e) = stays Closed (out-of-phase Closed 0x09 e refl) _ (says-beat m e) refl
+  gets-as Closed (anAside v e a) = stays Closed (out-of-phase Closed v e refl) _ (says-aside m v e a) refl
   gets-as Closed (anAcknowledgment e) = stays Closed (out-of-phase Closed 0x25 e refl) _ (says-acknowledgment m e) refl
   gets-as Closed (anExecution e) = stays Closed (out-of-phase Closed 0x2C e refl) _ (says-execution m e) refl
   gets-as Asked (aResponse e) = response-in-asked e (eqb (getD m 10 0) 65) refl
   gets-as Asked (aComplete e) = stays Asked (out-of-phase Asked 0x13 e refl) _ (says-complete m e) refl
   gets-as Asked (aLogout e) = logout-in Asked e (refusal-at Asked 0x08 e) refl
-  gets-as Asked (aBeat e) = stays Asked (out-of-phase Asked 0x09 e refl) _ (says-beat m e) refl
+  gets-as Asked (anAside v e a) = stays Asked (out-of-phase Asked v e (rw (a .asked-out))) _ (says-aside m v e a) refl
   gets-as Asked (anAcknowledgment e) = stays Asked (out-of-phase Asked 0x25 e refl) _ (says-acknowledgment m e) refl
   gets-as Asked (anExecution e) = stays Asked (out-of-phase Asked 0x2C e refl) _ (says-execution m e) refl
   gets-as Replaying (aResponse e) = stays Replaying (out-of-phase Replaying 0x24 e refl) _ (says-response m e) refl
   gets-as Replaying (aComplete e) = complete-in-replaying e
   gets-as Replaying (aLogout e) = logout-in Replaying e (refusal-at Replaying 0x08 e) refl
-  gets-as Replaying (aBeat e) = beat-in Replaying e (refusal-at Replaying 0x09 e) refl
+  gets-as Replaying (anAside v e a) = aside-in Replaying v e a (refusal-at Replaying v e ∙ rw (a .replaying-in, a .not-counted)) refl
   gets-as Replaying (anAcknowledgment e) = application-replaying 0x25 e (acknowledgment m f e) (says-acknowledgment m e) refl (rw e) (rw e)
   gets-as Replaying (anExecution e) = application-replaying 0x2C e (execution m f e) (says-execution m e) refl (rw e) (rw e)
   gets-as Live (aResponse e) = stays Live (out-of-phase Live 0x24 e refl) _ (says-response m e) refl
   gets-as Live (aComplete e) = stays Live (out-of-phase Live 0x13 e refl) _ (says-complete m e) refl
   gets-as Live (aLogout e) = logout-in Live e (refusal-at Live 0x08 e) refl
-  gets-as Live (aBeat e) = beat-in Live e (refusal-at Live 0x09 e) refl
+  gets-as Live (anAside v e a) = aside-in Live v e a (refusal-at Live v e ∙ rw (a .live-in, a .not-counted)) refl
   gets-as Live (anAcknowledgment e) = application-live 0x25 e (acknowledgment m f e) (says-acknowledgment m e) refl (rw e) (rw e)
   gets-as Live (anExecution e) = application-live 0x2C e (execution m f e) (says-execution m e) refl (rw e) (rw e)
 
@@ -232,8 +233,8 @@ module _ {date k : ℕ} (o : OutgoingNumber) {b : Book} {bytes : List ℕ} (made
       by true e = let h = leb-true (size (items bytes) + n) (capOf room) e in le-ltb (min room limit) (length bytes + n) (omega (arith, h, size-is made, at-end made))
       by false e = let h = leb-false (size (items bytes) + n) (capOf room) e in lt-ltb (min room limit) (length bytes + n) (omega (arith, h, size-is made, at-end made))
 
-  -- a message that is not an application message is never
-  never : (p : Phase) (v : ℕ) → typeOf m ≡ v → ofVenue v ≡ false → (x : Sent) → says m ≡ x → full (capOf room) x (seen (deskOf p o b bytes)) ≡ false
+  -- a message that is not sequenced is never
+  never : (p : Phase) (v : ℕ) → typeOf m ≡ v → sequenced v ≡ false → (x : Sent) → says m ≡ x → full (capOf room) x (seen (deskOf p o b bytes)) ≡ false
       → refusedForRoom room m (deskOf p o b bytes) ≡ full (capOf room) (says m) (seen (deskOf p o b bytes))
   unfolding refusedForRoom
   never p v e n x y g = rw (e, n) (by (isOpen p)) ∙ sym (ap (λ (t : Sent). full (capOf room) t (seen (deskOf p o b bytes))) y ∙ g)
@@ -242,7 +243,7 @@ module _ {date k : ℕ} (o : OutgoingNumber) {b : Book} {bytes : List ℕ} (made
       by true = refl
       by false = refl
 
-  in-phase : (p : Phase) (v : ℕ) → typeOf m ≡ v → ofVenue v ≡ true → isOpen p ≡ true → says m ≡ message (msgOf m)
+  in-phase : (p : Phase) (v : ℕ) → typeOf m ≡ v → sequenced v ≡ true → isOpen p ≡ true → says m ≡ message (msgOf m)
       → full (capOf room) (message (msgOf m)) (seen (deskOf p o b bytes)) ≡ (isNext b m && not (leb (size (items bytes) + length m) (capOf room)))
       → refusedForRoom room m (deskOf p o b bytes) ≡ full (capOf room) (says m) (seen (deskOf p o b bytes))
   unfolding refusedForRoom
@@ -259,12 +260,12 @@ module _ {date k : ℕ} (o : OutgoingNumber) {b : Book} {bytes : List ℕ} (made
   room-as-told Replaying (aResponse e) = never Replaying 0x24 e refl _ (says-response m e) refl
   room-as-told Replaying (aComplete e) = never Replaying 0x13 e refl _ (says-complete m e) refl
   room-as-told Replaying (aLogout e) = never Replaying 0x08 e refl _ (says-logout m e) refl
-  room-as-told Replaying (aBeat e) = never Replaying 0x09 e refl _ (says-beat m e) refl
+  room-as-told Replaying (anAside v e a) = never Replaying v e (a .not-counted) _ (says-aside m v e a) refl
   room-as-told Replaying (anAcknowledgment e) = in-phase Replaying 0x25 e refl refl (says-acknowledgment m e) refl
   room-as-told Replaying (anExecution e) = in-phase Replaying 0x2C e refl refl (says-execution m e) refl
   room-as-told Live (aResponse e) = never Live 0x24 e refl _ (says-response m e) refl
   room-as-told Live (aComplete e) = never Live 0x13 e refl _ (says-complete m e) refl
   room-as-told Live (aLogout e) = never Live 0x08 e refl _ (says-logout m e) refl
-  room-as-told Live (aBeat e) = never Live 0x09 e refl _ (says-beat m e) refl
+  room-as-told Live (anAside v e a) = never Live v e (a .not-counted) _ (says-aside m v e a) refl
   room-as-told Live (anAcknowledgment e) = in-phase Live 0x25 e refl refl (says-acknowledgment m e) refl
   room-as-told Live (anExecution e) = in-phase Live 0x2C e refl refl (says-execution m e) refl

@@ -1,33 +1,45 @@
 -- What a line's bytes are to the session: by their type, and for an application message by the book. Assumes nothing.
 use Prim.Native.Nat.{ℕ, suc, _+_, _≤_, _<_, min}
 use mathlib.Core.Path.{_≡_, refl, sym, ap, _∙_}
-use mathlib.Core.Bool.{Bool, true, false, cond, not, _&&_, _||_, true≢false, and-eq-true-iff}
+use mathlib.Core.Bool.{Bool, true, false, cond, not, _||_}
 use mathlib.Core.List.{List}
 use native.Mathlib.Omega.{arith}
 use lib.Dec.{eqb, leb, ltb}
 use lib.ListN.{length}
-use borrow.Author.Tests.{eq-eqb, ne-eqb, eqb-true, eqb-false, ltb-true, ltb-false, le-ltb, le-leb, lt-leb, leb-true}
+use borrow.Author.Tests.{eq-eqb, ne-eqb, eqb-true, eqb-false, ltb-true, ltb-false, le-ltb, le-leb, lt-leb}
 use Rattle.wire.specs.Header.{typeOf, unitOf, numberOf}
 use Rattle.wire.specs.Frame.{frameRefusal}
 use Rattle.table.specs.Table.{lastOf, unitRefusal, entryRefusal, stepRefusal}
 use Rattle.table.specs.TableLaws.{unit-taken, taken-is-next, next-is-taken}
-use Rattle.orders.specs.Shapes.{ofVenue, unitGood}
-use Rattle.orders.specs.Orders as orders
-use Rattle.orders.specs.OrderLaws as orderLaws
+use Rattle.orders.specs.Shapes.{sequenced, unsequenced}
+use Rattle.orders.specs.OrderLaws.{either, unsequenced-types, sequenced-has-a-unit}
 use Rattle.messages.specs.Messages.{carries, ownRefusal}
 use Rattle.book.specs.declared.Book.{Book}
 use Rattle.book.specs.Books.{limit, messageRefusal, nextRefusal, roomless, appendRefusal}
 use Rattle.book.specs.BookLaws.{past-buffer, past-limit, by-count}
 use Rattle.day_line.specs.Lines.{Fine}
+use Rattle.session.specs.declared.Phase.the-variants.{Asked, Replaying, Live}
+use Rattle.session.specs.Sessions.{passes}
 use Rattle.session.specs.SessionLaws.{framed-and-carried, own-order, read-is-good}
 
 -- ---- the types
+
+-- a type that passes aside: a heartbeat's, and those of the unsequenced messages
+pub record Aside (v : ℕ) : Type 0 where
+  pub asked-out : passes Asked v ≡ false
+  pub replaying-in : passes Replaying v ≡ true
+  pub live-in : passes Live v ≡ true
+  pub not-counted : sequenced v ≡ false
+  pub no-response : eqb v 0x24 ≡ false
+  pub no-complete : eqb v 0x13 ≡ false
+  pub no-logout : eqb v 0x08 ≡ false
+  pub aside-type : (eqb v 0x09 || unsequenced v) ≡ true
 
 pub data Kind (m : List ℕ) : Type 0 where
   aResponse : typeOf m ≡ 0x24 → Kind m
   aComplete : typeOf m ≡ 0x13 → Kind m
   aLogout : typeOf m ≡ 0x08 → Kind m
-  aBeat : typeOf m ≡ 0x09 → Kind m
+  anAside : (v : ℕ) → typeOf m ≡ v → Aside v → Kind m
   anAcknowledgment : typeOf m ≡ 0x25 → Kind m
   anExecution : typeOf m ≡ 0x2C → Kind m
 
@@ -42,49 +54,40 @@ module _ (m : List ℕ) (f : Fine m) where
   own = ap ownRefusal (sym (f .whole)) ∙ framed-and-carried m (f .reads) .2
 
   pub kind-of : Kind m
-  unfolding carries
-  kind-of = by (eqb (typeOf m) 0x25) (eqb (typeOf m) 0x2C) (eqb (typeOf m) 0x24) (eqb (typeOf m) 0x08) (eqb (typeOf m) 0x09) (eqb (typeOf m) 0x13) refl refl refl refl refl refl carried
-    where
-      by : (a b c d e g : Bool) → eqb (typeOf m) 0x25 ≡ a → eqb (typeOf m) 0x2C ≡ b → eqb (typeOf m) 0x24 ≡ c → eqb (typeOf m) 0x08 ≡ d → eqb (typeOf m) 0x09 ≡ e → eqb (typeOf m) 0x13 ≡ g
-          → ((a || b) || (c || (d || (e || g)))) ≡ true → Kind m
-      by true b c d e g p q r s t u h = anAcknowledgment (eqb-true (typeOf m) 0x25 p)
-      by false true c d e g p q r s t u h = anExecution (eqb-true (typeOf m) 0x2C q)
-      by false false true d e g p q r s t u h = aResponse (eqb-true (typeOf m) 0x24 r)
-      by false false false true e g p q r s t u h = aLogout (eqb-true (typeOf m) 0x08 s)
-      by false false false false true g p q r s t u h = aBeat (eqb-true (typeOf m) 0x09 t)
-      by false false false false false true p q r s t u h = aComplete (eqb-true (typeOf m) 0x13 u)
-      by false false false false false false p q r s t u h = absurd (true≢false (sym h))
+  unfolding carries passes
+  kind-of =
+      either (sequenced (typeOf m) || unsequenced (typeOf m))
+      (either (sequenced (typeOf m))
+      (either (eqb (typeOf m) 0x25) (λ h. anAcknowledgment (eqb-true (typeOf m) 0x25 h)) (λ h. anExecution (eqb-true (typeOf m) 0x2C h)))
+      (λ h. anAside (typeOf m) refl (unsequenced-types Aside (record { asked-out = refl; replaying-in = refl; live-in = refl; not-counted = refl; no-response = refl; no-complete = refl; no-logout = refl; aside-type = refl }) (record { asked-out = refl; replaying-in = refl; live-in = refl; not-counted = refl; no-response = refl; no-complete = refl; no-logout = refl; aside-type = refl }) (record { asked-out = refl; replaying-in = refl; live-in = refl; not-counted = refl; no-response = refl; no-complete = refl; no-logout = refl; aside-type = refl }) (typeOf m) h)))
+      (either (eqb (typeOf m) 0x24) (λ h. aResponse (eqb-true (typeOf m) 0x24 h))
+      (either (eqb (typeOf m) 0x08) (λ h. aLogout (eqb-true (typeOf m) 0x08 h))
+      (either (eqb (typeOf m) 0x09) (λ h. anAside 0x09 (eqb-true (typeOf m) 0x09 h) (record { asked-out = refl; replaying-in = refl; live-in = refl; not-counted = refl; no-response = refl; no-complete = refl; no-logout = refl; aside-type = refl }))
+      (λ h. aComplete (eqb-true (typeOf m) 0x13 h)))))
+      carried
 
 -- ---- an application message and the book
 
-unit-of : (m : List ℕ) (v : ℕ) → typeOf m ≡ v → (unitGood v (unitOf m) ≡ (leb 1 (unitOf m) && leb (unitOf m) 32)) → orders.readRefusal m ≡ 0 → unitRefusal (unitOf m) ≡ 0
-unit-of m v e g z =
-    let u : unitGood v (unitOf m) ≡ true = ap (λ (x : ℕ). unitGood x (unitOf m)) (sym e) ∙ orderLaws.good m z .unit in
-    let b = and-eq-true-iff (leb 1 (unitOf m)) (leb (unitOf m) 32) .0 (sym g ∙ u) in
-    unit-taken (unitOf m) (leb-true 1 (unitOf m) (b .0)) (leb-true (unitOf m) 32 (b .1))
-
 -- what an application message of the line has
 pub record Application (m : List ℕ) : Type 0 where
-  pub venue : ofVenue (typeOf m) ≡ true
+  pub venue : sequenced (typeOf m) ≡ true
   pub reads : messageRefusal m ≡ 0
   pub unit : unitRefusal (unitOf m) ≡ 0
 
-application-by : (m : List ℕ) (f : Fine m) (v : ℕ) → typeOf m ≡ v → ofVenue v ≡ true → (unitGood v (unitOf m) ≡ (leb 1 (unitOf m) && leb (unitOf m) 32)) → Application m
-application-by m f v e o g =
-    let p : ofVenue (typeOf m) ≡ true = ap ofVenue e ∙ o in
+application-by : (m : List ℕ) (f : Fine m) → sequenced (typeOf m) ≡ true → Application m
+application-by m f p =
+    let u = sequenced-has-a-unit m (own-order m p (own m f)) p in
     record {
       venue = p;
-      reads = read-is-good m (f .reads) (ap (λ (x : List ℕ). ofVenue (typeOf x)) (f .whole) ∙ p);
-      unit = unit-of m v e g (own-order m p (own m f));
+      reads = read-is-good m (f .reads) (ap (λ (x : List ℕ). sequenced (typeOf x)) (f .whole) ∙ p);
+      unit = unit-taken (unitOf m) (u .0) (u .1);
     }
 
 pub acknowledgment : (m : List ℕ) → Fine m → typeOf m ≡ 0x25 → Application m
-unfolding unitGood
-acknowledgment m f e = application-by m f 0x25 e refl refl
+acknowledgment m f e = application-by m f (ap sequenced e)
 
 pub execution : (m : List ℕ) → Fine m → typeOf m ≡ 0x2C → Application m
-unfolding unitGood
-execution m f e = application-by m f 0x2C e refl refl
+execution m f e = application-by m f (ap sequenced e)
 
 -- whether its number is the next of its unit
 abbrev pub isNext : Book → List ℕ → Bool

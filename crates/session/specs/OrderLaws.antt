@@ -2,7 +2,7 @@
 use mathlib.Core.Path.{_≡_, refl, sym, ap, ap₂, _∙_}
 use mathlib.Core.Bool.{Bool, true, false, cond}
 use mathlib.Core.List.{List, [], _∷_}
-use Prim.Native.Nat.{ℕ, zero, suc, _+_, _≤_, _<_}
+use Prim.Native.Nat.{ℕ, zero, suc, _+_, _≤_, _<_, _-_}
 use native.Mathlib.Omega.{arith}
 use lib.Dec.{eqb, ltb}
 use lib.ListN.{length, getD, take, drop}
@@ -19,7 +19,7 @@ use Rattle.session.specs.declared.Answer.{Answer}
 use Rattle.session.specs.Sessions.{answer, isLive, numbered, nextOutgoing, orderRefusal, orderOf, orderOut}
 use Rattle.session.specs.Stages.{gateRefusal}
 use Rattle.session.specs.SessionLaws.{refuses, accepts}
-use Rattle.block.specs.Sizes.{fixedSize, layoutSize, recordSize}
+use Rattle.block.specs.Sizes.{fixedSize, layoutSize, recordSize, mostBitfields, bitsPlace, slotsPlace}
 
 -- ---- the record under its number
 
@@ -41,14 +41,14 @@ same {m} {u} {n} {n′} {c} {c′} {f} {f′} {b} {b′} {v} {v′} p q r s t =
     ∙ ap₂ (λ (x : ℕ) (y : List ℕ). record { message = m; unit = u; number = n′; fixed = f′; count = x; bits = y; slots = v }) r s
     ∙ ap (λ (x : List ℕ). record { message = m; unit = u; number = n′; fixed = f′; count = c′; bits = b′; slots = x }) t
 
--- RECORD UNDER A NUMBER: the first 235 bytes given with the number put in its place are the record under that number
+-- RECORD UNDER A NUMBER: the first `recordSize` bytes given with the number put in its place are the record under that number
 pub numbered-is : (given : List ℕ) (n : ℕ) → recordSize ≤ length given → n < 4294967296 → recordAt (putBuffer (take recordSize given) 2 (bytesOf 4 n)) ≡ numbered given n
 unfolding recordAt patched
 numbered-is (a ∷ b ∷ c ∷ d ∷ e ∷ f ∷ l) n h k =
     let given = a ∷ b ∷ c ∷ d ∷ e ∷ f ∷ l in
     let t : length (take recordSize given) ≡ recordSize = length-take-le recordSize given h in
     ap recordAt (put-stores (take recordSize given) 2 (bytesOf 4 n) (omega (arith, t)))
-    ∙ same (omega arith) (part-of-front fixedSize 0 229 l (omega arith)) (getD-take 229 l fixedSize 0 (omega arith)) (part-of-front 15 60 229 l (omega arith)) (part-of-front layoutSize 75 229 l (omega arith))
+    ∙ same (omega arith) (part-of-front fixedSize 0 (recordSize - 6) l (omega arith)) (getD-take (recordSize - 6) l fixedSize 0 (omega arith)) (part-of-front mostBitfields (bitsPlace - 6) (recordSize - 6) l (omega arith)) (part-of-front layoutSize (slotsPlace - 6) (recordSize - 6) l (omega arith))
 numbered-is [] n h k = absurd (omega (arith, h))
 numbered-is (a ∷ []) n h k = absurd (omega (arith, h))
 numbered-is (a ∷ b ∷ []) n h k = absurd (omega (arith, h))

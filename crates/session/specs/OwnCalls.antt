@@ -12,7 +12,7 @@ use lib.ListN.{length}
 use borrow.Author.Tests.{eq-eqb, ne-eqb}
 use Rattle.wire.specs.Header.{typeOf}
 use Rattle.wire.specs.Frame.{frameRefusal, framed}
-use Rattle.orders.specs.Shapes.{ofVenue}
+use Rattle.orders.specs.Shapes.{sequenced}
 use Rattle.book.specs.Books as books
 use Rattle.session.specs.declared.Session.{Session}
 use Rattle.session.specs.Sessions.{isClosed, responseReading, responseRefusal, responseOf, responseBuffer, messageRefusal, messageOf, messageBuffer, receiveOf, receiveBuffer}
@@ -20,7 +20,7 @@ use Rattle.session.specs.ReadingLaws.{told-by, after-is-receive, after-i
 
 module _ (s : Session) (xs bytes : List ℕ) where
   -- bytes that do not frame are answered alike too
-  pub message-is-receive : (frameRefusal bytes ≡ 0 → ofVenue (typeOf (framed bytes)) ≡ true)
+  pub message-is-receive : (frameRefusal bytes ≡ 0 → sequenced (typeOf (framed bytes)) ≡ true)
       → (messageOf s (length xs) bytes ≡ receiveOf s (length xs) bytes) × (messageBuffer s xs bytes ≡ receiveBuffer s xs bytes)
   message-is-receive v =
       let p = after-is-message s xs bytes in
@@ -33,7 +33,7 @@ module _ (s : Session) (xs bytes : List ℕ) where
       told-by s xs bytes (response-as-venue bytes v) (sym (p .0), sym (p .1)) (after-is-receive s xs bytes)
 
   module _ (c : isClosed (s .phase) ≡ false) (f : frameRefusal bytes ≡ 0) where
-    pub message-else-is-4 : ofVenue (typeOf (framed bytes)) ≡ false → messageOf s (length xs) bytes .refusal ≡ 4
+    pub message-else-is-4 : sequenced (typeOf (framed bytes)) ≡ false → messageOf s (length xs) bytes .refusal ≡ 4
     unfolding messageOf messageRefusal books.messageRefusal
     message-else-is-4 v = rw (c, eq-eqb (frameRefusal bytes) 0 f, v)
 

@@ -12,9 +12,11 @@ use Rattle.wire.specs.Header.{typeOf}
 use Rattle.wire.specs.Frame.{frameRefusal, framed}
 use Rattle.orders.specs.Shapes as orderTypes
 use Rattle.orders.specs.Orders as orders
+use Rattle.orders.specs.OrderLaws.{sequenced-types}
 use Rattle.session_messages.specs.Sessions as logins
 use Rattle.messages.specs.Messages.{carries, isSession, ownRefusal, readRefusal}
 use Rattle.book.specs.Books as books
+use Rattle.book.specs.Sequenced.{booked-is-sequenced}
 use Rattle.book.specs.Books.{appendRefusal, appendedBy}
 use Rattle.session.specs.declared.Phase.{Phase}
 use Rattle.session.specs.declared.Phase.the-variants.{Closed, Asked, Replaying, Live}
@@ -22,7 +24,7 @@ use Rattle.session.specs.declared.Session.{Session}
 use Rattle.session.specs.declared.Answer.{Answer}
 use Rattle.session.specs.Sessions.{pickSession, answer, answered, withBook, isClosed, isAsked, isOpen, passes, respondedBy, respondedBuffer, statusIn, receivedIn, responseReading, responseRefusal, responseOf, responseBuffer, messageRefusal, messageOf, messageBuffer, receiveRefusal, receivedBy, receiveOf, receivedBuffer, receiveBuffer}
 use Rattle.session.specs.Stages.{afterRefusal, afterReading, afterBuffer}
-use Rattle.session.specs.SessionLaws.{refuses, venue-types, no-session, received-books, received-appends, Receives}
+use Rattle.session.specs.SessionLaws.{refuses, no-session, received-books, received-appends, Receives}
 
 -- ---- after the reading
 
@@ -102,7 +104,7 @@ module _ (s : Session) (xs bytes : List ℕ) where
   receive-refusal-is : afterRefusal s (readRefusal 1 bytes) (length xs) bytes ≡ receiveRefusal s (length xs) bytes
   unfolding afterRefusal receiveRefusal
   receive-refusal-is =
-      let v = orderTypes.ofVenue (typeOf (framed bytes)) in
+      let v = orderTypes.sequenced (typeOf (framed bytes)) in
       let x = cond (passes (s .phase) (typeOf (framed bytes))) (cond v (appendRefusal (s .book) (length xs) bytes) 0) 16 in
       behind-alike (isClosed (s .phase)) (readRefusal 1 bytes) (behind (isClosed (s .phase)) (readRefusal 1 bytes) x) x (λ c z. rw (c, eq-eqb (readRefusal 1 bytes) 0 z))
 
@@ -116,53 +118,42 @@ module _ (s : Session) (xs bytes : List ℕ) where
 -- ---- an application message
 
 -- it is one of the venue's, with an order's own refusals, and passes while replaying or live
-carried : (t : ℕ) → orderTypes.ofVenue t ≡ true → carries 1 t ≡ true
+carried : (t : ℕ) → orderTypes.sequenced t ≡ true → carries 1 t ≡ true
 unfolding carries
-carried = venue-types (λ (t : ℕ). carries 1 t ≡ true) refl refl
+carried = sequenced-types (λ (t : ℕ). carries 1 t ≡ true) refl refl
 
-own-is-order : (m : List ℕ) → orderTypes.ofVenue (typeOf m) ≡ true → ownRefusal m ≡ orders.readRefusal m
+own-is-order : (m : List ℕ) → orderTypes.sequenced (typeOf m) ≡ true → ownRefusal m ≡ orders.readRefusal m
 unfolding ownRefusal
 own-is-order m v = rw (no-session (typeOf m) v)
 
-message-passes : (p : Phase) (t : ℕ) → orderTypes.ofVenue t ≡ true → passes p t ≡ isOpen p
+message-passes : (p : Phase) (t : ℕ) → orderTypes.sequenced t ≡ true → passes p t ≡ isOpen p
 unfolding passes
 message-passes Closed t v = refl
-message-passes Asked t v = venue-types (λ (t : ℕ). passes Asked t ≡ false) refl refl t v
+message-passes Asked t v = sequenced-types (λ (t : ℕ). passes Asked t ≡ false) refl refl t v
 message-passes Replaying t v = rw v
 message-passes Live t v = rw v
 
 -- the book reads it as the venue's reader does, and bytes that do not frame too
-pub reads-as-venue : (bytes : List ℕ) → (frameRefusal bytes ≡ 0 → orderTypes.ofVenue (typeOf (framed bytes)) ≡ true) → books.messageRefusal bytes ≡ readRefusal 1 bytes
+pub reads-as-venue : (bytes : List ℕ) → (frameRefusal bytes ≡ 0 → orderTypes.sequenced (typeOf (framed bytes)) ≡ true) → books.messageRefusal bytes ≡ readRefusal 1 bytes
 unfolding books.messageRefusal readRefusal
 reads-as-venue bytes v = by (eqb (frameRefusal bytes) 0) refl
   where
     by : (b : Bool) → eqb (frameRefusal bytes) 0 ≡ b
-        → cond b (cond (orderTypes.ofVenue (typeOf (framed bytes))) (orders.readRefusal (framed bytes)) 4) (frameRefusal bytes)
+        → cond b (cond (orderTypes.sequenced (typeOf (framed bytes))) (orders.readRefusal (framed bytes)) 4) (frameRefusal bytes)
         ≡ cond b (cond (carries 1 (typeOf (framed bytes))) (ownRefusal (framed bytes)) 4) (frameRefusal bytes)
     by true e =
         let w = v (eqb-true (frameRefusal bytes) 0 e) in
         rw (w, carried (typeOf (framed bytes)) w) (sym (own-is-order (framed bytes) w))
     by false e = refl
 
--- what the book's reading takes is an application message
-pub good-is-message : (bytes : List ℕ) → books.messageRefusal bytes ≡ 0 → orderTypes.ofVenue (typeOf (framed bytes)) ≡ true
-unfolding books.messageRefusal
-good-is-message bytes z = by (eqb (frameRefusal bytes) 0) (orderTypes.ofVenue (typeOf (framed bytes))) refl refl z
-  where
-    by : (b c : Bool) → eqb (frameRefusal bytes) 0 ≡ b → orderTypes.ofVenue (typeOf (framed bytes)) ≡ c
-        → cond b (cond c (orders.readRefusal (framed bytes)) 4) (frameRefusal bytes) ≡ 0 → orderTypes.ofVenue (typeOf (framed bytes)) ≡ true
-    by true true e v y = v
-    by true false e v y = absurd (omega (arith, y))
-    by false c e v y = absurd (eqb-false (frameRefusal bytes) 0 e y)
-
 pub good-is-read : (bytes : List ℕ) → books.messageRefusal bytes ≡ 0 → readRefusal 1 bytes ≡ 0
-good-is-read bytes z = sym (reads-as-venue bytes (λ f. good-is-message bytes z)) ∙ z
+good-is-read bytes z = sym (reads-as-venue bytes (λ f. booked-is-sequenced bytes z)) ∙ z
 
 module _ (s : Session) (xs bytes : List ℕ) where
   message-received : isClosed (s .phase) ≡ false → books.messageRefusal bytes ≡ 0 → receiveRefusal s (length xs) bytes ≡ cond (isOpen (s .phase)) (appendRefusal (s .book) (length xs) bytes) 16
   unfolding receiveRefusal
   message-received c z =
-      let v = good-is-message bytes z in
+      let v = booked-is-sequenced bytes z in
       rw (c, eq-eqb (readRefusal 1 bytes) 0 (good-is-read bytes z), message-passes (s .phase) (typeOf (framed bytes)) v, v)
 
   message-refusal-is : afterRefusal s (books.messageRefusal bytes) (length xs) bytes ≡ messageRefusal s (length xs) bytes
@@ -170,9 +161,9 @@ module _ (s : Session) (xs bytes : List ℕ) where
   message-refusal-is =
       behind-alike (isClosed (s .phase)) (books.messageRefusal bytes) (receiveRefusal s (length xs) bytes) (cond (isOpen (s .phase)) (appendRefusal (s .book) (length xs) bytes) 16) message-received
 
-  booked-message : messageRefusal s (length xs) bytes ≡ 0 → orderTypes.ofVenue (typeOf (framed bytes)) ≡ true
+  booked-message : messageRefusal s (length xs) bytes ≡ 0 → orderTypes.sequenced (typeOf (framed bytes)) ≡ true
   unfolding messageRefusal
-  booked-message z = good-is-message bytes (behind-none (isClosed (s .phase)) (books.messageRefusal bytes) (cond (isOpen (s .phase)) (appendRefusal (s .book) (length xs) bytes) 16) z)
+  booked-message z = booked-is-sequenced bytes (behind-none (isClosed (s .phase)) (books.messageRefusal bytes) (cond (isOpen (s .phase)) (appendRefusal (s .book) (length xs) bytes) 16) z)
 
   -- an application message, by the book's reading
   pub after-is-message : (afterReading s (books.messageRefusal bytes) (length xs) bytes ≡ messageOf s (length xs) bytes) × (afterBuffer s (books.messageRefusal bytes) xs bytes ≡ messageBuffer s xs bytes)
@@ -188,7 +179,7 @@ response-carried : (t : ℕ) → t ≡ 0x24 → carries 1 t ≡ true
 unfolding carries
 response-carried t e = rw e
 
-response-own : (t : ℕ) → t ≡ 0x24 → (isSession t ≡ true) × (orderTypes.ofVenue t ≡ false)
+response-own : (t : ℕ) → t ≡ 0x24 → (isSession t ≡ true) × (orderTypes.sequenced t ≡ false)
 response-own t e = rw e (refl, refl)
 
 own-is-session : (m : List ℕ) → typeOf m ≡ 0x24 → ownRefusal m ≡ logins.readRefusal m

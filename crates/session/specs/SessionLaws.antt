@@ -14,6 +14,7 @@ use Rattle.orders.specs.Shapes as orderTypes
 use Rattle.orders.specs.Orders as orders
 use Rattle.session_messages.specs.declared.Record as sessionRecords
 use Rattle.session_messages.specs.Sessions as logins
+use Rattle.orders.specs.OrderLaws.{sequenced-types, unsequenced-types}
 use Rattle.messages.specs.Messages.{carries, isSession, ownRefusal, readRefusal}
 use Rattle.book.specs.declared.Book.{Book}
 use Rattle.book.specs.Books as books
@@ -98,33 +99,21 @@ module _ (s : Session) (xs m : List ℕ) where
 
 -- ---- any bytes from the venue
 
-only : (b : Bool) → (b || false) ≡ true → b ≡ true
-only true h = refl
-only false h = h
+-- a sequenced message's type is none of the session messages'
+pub venue-else : (t : ℕ) → orderTypes.sequenced t ≡ true → (eqb t 0x24 ≡ false) × (eqb t 0x13 ≡ false) × (eqb t 0x08 ≡ false)
+venue-else = sequenced-types (λ (t : ℕ). (eqb t 0x24 ≡ false) × (eqb t 0x13 ≡ false) × (eqb t 0x08 ≡ false)) (refl, refl, refl) (refl, refl, refl)
 
--- a session message that passes and is none of the other three is a heartbeat
-pub heartbeat-passes : (p : Phase) (t : ℕ) → passes p t ≡ true → orderTypes.ofVenue t ≡ false → eqb t 0x24 ≡ false → eqb t 0x13 ≡ false → eqb t 0x08 ≡ false → eqb t 0x09 ≡ true
-unfolding passes
-heartbeat-passes Closed t e v a b d = absurd (true≢false (sym e))
-heartbeat-passes Asked t e v a b d = let q : false ≡ true = rw (a, d) at e in absurd (true≢false (sym q))
-heartbeat-passes Replaying t e v a b d = only (eqb t 0x09) (rw (v, b, d) at e)
-heartbeat-passes Live t e v a b d = only (eqb t 0x09) (rw (v, d) at e)
+-- an unsequenced one's is none of these either, nor a sequenced one's
+pub unsequenced-else : (t : ℕ) → orderTypes.unsequenced t ≡ true → (eqb t 0x24 ≡ false) × (eqb t 0x13 ≡ false) × (eqb t 0x08 ≡ false) × (orderTypes.sequenced t ≡ false)
+unsequenced-else =
+    unsequenced-types (λ (t : ℕ). (eqb t 0x24 ≡ false) × (eqb t 0x13 ≡ false) × (eqb t 0x08 ≡ false) × (orderTypes.sequenced t ≡ false)) (refl, refl, refl, refl) (refl, refl, refl, refl) (refl, refl, refl, refl)
 
--- an application message's type is one of two
-pub venue-types : (P : ℕ → Type 0) → P 0x25 → P 0x2C → (t : ℕ) → orderTypes.ofVenue t ≡ true → P t
-venue-types P p q t v = by (eqb t 0x25) refl (eqb t 0x2C) refl v
-  where
-    by : (a : Bool) → eqb t 0x25 ≡ a → (b : Bool) → eqb t 0x2C ≡ b → (a || b) ≡ true → P t
-    by true x b y e = let k : t ≡ 0x25 = eqb-true t 0x25 x in rw k p
-    by false x true y e = let k : t ≡ 0x2C = eqb-true t 0x2C y in rw k q
-    by false x false y e = absurd (true≢false (sym e))
+pub or-true : (a : Bool) → (a || true) ≡ true
+or-true true = refl
+or-true false = refl
 
--- and none of the session messages'
-pub venue-else : (t : ℕ) → orderTypes.ofVenue t ≡ true → (eqb t 0x24 ≡ false) × (eqb t 0x13 ≡ false) × (eqb t 0x08 ≡ false) × (eqb t 0x09 ≡ false)
-venue-else = venue-types (λ (t : ℕ). (eqb t 0x24 ≡ false) × (eqb t 0x13 ≡ false) × (eqb t 0x08 ≡ false) × (eqb t 0x09 ≡ false)) (refl, refl, refl, refl) (refl, refl, refl, refl)
-
-pub no-session : (t : ℕ) → orderTypes.ofVenue t ≡ true → isSession t ≡ false
-no-session = venue-types (λ (t : ℕ). isSession t ≡ false) refl refl
+pub no-session : (t : ℕ) → orderTypes.sequenced t ≡ true → isSession t ≡ false
+no-session = sequenced-types (λ (t : ℕ). isSession t ≡ false) refl refl
 
 -- what the venue's reader takes is framed, of a type of the venue's, and good by itself
 pub framed-and-carried : (s : List ℕ) → readRefusal 1 s ≡ 0 → (frameRefusal s ≡ 0) × (carries 1 (typeOf (framed s)) ≡ true) × (ownRefusal (framed s) ≡ 0)
@@ -138,50 +127,34 @@ framed-and-carried s z = by (eqb (frameRefusal s) 0) (carries 1 (typeOf (framed 
     by false q e c y = absurd (eqb-false (frameRefusal s) 0 e y)
 
 -- an application message's own refusals are an order's
-pub own-order : (m : List ℕ) → orderTypes.ofVenue (typeOf m) ≡ true → ownRefusal m ≡ 0 → orders.readRefusal m ≡ 0
+pub own-order : (m : List ℕ) → orderTypes.sequenced (typeOf m) ≡ true → ownRefusal m ≡ 0 → orders.readRefusal m ≡ 0
 unfolding ownRefusal
 own-order m v z = rw (no-session (typeOf m) v) at z
 
--- an application message that the venue's reader takes is one that the book takes
-pub read-is-good : (s : List ℕ) → readRefusal 1 s ≡ 0 → orderTypes.ofVenue (typeOf (framed s)) ≡ true → books.messageRefusal s ≡ 0
+-- a sequenced message that the venue's reader takes is one that the book takes
+pub read-is-good : (s : List ℕ) → readRefusal 1 s ≡ 0 → orderTypes.sequenced (typeOf (framed s)) ≡ true → books.messageRefusal s ≡ 0
 unfolding books.messageRefusal
 read-is-good s z v =
     let f = framed-and-carried s z in
     rw (eq-eqb (frameRefusal s) 0 (f .0), v) (own-order (framed s) v (f .2))
 
-module _ (s : Session) (m : List ℕ) (v : orderTypes.ofVenue (typeOf m) ≡ true) where
+module _ (s : Session) (m : List ℕ) (v : orderTypes.sequenced (typeOf m) ≡ true) where
   pub received-books : (room : ℕ) → receivedBy s room m ≡ withBook s (appendedBy (s .book) m)
   unfolding receivedBy
-  received-books room = let n = venue-else (typeOf m) v in rw (n .0, n .1, n .2, n .3)
+  received-books room = let n = venue-else (typeOf m) v in rw (n .0, n .1, n .2, v)
 
   pub received-appends : (xs : List ℕ) → receivedBuffer s xs m ≡ patched xs (s .book .length) m
   unfolding receivedBuffer
-  received-appends xs = let n = venue-else (typeOf m) v in rw (n .0, n .1, n .2, n .3)
+  received-appends xs = let n = venue-else (typeOf m) v in rw (n .0, n .1, n .2, v)
 
-module _ (s : Session) (m : List ℕ) (e : passes (s .phase) (typeOf m) ≡ true) (v : orderTypes.ofVenue (typeOf m) ≡ false) where
+module _ (s : Session) (m : List ℕ) (v : orderTypes.sequenced (typeOf m) ≡ false) where
   pub received-heard : (room : ℕ) → heardBy s room m ≡ receivedBy s room m
   unfolding heardBy receivedBy
-  received-heard room = by (eqb (typeOf m) 0x24) refl (eqb (typeOf m) 0x13) refl (eqb (typeOf m) 0x08) refl
-    where
-      by : (a : Bool) → eqb (typeOf m) 0x24 ≡ a → (b : Bool) → eqb (typeOf m) 0x13 ≡ b → (d : Bool) → eqb (typeOf m) 0x08 ≡ d
-          → pickSession a (respondedBy s (statusIn m) (receivedIn m) room) (pickSession b (inPhase Live s) (pickSession d (endedBy s room) s))
-          ≡ pickSession a (respondedBy s (statusIn m) (receivedIn m) room) (pickSession b (inPhase Live s) (pickSession d (endedBy s room) (pickSession (eqb (typeOf m) 0x09) s (withBook s (appendedBy (s .book) m)))))
-      by true x b y d z = refl
-      by false x true y d z = refl
-      by false x false y true z = refl
-      by false x false y false z = sym (ap (λ (t : Bool). pickSession t s (withBook s (appendedBy (s .book) m))) (heartbeat-passes (s .phase) (typeOf m) e v x y z))
+  received-heard room = rw v
 
   pub received-kept : (xs : List ℕ) → heardBuffer s xs m ≡ receivedBuffer s xs m
   unfolding heardBuffer receivedBuffer
-  received-kept xs = by (eqb (typeOf m) 0x24) refl (eqb (typeOf m) 0x13) refl (eqb (typeOf m) 0x08) refl
-    where
-      by : (a : Bool) → eqb (typeOf m) 0x24 ≡ a → (b : Bool) → eqb (typeOf m) 0x13 ≡ b → (d : Bool) → eqb (typeOf m) 0x08 ≡ d
-          → cond a (respondedBuffer s (statusIn m) xs) (cond b xs (cond d (closeBuffer (s .book) xs) xs))
-          ≡ cond a (respondedBuffer s (statusIn m) xs) (cond b xs (cond d (closeBuffer (s .book) xs) (cond (eqb (typeOf m) 0x09) xs (patched xs (s .book .length) m))))
-      by true x b y d z = refl
-      by false x true y d z = refl
-      by false x false y true z = refl
-      by false x false y false z = sym (ap (λ (t : Bool). cond t xs (patched xs (s .book .length) m)) (heartbeat-passes (s .phase) (typeOf m) e v x y z))
+  received-kept xs = rw v
 
 -- what receiving answers
 abbrev pub Receives : Session → List ℕ → List ℕ → Answer → List ℕ → Type 0
@@ -213,15 +186,15 @@ module _ (s : Session) (xs bytes : List ℕ) where
           unreceived q (λ y. omega (arith, y))
 
       module _ (e : passes (s .phase) (typeOf (framed bytes)) ≡ true) where
-        pub application-refusal : orderTypes.ofVenue (typeOf (framed bytes)) ≡ true → receiveRefusal s (length xs) bytes ≡ appendRefusal (s .book) (length xs) bytes
+        pub application-refusal : orderTypes.sequenced (typeOf (framed bytes)) ≡ true → receiveRefusal s (length xs) bytes ≡ appendRefusal (s .book) (length xs) bytes
         unfolding receiveRefusal
         application-refusal v = rw (c, eq-eqb (readRefusal 1 bytes) 0 z, e, v)
 
-        pub session-refusal : orderTypes.ofVenue (typeOf (framed bytes)) ≡ false → receiveRefusal s (length xs) bytes ≡ 0
+        pub session-refusal : orderTypes.sequenced (typeOf (framed bytes)) ≡ false → receiveRefusal s (length xs) bytes ≡ 0
         unfolding receiveRefusal
         session-refusal v = rw (c, eq-eqb (readRefusal 1 bytes) 0 z, e, v)
 
-        pub by-message : orderTypes.ofVenue (typeOf (framed bytes)) ≡ true → {a : Answer} {out : List ℕ} → (a ≡ bookedAs s (appendOf (s .book) (length xs) bytes)) × (out ≡ appendBuffer (s .book) xs bytes)
+        pub by-message : orderTypes.sequenced (typeOf (framed bytes)) ≡ true → {a : Answer} {out : List ℕ} → (a ≡ bookedAs s (appendOf (s .book) (length xs) bytes)) × (out ≡ appendBuffer (s .book) xs bytes)
             → Receives s xs bytes a out
         unfolding receiveOf receiveBuffer appendOf appendBuffer
         by-message v p =
@@ -234,12 +207,12 @@ module _ (s : Session) (xs bytes : List ℕ) where
                   ∙ rw (k, received-appends s (framed bytes) v xs),
             )
 
-        pub by-session : orderTypes.ofVenue (typeOf (framed bytes)) ≡ false → {a : Session} {out : List ℕ} → (a ≡ heardBy s (length xs) (framed bytes)) × (out ≡ heardBuffer s xs (framed bytes))
+        pub by-session : orderTypes.sequenced (typeOf (framed bytes)) ≡ false → {a : Session} {out : List ℕ} → (a ≡ heardBy s (length xs) (framed bytes)) × (out ≡ heardBuffer s xs (framed bytes))
             → Receives s xs bytes (answer 0 a) out
         unfolding receiveOf receiveBuffer
         by-session v p =
             let k = session-refusal v in
-            (accepts (receiveRefusal s (length xs) bytes) (receivedBy s (length xs) (framed bytes)) s k (p .0 ∙ received-heard s (framed bytes) e v (length xs)), p .1 ∙ received-kept s (framed bytes) e v xs ∙ rw k)
+            (accepts (receiveRefusal s (length xs) bytes) (receivedBy s (length xs) (framed bytes)) s k (p .0 ∙ received-heard s (framed bytes) v (length xs)), p .1 ∙ received-kept s (framed bytes) v xs ∙ rw k)
 
 -- ---- a login
 

@@ -4,7 +4,7 @@
 --     asked-denied, asked-logout  any other ends the session, and so does a Logout
 --     asked-else                  all else is 16
 --     open-application            an application message goes to the book, replaying or live
---     open-heartbeat              a heartbeat changes nothing
+--     open-heartbeat, open-unsequenced     a heartbeat changes nothing, and nor does an unsequenced message
 --     open-logout                 a Logout ends the session
 --     replaying-complete          Replay Complete leads to live
 --     replaying-response, live-response, live-complete    are 16
@@ -17,11 +17,11 @@ use mathlib.Core.List.{List}
 use Prim.Native.Nat.{ℕ}
 use native.Mathlib.Omega.{arith}
 use lib.ListN.{length}
-use borrow.Author.Tests.{eq-eqb, ne-eqb}
+use borrow.Author.Tests.{eq-eqb, ne-eqb, eqb-false}
 use Rattle.numbers.specs.Numbers.{patched}
 use Rattle.wire.specs.Header.{typeOf}
 use Rattle.wire.specs.Frame.{framed}
-use Rattle.orders.specs.Shapes.{ofVenue}
+use Rattle.orders.specs.Shapes.{sequenced, unsequenced}
 use Rattle.session_messages.specs.declared.Record.{Record}
 use Rattle.session_messages.specs.Sessions as logins
 use Rattle.messages.specs.Messages.{readRefusal}
@@ -32,7 +32,7 @@ use Rattle.session.specs.declared.Session.{Session}
 use Rattle.session.specs.declared.Answer.{Answer}
 use Rattle.session.specs.Sessions.{answer, inPhase, withBook, isClosed, isOpen, passes, endedBy, brokenBy, brokenBuffer, respondedBy, respondedBuffer, statusIn, receivedIn, receiveOf, receiveBuffer, loginOf, loginOut}
 use Rattle.session.specs.Stages.{heardBy, heardBuffer}
-use Rattle.session.specs.SessionLaws.{breaks, allowed, denied, hears-response, hears-complete, hears-logout, hears-else, Receives, deaf, untimely, by-message, by-session, logs-in}
+use Rattle.session.specs.SessionLaws.{breaks, allowed, denied, hears-response, hears-complete, hears-logout, hears-else, Receives, deaf, untimely, by-message, by-session, unsequenced-else, or-true, logs-in}
 
 -- receiving m answers a and leaves `out` of the book's buffer
 abbrev pub Step : Session → List ℕ → List ℕ → Answer → List ℕ → Type 0
@@ -53,10 +53,10 @@ module _ (s : Session) (xs m : List ℕ) (z : readRefusal 1 m ≡ 0) (f : framed
   late : (p : Phase) → s .phase ≡ p → isClosed p ≡ false → passes p (typeOf m) ≡ false → Step s xs m (answer 16 s) xs
   late p h c e = told s xs m (untimely s xs m (ap isClosed h ∙ c) z (passing p h false e))
 
-  heard : (p : Phase) → s .phase ≡ p → isClosed p ≡ false → passes p (typeOf m) ≡ true → ofVenue (typeOf m) ≡ false → {a : Session} {out : List ℕ} → (a ≡ heardBy s (length xs) m) × (out ≡ heardBuffer s xs m)
+  heard : (p : Phase) → s .phase ≡ p → isClosed p ≡ false → passes p (typeOf m) ≡ true → sequenced (typeOf m) ≡ false → {a : Session} {out : List ℕ} → (a ≡ heardBy s (length xs) m) × (out ≡ heardBuffer s xs m)
       → Step s xs m (answer 0 a) out
   heard p h c e v w =
-      told s xs m (by-session s xs m (ap isClosed h ∙ c) z (passing p h true e) (ap (λ (x : List ℕ). ofVenue (typeOf x)) f ∙ v)
+      told s xs m (by-session s xs m (ap isClosed h ∙ c) z (passing p h true e) (ap (λ (x : List ℕ). sequenced (typeOf x)) f ∙ v)
       (w .0 ∙ ap (heardBy s (length xs)) (sym f), w .1 ∙ ap (heardBuffer s xs) (sym f)))
 
   -- ---- asked
@@ -90,7 +90,7 @@ module _ (s : Session) (xs m : List ℕ) (z : readRefusal 1 m ≡ 0) (f : framed
     not-closed Replaying e = refl
     not-closed Live e = refl
 
-    venue-passes : (q : Phase) → isOpen q ≡ true → ofVenue (typeOf m) ≡ true → passes q (typeOf m) ≡ true
+    venue-passes : (q : Phase) → isOpen q ≡ true → sequenced (typeOf m) ≡ true → passes q (typeOf m) ≡ true
     unfolding passes
     venue-passes Closed e v = e
     venue-passes Asked e v = absurd (true≢false (sym e))
@@ -104,6 +104,13 @@ module _ (s : Session) (xs m : List ℕ) (z : readRefusal 1 m ≡ 0) (f : framed
     heartbeat-passes Replaying e t = rw t
     heartbeat-passes Live e t = rw t
 
+    unsequenced-passes : (q : Phase) → isOpen q ≡ true → unsequenced (typeOf m) ≡ true → passes q (typeOf m) ≡ true
+    unfolding passes
+    unsequenced-passes Closed e u = e
+    unsequenced-passes Asked e u = absurd (true≢false (sym e))
+    unsequenced-passes Replaying e u = rw (u, or-true (sequenced (typeOf m)))
+    unsequenced-passes Live e u = rw (u, or-true (sequenced (typeOf m)))
+
     logout-passes : (q : Phase) → isOpen q ≡ true → typeOf m ≡ 0x08 → passes q (typeOf m) ≡ true
     unfolding passes
     logout-passes Closed e t = e
@@ -111,15 +118,20 @@ module _ (s : Session) (xs m : List ℕ) (z : readRefusal 1 m ≡ 0) (f : framed
     logout-passes Replaying e t = rw t
     logout-passes Live e t = rw t
 
-    pub open-application : ofVenue (typeOf m) ≡ true
+    pub open-application : sequenced (typeOf m) ≡ true
         → Step s xs m (answer (appendOf (s .book) (length xs) m .refusal) (withBook s (appendOf (s .book) (length xs) m .book))) (appendBuffer (s .book) xs m)
     open-application v =
-        told s xs m (by-message s xs m (ap isClosed h ∙ not-closed p o) z (passing p h true (venue-passes p o v)) (ap (λ (x : List ℕ). ofVenue (typeOf x)) f ∙ v)
+        told s xs m (by-message s xs m (ap isClosed h ∙ not-closed p o) z (passing p h true (venue-passes p o v)) (ap (λ (x : List ℕ). sequenced (typeOf x)) f ∙ v)
         (refl, refl))
 
     pub open-heartbeat : typeOf m ≡ 0x09 → Step s xs m (answer 0 s) xs
     open-heartbeat t =
         heard p h (not-closed p o) (heartbeat-passes p o t) (rw t) (hears-else s xs m (λ e. omega (arith, e, t)) (λ e. omega (arith, e, t)) (λ e. omega (arith, e, t)))
+
+    pub open-unsequenced : unsequenced (typeOf m) ≡ true → Step s xs m (answer 0 s) xs
+    open-unsequenced u =
+        let n = unsequenced-else (typeOf m) u in
+        heard p h (not-closed p o) (unsequenced-passes p o u) (n .3) (hears-else s xs m (eqb-false _ _ (n .0)) (eqb-false _ _ (n .1)) (eqb-false _ _ (n .2)))
 
     pub open-logout : typeOf m ≡ 0x08 → Step s xs m (answer 0 (endedBy s (length xs))) (closeBuffer (s .book) xs)
     open-logout t = heard p h (not-closed p o) (logout-passes p o t) (rw t) (hears-logout s xs m t refl refl)

@@ -22,6 +22,9 @@ use Rattle.book.specs.Books.{appendRefusal, appendedBy, closeOf, closeBuffer}
 use Rattle.session.specs.declared.Phase.{Phase}
 use Rattle.session.specs.declared.Phase.the-variants.{Closed, Asked, Replaying, Live}
 use Rattle.session.specs.declared.Session.{Session}
+use Rattle.session.specs.declared.Told.{Told}
+use Rattle.session.specs.declared.Told.the-variants.{Nothing, Booked, Handed}
+use Rattle.session.specs.declared.Received.{Received}
 use Rattle.session.specs.declared.Answer.{Answer}
 use Rattle.block.specs.Sizes.{recordSize}
 
@@ -77,7 +80,7 @@ isOpen Asked = false
 isOpen Replaying = true
 isOpen Live = true
 
--- 01, Session and replay: what passes in a phase. Application messages (25, 2C) and heartbeats (09) while replaying or live; a Login Response (24) while
+-- 01, Session and replay: what passes in a phase. Application messages, sequenced or not, and heartbeats (09) while replaying or live; a Login Response (24) while
 -- asked; Replay Complete (13) while replaying; a Logout (08) in every phase but closed.
 unfoldable pub passes : Phase → ℕ → Bool
 passes Closed message = false
@@ -138,10 +141,10 @@ responseOf s room bytes = answered (responseRefusal s bytes) (respondedBy s (sta
 unfoldable pub responseBuffer : Session → List ℕ → List ℕ → List ℕ
 responseBuffer s xs bytes = cond (eqb (responseRefusal s bytes) 0) (respondedBuffer s (statusIn (framed bytes)) xs) xs
 
--- ---- an application message
+-- ---- a sequenced application message
 
--- 01, Session and replay: 16 if closed; the reading refusals, which are the book's: 4 for a type other than an application message's; 16 for a type
--- out of phase, which an application message is unless replaying or live; then 14, 15, 13
+-- 01, Session and replay: 16 if closed; the reading refusals, which are the book's: 4 for a type other than a sequenced message's; 16 for a type
+-- out of phase, which such a message is unless replaying or live; then 14, 15, 13
 unfoldable pub messageRefusal : Session → ℕ → List ℕ → ℕ
 messageRefusal s room bytes =
     cond (isClosed (s .phase)) outOfPhase
@@ -158,24 +161,25 @@ messageBuffer s xs bytes = cond (eqb (messageRefusal s (length xs) bytes) 0) (pa
 
 -- ---- any bytes from the venue
 
--- 01, Session and replay: 16 if closed; the reading refusals; 16 for a type out of phase; then 14, 15, 13 of an application message
+-- 01, Session and replay: 16 if closed; the reading refusals; 16 for a type out of phase; then 14, 15, 13 of a sequenced message
 unfoldable pub receiveRefusal : Session → ℕ → List ℕ → ℕ
 receiveRefusal s room bytes =
     cond (isClosed (s .phase)) outOfPhase
     (cond (eqb (readRefusal 1 bytes) 0)
     (cond (passes (s .phase) (typeOf (framed bytes)))
-    (cond (orderTypes.ofVenue (typeOf (framed bytes))) (appendRefusal (s .book) room bytes) 0)
+    (cond (orderTypes.sequenced (typeOf (framed bytes))) (appendRefusal (s .book) room bytes) 0)
     outOfPhase)
     (readRefusal 1 bytes))
 
--- the state after a message m that passes: a Login Response, Replay Complete, a Logout, a heartbeat, an application message
+-- the state after a message m that passes: a Login Response, Replay Complete, a Logout, a sequenced message. A heartbeat and an unsequenced message
+-- change nothing: 02, request 2, such a message is neither booked nor counted
 unfoldable pub receivedBy : Session → ℕ → List ℕ → Session
 receivedBy s room m =
     pickSession (eqb (typeOf m) 0x24) (respondedBy s (statusIn m) (receivedIn m) room)
     (pickSession (eqb (typeOf m) 0x13) (inPhase Live s)
     (pickSession (eqb (typeOf m) 0x08) (endedBy s room)
-    (pickSession (eqb (typeOf m) 0x09) s
-    (withBook s (appendedBy (s .book) m)))))
+    (pickSession (orderTypes.sequenced (typeOf m)) (withBook s (appendedBy (s .book) m))
+    s)))
 
 -- what is answered: the state after it, or the refusal and the state as it was
 unfoldable pub receiveOf : Session → ℕ → List ℕ → Answer
@@ -187,11 +191,33 @@ receivedBuffer s xs m =
     cond (eqb (typeOf m) 0x24) (respondedBuffer s (statusIn m) xs)
     (cond (eqb (typeOf m) 0x13) xs
     (cond (eqb (typeOf m) 0x08) (closeBuffer (s .book) xs)
-    (cond (eqb (typeOf m) 0x09) xs
-    (patched xs (s .book .length) m))))
+    (cond (orderTypes.sequenced (typeOf m)) (patched xs (s .book .length) m)
+    xs)))
 
 unfoldable pub receiveBuffer : Session → List ℕ → List ℕ → List ℕ
 receiveBuffer s xs bytes = cond (eqb (receiveRefusal s (length xs) bytes) 0) (receivedBuffer s xs (framed bytes)) xs
+
+-- ---- what became of it
+
+-- one of two, by a test
+abbrev pub pickTold : Bool → Told → Told → Told
+pickTold true a b = a
+pickTold false a b = b
+
+-- 02, request 2: a sequenced message is booked, an unsequenced one is handed to the desk; of any other there is nothing for it
+unfoldable pub toldOf : ℕ → Told
+toldOf message = pickTold (orderTypes.sequenced message) Booked (pickTold (orderTypes.unsequenced message) Handed Nothing)
+
+-- and of what is refused, with n, there is nothing
+abbrev pub toldAfter : ℕ → ℕ → Told
+toldAfter n message = pickTold (eqb n 0) (toldOf message) Nothing
+
+-- what is answered to any bytes from the venue
+abbrev pub receivedWith : Answer → List ℕ → Received
+receivedWith a m = record { refusal = a .refusal; told = toldAfter (a .refusal) (typeOf m); session = a .session }
+
+abbrev pub receiveAnswer : Session → ℕ → List ℕ → Received
+receiveAnswer s room bytes = receivedWith (receiveOf s room bytes) (framed bytes)
 
 -- ---- what goes out
 
@@ -219,7 +245,7 @@ heartbeatOf s room = answer (heartbeatRefusal s room) s
 unfoldable pub heartbeatOut : Session → List ℕ → List ℕ
 heartbeatOut s out = cond (isOpen (s .phase)) (logins.recordBuffer heartbeatRecord out) out
 
--- an order, of which the first 235 bytes given are the record: it goes out under the next outgoing number
+-- an order, of which the first `recordSize` bytes given are the record: it goes out under the next outgoing number
 abbrev pub numbered : List ℕ → ℕ → orderRecords.Record
 numbered given n =
     record {
@@ -236,7 +262,7 @@ numbered given n =
 abbrev pub nextOutgoing : Session → ℕ
 nextOutgoing s = s .outgoing .0 + 1
 
--- 01, going out: 16 unless live; 20; 13 if the record is under 235 bytes; 4 if it is not an order's; then the writer's
+-- 01, going out: 16 unless live; 20; 13 if the record is under `recordSize` bytes; 4 if it is not an order's; then the writer's
 unfoldable pub orderRefusal : Session → List ℕ → ℕ → ℕ
 orderRefusal s given room =
     cond (isLive (s .phase))

@@ -7,12 +7,12 @@ ghost use Prim.Native.Nat.{_≤_};
 ghost use lib.ListN.{length};
 ghost use Rattle.wire.specs.Header.{typeOf};
 ghost use Rattle.wire.specs.Frame.{framed};
-ghost use Rattle.orders.specs.Shapes.{ofVenue};
+ghost use Rattle.orders.specs.Shapes.{sequenced};
 ghost use Rattle.orders.specs.Orders.{writeRefusal, writeBuffer};
 ghost use Rattle.session_logins.specs.LoginRequests.{loginRecord};
 ghost use Rattle.messages.specs.Messages.{readRefusal};
 ghost use Rattle.book.specs.Books.{appendOf, appendBuffer, closeBuffer};
-ghost use Rattle.session.specs.Sessions.{closedWith, inPhase, isClosed, endedBy, brokenBy, brokenBuffer, respondedBy, respondedBuffer, receivedIn, responseReading, responseOf, responseBuffer, messageOf, messageBuffer, receiveOf, receiveBuffer, loginOf, loginOut, heartbeatOf, heartbeatOut, numbered, orderOf, orderOut};
+ghost use Rattle.session.specs.Sessions.{closedWith, inPhase, isClosed, endedBy, brokenBy, brokenBuffer, respondedBy, respondedBuffer, receivedIn, responseReading, responseOf, responseBuffer, messageOf, messageBuffer, receiveOf, receiveBuffer, toldOf, receivedWith, receiveAnswer, loginOf, loginOut, heartbeatOf, heartbeatOut, numbered, orderOf, orderOut};
 ghost use Rattle.session.specs.Stages.{bookedAs, heardBy, heardBuffer, afterReading, afterBuffer, gateRefusal};
 ghost use Rattle.block.specs.Sizes.{recordSize};
 use book::Book;
@@ -41,6 +41,54 @@ pub struct Answer {
     pub session: Session,
 }
 
+// What became of a message: nothing for the desk, booked, or handed to the desk and neither booked nor counted.
+pub enum Told {
+    Nothing,
+    Booked,
+    Handed,
+}
+
+// What receiving answers: 0, what became of the message and the state after it; or the refusal, nothing, and the state as it was.
+pub struct Received {
+    pub refusal: u32,
+    pub told: Told,
+    pub session: Session,
+}
+
+// What becomes of a message of a type that is not refused.
+pub fn told_of(message: u8) -> Told
+    ensures { λ r. ⌜ r ≡ toldOf message ⌝ }
+{
+    if orders::is_sequenced(message) {
+        return Told::Booked;
+    }
+    if orders::is_unsequenced(message) {
+        return Told::Handed;
+    }
+    Told::Nothing
+}
+
+// An answer, and what became of the message m that it is about.
+fn received_with(a: Answer, m: &[u8]) -> Received
+    ensures { λ r. ⌜ r ≡ receivedWith a (now (m .entry)) ⌝ }
+{
+    let refusal = a.refusal;
+    let s = a.session;
+    if refusal != 0 {
+        return Received {
+            refusal: refusal,
+            told: Told::Nothing,
+            session: s,
+        };
+    }
+    let told = told_of(wire::header::type_of(m));
+    Received {
+        refusal: refusal,
+        told: told,
+        session: s,
+    }
+}
+
 // The session after opening and after a restart.
 pub fn closed_with(b: Book) -> Session
     ensures { λ r. ⌜ r ≡ closedWith b ⌝ }
@@ -52,7 +100,7 @@ pub fn closed_with(b: Book) -> Session
     }
 }
 
-// Writes an order's record, the first 235 bytes given, under a number.
+// Writes an order's record, the first RECORD bytes given, under a number.
 fn write_numbered(given: &[u8], number: OutgoingNumber, out: &mut [u8]) -> u32
     requires { ⌜ recordSize ≤ length (now given) ⌝ }
     ensures { λ r. ⌜ (r ≡ writeRefusal (numbered (now (given .entry)) (number .0)) (length (now (out .entry)))) × (now (out .exit) ≡ writeBuffer (numbered (now (given .entry)) (number .0)) (now (out .entry))) ⌝ }
@@ -156,9 +204,9 @@ impl Session {
         }
     }
 
-    // An application message that was read: 14, 15 or 13; or it is in the book and its unit's entry has risen.
+    // A sequenced message that was read: 14, 15 or 13; or it is in the book and its unit's entry has risen.
     fn append_read(self, bytes: &[u8], buffer: &mut [u8]) -> Answer
-        requires { ⌜ (readRefusal 1 (now bytes) ≡ 0) × (ofVenue (typeOf (framed (now bytes))) ≡ true) ⌝ }
+        requires { ⌜ (readRefusal 1 (now bytes) ≡ 0) × (sequenced (typeOf (framed (now bytes))) ≡ true) ⌝ }
         ensures { λ r. ⌜ (r ≡ bookedAs self (appendOf (self .book) (length (now (buffer .entry))) (now (bytes .entry)))) × (now (buffer .exit) ≡ appendBuffer (self .book) (now (buffer .entry)) (now (bytes .entry))) ⌝ }
     {
         let book = self.book;
@@ -166,7 +214,8 @@ impl Session {
         self.booked(appended)
     }
 
-    // The state after a session message m of a type that passes: a Login Response, Replay Complete, a Logout; a heartbeat changes nothing.
+    // The state after a message m that is not sequenced, of a type that passes: a Login Response, Replay Complete, a Logout; a heartbeat and an
+    // unsequenced message change nothing.
     fn heard(self, m: &[u8], buffer: &mut [u8]) -> Session
         ensures { λ r. ⌜ (r ≡ heardBy self (length (now (buffer .entry))) (now (m .entry))) × (now (buffer .exit) ≡ heardBuffer self (now (buffer .entry)) (now (m .entry))) ⌝ }
     {
@@ -199,7 +248,7 @@ impl Session {
                 session: self,
             };
         }
-        if orders::of_venue(message) {
+        if orders::is_sequenced(message) {
             return self.append_read(bytes, buffer);
         }
         let s = self.heard(m, buffer);
@@ -239,7 +288,7 @@ impl Session {
         self.after_reading(refusal, bytes, buffer)
     }
 
-    // An application message, the first whole message of any bytes: 16 if closed, the reading refusals, 4 for another type among them, 16 unless
+    // A sequenced message, the first whole message of any bytes: 16 if closed, the reading refusals, 4 for another type among them, 16 unless
     // replaying or live, 14, 15 or 13; or it is in the book and its unit's entry has risen.
     pub fn message(self, bytes: &[u8], buffer: &mut [u8]) -> Answer
         ensures { λ r. ⌜ (r ≡ messageOf self (length (now (buffer .entry))) (now (bytes .entry))) × (now (buffer .exit) ≡ messageBuffer self (now (buffer .entry)) (now (bytes .entry))) ⌝ }
@@ -249,12 +298,13 @@ impl Session {
     }
 
     // Any bytes from the venue, of which the first whole message counts: 16 if closed, the reading refusals, 16 for a type out of phase, and 14,
-    // 15 or 13 for an application message; or 0 and the state after the message.
-    pub fn receive(self, bytes: &[u8], buffer: &mut [u8]) -> Answer
-        ensures { λ r. ⌜ (r ≡ receiveOf self (length (now (buffer .entry))) (now (bytes .entry))) × (now (buffer .exit) ≡ receiveBuffer self (now (buffer .entry)) (now (bytes .entry))) ⌝ }
+    // 15 or 13 for a sequenced message; or 0, the state after the message, and what became of it.
+    pub fn receive(self, bytes: &[u8], buffer: &mut [u8]) -> Received
+        ensures { λ r. ⌜ (r ≡ receiveAnswer self (length (now (buffer .entry))) (now (bytes .entry))) × (now (buffer .exit) ≡ receiveBuffer self (now (buffer .entry)) (now (bytes .entry))) ⌝ }
     {
         let refusal = messages::read_refusal(1, bytes);
-        self.after_reading(refusal, bytes, buffer)
+        let a = self.after_reading(refusal, bytes, buffer);
+        received_with(a, wire::frame(bytes))
     }
 
     // A login with the table's numbers: 16 unless closed, then the writer's refusals; or it is written, and the session is asked.
@@ -317,7 +367,7 @@ impl Session {
         }
     }
 
-    // The refusals of an order before the writer's: 16 unless live, 20, 13 for a record under 235 bytes, 4 for one that is not an order's.
+    // The refusals of an order before the writer's: 16 unless live, 20, 13 for a record under RECORD bytes, 4 for one that is not an order's.
     fn gate_refusal(self, given: &[u8]) -> u32
         ensures { λ r. ⌜ r ≡ gateRefusal self (now (given .entry)) ⌝ }
     {
@@ -337,7 +387,7 @@ impl Session {
         0
     }
 
-    // An order, of which the first 235 bytes given are the record, under the next outgoing number; a refused one uses no number up.
+    // An order, of which the first RECORD bytes given are the record, under the next outgoing number; a refused one uses no number up.
     pub fn order(self, given: &[u8], out: &mut [u8]) -> Answer
         ensures { λ r. ⌜ (r ≡ orderOf self (now (given .entry)) (length (now (out .entry)))) × (now (out .exit) ≡ orderOut self (now (given .entry)) (now (out .entry))) ⌝ }
     {

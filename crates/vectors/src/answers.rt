@@ -61,6 +61,9 @@ fn message_call_of(word: &[u8]) -> u8 {
     if check::same(word, b"read-into") {
         return 19;
     }
+    if check::same(word, b"told") {
+        return 20;
+    }
     book_call_of(word)
 }
 
@@ -120,6 +123,7 @@ pub fn answered(line: &[u8], bytes: &mut [u8]) -> bool {
         17 => books::close(line),
         18 => books::list(line, bytes),
         19 => lent(line, bytes, true),
+        20 => told(line),
         _ => false,
     }
 }
@@ -312,6 +316,16 @@ fn day(line: &[u8]) -> bool {
     false
 }
 
+// `told TYPE`: what becomes of a message of a type from the venue.
+fn told(line: &[u8]) -> bool {
+    let message = words::read_number(words::word(line, 1), 255);
+    if message.ok {
+        writing::decimal(gateway::boe_told(message.value as u8) as u64);
+        return true;
+    }
+    false
+}
+
 // `year NUMBER`: which dates of a year are days.
 fn year(line: &[u8]) -> bool {
     let y = words::read_number(words::word(line, 1), 9999);
@@ -394,7 +408,7 @@ fn read_by(direction: u8, s: &[u8]) {
 // Whether a type is an order message's, whose record is the first `block::RECORD` bytes.
 fn is_order(message: u8) -> bool {
     match message {
-        0x38 | 0x39 | 0x25 | 0x2C => true,
+        0x38 | 0x39 | 0x25 | 0x2C | 0x26 | 0x29 | 0x2B => true,
         _ => false,
     }
 }

@@ -7,7 +7,7 @@ use Rattle.venue.specs.VenueDay.{ourVenue}
 use Rattle.venue.specs.VenueView.{viewV, GoodV}
 use Rattle.venue.specs.VenueCalls.{empty-good, empty-is, hears-good, hears-is, stop-good, stop-is}
 use Rattle.venue.specs.VenueAdds.{readable, adds-good, adds-is}
-use Rattle.venue.specs.VenueLine.{beat-fine, beat-says, bye-fine, bye-says, no-fine, no-says}
+use Rattle.venue.specs.VenueLine.{aside-fine, aside-says, bye-fine, bye-says, no-fine, no-says}
 use Rattle.venue.specs.VenueSent.{steps, steps-as-told}
 use Rattle.venue.specs.VenueTaken.{taken, answer-fine, answer-says, answer-sent}
 use Rattle.venue.specs.VenueLogin.{takes-good, lowest, strays-is, takes-is, accepts-ours}
@@ -40,8 +40,8 @@ meets = record {
   step-is = λ room w g r. steps w g r room .is;
   stop-good = stop-good;
   stop-is = stop-is;
-  beat-fine = beat-fine;
-  beat-is = beat-says;
+  aside-fine = aside-fine;
+  aside-is = aside-says;
   bye-fine = bye-fine;
   bye-is = bye-says;
   no-fine = no-fine;

@@ -12,18 +12,19 @@ use Rattle.wire.specs.Header.{typeOf, lengthOf, numberOf, totalOf}
 use Rattle.wire.specs.Frame.{notBA, startsBad, lengthBad, cutShort, frameRefusal, framed}
 use Rattle.wire.specs.FrameLaws.{framed-accepted, framed-again}
 use Rattle.block.specs.SlotLaws.{both-true}
-use Rattle.orders.specs.Shapes.{ofVenue}
+use Rattle.orders.specs.Shapes.{sequenced, unsequenced}
 use Rattle.orders.specs.Orders as orders
 use Rattle.session_messages.specs.Sessions as sessions
+use Rattle.orders.specs.OrderLaws.{either}
 use Rattle.messages.specs.Messages.{isSession, carries, ownRefusal, readRefusal}
 use Rattle.messages.specs.MessageLaws.{own-refusal}
 use Rattle.book.specs.Books.{messageRefusal}
 use Rattle.book.specs.BookLaws.{frames}
-use Rattle.day_model.specs.Model.{Sent, response, message, complete, heartbeat, logout}
+use Rattle.day_model.specs.Model.{Sent, response, message, complete, aside, logout}
 use Rattle.day_model.specs.Story.{Bytes}
 use Rattle.day_line.specs.Lines.{msgOf, says, Fine}
 use Rattle.venue.specs.Venues.{completeBytes}
-use Rattle.venue.specs.VenueDay.{beat, isBye, isNo}
+use Rattle.venue.specs.VenueDay.{isAside, isBye, isNo}
 use Rattle.venue.specs.VenueView.{Wholly}
 
 -- ---- a message of the log
@@ -40,9 +41,9 @@ type-by t false false e f h = absurd (false≢true h)
 
 is-message : (m : Bytes) → messageRefusal m ≡ 0 → Read m
 unfolding messageRefusal
-is-message m z = by (eqb (frameRefusal m) 0) refl (ofVenue (typeOf (framed m))) refl z
+is-message m z = by (eqb (frameRefusal m) 0) refl (sequenced (typeOf (framed m))) refl z
   where
-    by : (a : Bool) → eqb (frameRefusal m) 0 ≡ a → (b : Bool) → ofVenue (typeOf (framed m)) ≡ b → cond a (cond b (orders.readRefusal (framed m)) 4) (frameRefusal m) ≡ 0 → Read m
+    by : (a : Bool) → eqb (frameRefusal m) 0 ≡ a → (b : Bool) → sequenced (typeOf (framed m)) ≡ b → cond a (cond b (orders.readRefusal (framed m)) 4) (frameRefusal m) ≡ 0 → Read m
     by true e true f y = record { type = type-by (typeOf (framed m)) (eqb (typeOf (framed m)) 0x25) (eqb (typeOf (framed m)) 0x2C) refl refl f; own = y }
     by true e false f y = absurd (omega (arith, y))
     by false e b f y = absurd (eqb-false (frameRefusal m) 0 e y)
@@ -73,7 +74,7 @@ message-says m w =
     (λ (e : typeOf (framed m) ≡ 0x2C). by 0x2C (sym t ∙ e) refl refl refl refl)
     (r .type)
   where
-    by : (t : ℕ) → typeOf m ≡ t → eqb t 0x24 ≡ false → eqb t 0x13 ≡ false → eqb t 0x08 ≡ false → eqb t 0x09 ≡ false → says m ≡ message (msgOf m)
+    by : (t : ℕ) → typeOf m ≡ t → eqb t 0x24 ≡ false → eqb t 0x13 ≡ false → eqb t 0x08 ≡ false → (eqb t 0x09 || unsequenced t) ≡ false → says m ≡ message (msgOf m)
     by t e a b c d = rw (e, a, b, c, d)
 
 -- ---- what a step says, and its bytes again
@@ -83,7 +84,7 @@ abbrev pub spoken : Sent → Bytes
 spoken (message m) = m .body
 spoken complete = completeBytes
 spoken (response ok) = []
-spoken heartbeat = []
+spoken aside = []
 spoken logout = []
 
 -- bytes that what they say determines
@@ -93,7 +94,7 @@ Clear b = spoken (says b) ≡ b
 pub message-clear : (m : Bytes) → Wholly m → Clear m
 message-clear m w = ap spoken (message-says m w)
 
--- ---- Replay Complete and the heartbeat
+-- ---- Replay Complete
 
 pub complete-fine : Fine completeBytes
 unfolding readRefusal carries ownRefusal sessions.readRefusal sessions.fixedSize sessions.valuesGood sessions.bodyEnd numberOf framed frameRefusal notBA startsBad lengthBad cutShort lengthOf totalOf
@@ -106,15 +107,7 @@ complete-says = refl
 pub complete-clear : Clear completeBytes
 complete-clear = ap spoken complete-says
 
-pub beat-fine : Fine beat
-unfolding readRefusal carries ownRefusal sessions.readRefusal sessions.fixedSize sessions.valuesGood sessions.bodyEnd numberOf framed frameRefusal notBA startsBad lengthBad cutShort lengthOf totalOf
-beat-fine = record { reads = refl; whole = refl }
-
-pub beat-says : says beat ≡ heartbeat
-unfolding says
-beat-says = refl
-
--- ---- a Logout
+-- ---- what is read, and a Logout
 
 -- what is read is framed
 pub read-frames : (direction : ℕ) (b : Bytes) → readRefusal direction b ≡ 0 → frameRefusal b ≡ 0
@@ -143,6 +136,23 @@ unfolding says
 bye-says b h =
     let t : typeOf (framed b) ≡ 0x08 = eqb-true _ _ (both-true (eqb (readRefusal 1 b) 0) (eqb (typeOf (framed b)) 0x08) h .1) in
     rw t
+
+-- ---- a heartbeat or an unsequenced message
+
+pub aside-fine : (b : Bytes) → isAside b ≡ true → Fine (framed b)
+aside-fine b h = framed-fine b (eqb-true _ _ (both-true (eqb (readRefusal 1 b) 0) (eqb (typeOf (framed b)) 0x09 || unsequenced (typeOf (framed b))) h .0))
+
+pub aside-says : (b : Bytes) → isAside b ≡ true → says (framed b) ≡ aside
+unfolding says
+aside-says b h =
+    either (eqb (typeOf (framed b)) 0x09) (at 0x09 refl refl refl refl)
+    (either (eqb (typeOf (framed b)) 0x26) (at 0x26 refl refl refl refl)
+    (either (eqb (typeOf (framed b)) 0x29) (at 0x29 refl refl refl refl)
+    (at 0x2B refl refl refl refl)))
+    (both-true (eqb (readRefusal 1 b) 0) (eqb (typeOf (framed b)) 0x09 || unsequenced (typeOf (framed b))) h .1)
+  where
+    at : (x : ℕ) → eqb x 0x24 ≡ false → eqb x 0x13 ≡ false → eqb x 0x08 ≡ false → (eqb x 0x09 || unsequenced x) ≡ true → eqb (typeOf (framed b)) x ≡ true → says (framed b) ≡ aside
+    at x p q r s e = let t : typeOf (framed b) ≡ x = eqb-true _ _ e in rw (t, p, q, r, s)
 
 -- ---- a Login Response of another status than A
 

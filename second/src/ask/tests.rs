@@ -45,20 +45,26 @@ fn each_call() {
     check("day 20010229", "19");
     check("silent 5000 0", "1");
     check("silent 4999 0", "0");
+    for (type_byte, told) in [(0x25, 1), (0x2C, 1), (0x26, 2), (0x29, 2), (0x2B, 2)] {
+        check(&format!("told {}", type_byte), &told.to_string());
+    }
+    for other in [0, 0x08, 0x24, 0x27, 0x36, 0x37, 0x38, 0x48, 255] {
+        check(&format!("told {}", other), "0");
+    }
 }
 
-/// P8, its record by the table of README.md, and back; the record has 235 bytes.
+/// P8, its record by the table of README.md, and back; the record has 291 bytes.
 #[test]
 fn read_and_write() {
     let cancel = format!("BABA1D00390064000000414243313233{}00", "00".repeat(14));
-    let record = format!("390064000000414243313233{}", "00".repeat(223));
+    let record = format!("390064000000414243313233{}", "00".repeat(279));
     check(&format!("read 0 {}", cancel), &format!("0 {}", record));
     check(&format!("read 1 {}", cancel), "4");
     check(&format!("read 2 {}", cancel), "4");
     check(&format!("read 255 {}EE", &cancel[..60]), "4");
     check(&format!("read 255 {}", &cancel[..60]), "3");
     check(&format!("read 0 {}", &cancel[..60]), "3");
-    let buffer = "EE".repeat(236);
+    let buffer = "EE".repeat(292);
     check(
         &format!("read-into 0 {} {}", cancel, buffer),
         &format!("0 {}EE", record),
@@ -70,7 +76,7 @@ fn read_and_write() {
     check(&format!("read-into 1 {} EE", cancel), "4 EE");
     check(&format!("read-into 0 {} EE", &cancel[..60]), "3 EE");
     let buffer = "EE".repeat(32);
-    let record = format!("{}{}", record, "07".repeat(204));
+    let record = format!("{}{}", record, "07".repeat(148));
     check(
         &format!("write 0 {} {}", record, buffer),
         &format!("0 {}EE", cancel),
@@ -86,12 +92,12 @@ fn read_and_write() {
     check(&format!("write 0 {} -", record), "13 -");
     check(&format!("write 1 {} 0102", record), "4 0102");
     check(&format!("write 9 {} 0102", record), "4 0102");
-    let own = &record[..470];
+    let own = &record[..582];
     check(
         &format!("write 0 {} {}", own, buffer),
         &format!("0 {}EE", cancel),
     );
-    check(&format!("write 0 {} 0102", &own[..468]), "13 0102");
+    check(&format!("write 0 {} 0102", &own[..580]), "13 0102");
     check("write 0 39 0102", "13 0102");
     check("write 1 39 0102", "4 0102");
     check("write 9 39 0102", "4 0102");
@@ -107,7 +113,7 @@ fn refusals_with_a_place() {
     check(&format!("read 0 {}EE", cancel), "10@10");
     check(&format!("read-into 0 {} EE", cancel), "10@10 EE");
     check(&format!("read 1 {}", cancel), "4");
-    let record = format!("3900640000002C4243313233{}", "00".repeat(223));
+    let record = format!("3900640000002C4243313233{}", "00".repeat(279));
     check(&format!("write 0 {} EEEE", record), "10@10 EEEE");
     let mark = "00000000C30035010000000000000000";
     let id = "00".repeat(37);
@@ -316,6 +322,11 @@ fn outside_the_format() {
         "write 256 - -",
         "write 0 - 3",
         "write 0 3 -",
+        "told",
+        "told 256",
+        "told -",
+        "told 38 38",
+        "told 0x26",
         "day é",
     ] {
         check(line, "?");

@@ -30,6 +30,7 @@ fn login(choice: &str, room: usize) -> String {
 #[test]
 fn small_day() {
     let message = hex::write(&examples::booked_acknowledgment());
+    let rejected = hex::write(&examples::order_rejected());
     let request = format!(
         "BABA1B003700000000003030303154455354{}",
         "54455354494E4700000000"
@@ -61,7 +62,7 @@ fn small_day() {
         ),
         (
             &format!("m-get {} 200", response),
-            "0 2 0 20250819 16 0 0 0",
+            "0 0 2 0 20250819 16 0 0 0",
         ),
         (
             "v-step 56 58",
@@ -71,13 +72,33 @@ fn small_day() {
             "v-step 57 58",
             &format!("0 1 0 57 57 57 0 0 1 {}FF", message),
         ),
-        (&format!("m-get {} 200", message), "0 2 0 20250819 73 0 1 1"),
+        (
+            &format!("m-get {} 200", rejected),
+            "0 2 2 0 20250819 16 0 0 0",
+        ),
+        (
+            &format!("m-get {} 200", message),
+            "0 1 2 0 20250819 73 0 1 1",
+        ),
+        (
+            &format!("m-get {} 200", message),
+            "14 0 2 0 20250819 73 0 1 1",
+        ),
         ("v-step 57 10", "0 1 1 57 57 57 0 0 1 BABA0800130000000000"),
         (
             "v-step 57 10",
             &format!("0 1 1 57 57 57 0 0 1 {}", "FF".repeat(10)),
         ),
-        ("m-get BABA0800130000000000 0", "0 3 0 20250819 73 0 1 1"),
+        ("m-get BABA0800130000000000 0", "0 0 3 0 20250819 73 0 1 1"),
+        (
+            &format!("m-get {} 0", rejected),
+            "0 2 3 0 20250819 73 0 1 1",
+        ),
+        (
+            &format!("m-message {} 200", rejected),
+            "4 3 0 20250819 73 0 1 1",
+        ),
+        (&format!("v-log {} 200", rejected), "4 1 1 57 57 57 0 0 1"),
         (
             &format!("m-order {} 31", record),
             &format!("0 3 1 20250819 73 0 1 1 {}", order),
@@ -114,7 +135,7 @@ fn places() {
     let mut order = examples::new_order();
     let mut record = crate::rules::read::message(0, &order).unwrap();
     order[37] = 0xC9;
-    record[108] = b'-';
+    record[143] = b'-';
     let zeros = zeros(128);
     let state = "7 0 16 0 0";
     check(&[
@@ -134,7 +155,7 @@ fn places() {
             "10@14 0 0 0 0 0 0 0 -",
         ),
         (&format!("m-state 3 {} {}", state, zeros), "3 7 0 16 0 0 0"),
-        (&format!("m-get {} 100", message), "10@18 3 7 0 16 0 0 0"),
+        (&format!("m-get {} 100", message), "10@18 0 3 7 0 16 0 0 0"),
         (
             &format!("m-message {} 100", message),
             "10@18 3 7 0 16 0 0 0",

@@ -8,7 +8,7 @@ mod restart;
 mod tests;
 
 use super::bitfields::sample::Sample;
-use super::made::{numbered, random_book, some_type, MARK};
+use super::made::{numbered, random_book, rejection, some_type, Made, MARK};
 use super::parts::Parts;
 use super::{listing, without_repeats};
 use crate::hex;
@@ -31,7 +31,7 @@ fn open(date: u32, buffer: &[u8]) -> String {
     format!("open {} {}", date, hex::write(buffer))
 }
 
-fn restart(date: u32, book: &[u8]) -> String {
+pub fn restart(date: u32, book: &[u8]) -> String {
     format!("restart {} {}", date, hex::write(book))
 }
 
@@ -44,13 +44,16 @@ fn close(date: u32, book: &[u8], room: usize) -> String {
     format!("close {} {} {}", date, hex::write(book), room)
 }
 
-/// A random book cut or damaged and restarted, a message appended to it, its session closed, and
+/// A random book cut, or damaged or with a rejection in it, and restarted, a message appended to it, its session closed, and
 /// the listing of both.
 pub fn group(random: &mut Random) -> Vec<String> {
     let book = random_book(random);
     let size = book.bytes.len();
     let cut = &book.bytes[..random.between(MARK, size)];
-    let damaged = damaged(random, &book.bytes);
+    let damaged = match random.below(8) {
+        0 => with_rejection(random, &book),
+        _ => damaged(random, &book.bytes),
+    };
     // Half of the units have a number in the book, if any has.
     let used = (1..=32).filter(|unit| book.next(*unit) > 1).max();
     let unit = match (random.below(2), used) {
@@ -63,7 +66,10 @@ pub fn group(random: &mut Random) -> Vec<String> {
         1 => book.next(unit) + 1,
         _ => book.next(unit),
     };
-    let mut message = numbered(Sample::any(random, which), unit, number);
+    let mut message = match random.below(8) {
+        0 => rejection(random).bytes(),
+        _ => numbered(Sample::any(random, which), unit, number),
+    };
     let room = match random.below(4) {
         0 => random.between(0, message.len()),
         1 => message.len() - 1,
@@ -86,6 +92,14 @@ pub fn group(random: &mut Random) -> Vec<String> {
         listing::line(cut),
         listing::line(&damaged),
     ]
+}
+
+/// A rejection before one of the book's marks and messages, or at its end: a book holds none.
+fn with_rejection(random: &mut Random, book: &Made) -> Vec<u8> {
+    let place = random.between(0, book.starts.len());
+    let start = *book.starts.get(place).unwrap_or(&book.bytes.len());
+    let (before, after) = book.bytes.split_at(start);
+    [before, &rejection(random).bytes(), after].concat()
 }
 
 /// One byte changed, left out, put in, or some put at the end.

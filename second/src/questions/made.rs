@@ -1,6 +1,6 @@
 //! Day books put together by document 01 and not by the rules' own code.
 
-use super::bitfields::sample::{Sample, ACKNOWLEDGMENT, EXECUTION};
+use super::bitfields::sample::{Sample, ACKNOWLEDGMENT, EXECUTION, REJECTED};
 use super::parts::Parts;
 use crate::examples;
 use crate::random::Random;
@@ -78,6 +78,12 @@ pub fn some_type(random: &mut Random) -> usize {
         0 => ACKNOWLEDGMENT,
         _ => EXECUTION,
     }
+}
+
+/// A message that is handed to the desk.
+pub fn rejection(random: &mut Random) -> Sample {
+    let which = REJECTED[random.between(0, REJECTED.len() - 1)];
+    Sample::any(random, which)
 }
 
 pub fn numbered(mut sample: Sample, unit: u8, number: u32) -> Vec<u8> {

@@ -1,6 +1,9 @@
 //! Questions past the stored ones, as many as are wanted (README.md, "More questions").
 
-use super::bitfields::sample::{Sample, ACKNOWLEDGMENT, CANCEL, EXECUTION, NEW_ORDER};
+use super::bitfields::sample::{
+    Sample, ACKNOWLEDGMENT, CANCEL, CANCEL_REJECTED, EXECUTION, MODIFY_REJECTED, NEW_ORDER,
+    ORDER_REJECTED,
+};
 use super::parts::Parts;
 use super::session::sample::{
     Sample as Session, CLIENT_HEARTBEAT, LOGIN, LOGOUT, REPLAY_COMPLETE, RESPONSE, SERVER_HEARTBEAT,
@@ -11,8 +14,8 @@ use crate::random::Random;
 use crate::rules::layout;
 use std::collections::VecDeque;
 
-/// How often each type of the messages with bitfields comes, in eight.
-const TYPES: [usize; 8] = [
+/// How often each type of the messages with bitfields comes, in twelve.
+const TYPES: [usize; 12] = [
     NEW_ORDER,
     NEW_ORDER,
     NEW_ORDER,
@@ -21,6 +24,10 @@ const TYPES: [usize; 8] = [
     ACKNOWLEDGMENT,
     EXECUTION,
     EXECUTION,
+    ORDER_REJECTED,
+    ORDER_REJECTED,
+    CANCEL_REJECTED,
+    MODIFY_REJECTED,
 ];
 
 /// How often each type of the session messages comes, in twelve.
@@ -138,7 +145,7 @@ mod tests {
             assert!(line.starts_with("read 0 BABA"));
             let answer = ask::answer(line.as_bytes());
             let record = hex::read(answer.strip_prefix("0 ").unwrap()).unwrap();
-            bitfields.push(record[66..81].to_vec());
+            bitfields.push(record[97..116].to_vec());
         }
         for (index, second) in listed.iter().enumerate() {
             for first in &listed[..index] {
@@ -204,7 +211,7 @@ mod tests {
             expected.insert(answer.to_string());
         }
         assert_eq!(seen, expected);
-        assert_eq!(types.len(), 10);
+        assert_eq!(types.len(), 13);
         assert!((1_600..2_200).contains(&of_books));
         assert!((3_200..4_400).contains(&of_the_session));
     }

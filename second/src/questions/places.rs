@@ -179,7 +179,10 @@ fn other_faults(lines: &mut Vec<String>, random: &mut Random, messages: &[Vec<u8
         for changes in [
             &[(1, 0)][..],
             &[(2, 7), (3, 0)],
+            &[(4, 0x26)],
             &[(4, 0x27)],
+            &[(4, 0x29), (5, 0), (6, 0)],
+            &[(4, 0x2B), (5, 0), (6, 0)],
             &[(4, 0x38)],
             &[(5, 0)],
             &[(5, 33)],

@@ -9,7 +9,7 @@ use super::writing::{line, pattern};
 use crate::hex;
 use crate::random::Random;
 use crate::rules::layout;
-use crate::rules::record::{SESSION_SIZE, SIZE};
+use crate::rules::record::{SESSION_SIZE, SIZE, SLOTS_PLACE};
 use crate::rules::session;
 use crate::rules::types::{MEMBER, VENUE};
 
@@ -19,7 +19,7 @@ const SIZES: [usize; 16] = [
     2,
     6,
     7,
-    81,
+    SLOTS_PLACE,
     SIZE - 1,
     SIZE,
     SIZE + 1,
@@ -45,7 +45,7 @@ const ENDS: [usize; 7] = [
 ];
 
 /// Types that no direction has.
-const UNKNOWN: [u8; 6] = [0x00, 0x02, 0x26, 0x2D, 0x3A, 0xFF];
+const UNKNOWN: [u8; 8] = [0x00, 0x02, 0x27, 0x2D, 0x36, 0x3A, 0x48, 0xFF];
 
 pub fn ask(lines: &mut Vec<String>) {
     let mut random = Random::new(10);
@@ -147,8 +147,10 @@ mod tests {
     /// The bytes that the record of a type has, by the table of README.md.
     fn size_of(direction: u8, type_byte: u8) -> Option<usize> {
         match (direction, type_byte) {
-            (MEMBER, types::NEW_ORDER | types::CANCEL_ORDER) => Some(235),
-            (VENUE, types::ACKNOWLEDGMENT | types::EXECUTION) => Some(235),
+            (MEMBER, types::NEW_ORDER | types::CANCEL_ORDER) => Some(291),
+            (VENUE, types::ACKNOWLEDGMENT | types::EXECUTION) => Some(291),
+            (VENUE, types::ORDER_REJECTED | types::CANCEL_REJECTED) => Some(291),
+            (VENUE, types::MODIFY_REJECTED) => Some(291),
             (MEMBER, types::LOGIN_REQUEST | types::CLIENT_HEARTBEAT) => Some(439),
             (VENUE, types::LOGIN_RESPONSE | types::LOGOUT) => Some(439),
             (VENUE, types::SERVER_HEARTBEAT | types::REPLAY_COMPLETE) => Some(439),
@@ -187,8 +189,8 @@ mod tests {
             let number = answer.split(' ').next().unwrap();
             assert_eq!(number, expected.to_string(), "{}", question);
         }
-        for size in [235, 236, 438, 439] {
-            assert!(sizes.contains(&(235, size)));
+        for size in [291, 292, 438, 439] {
+            assert!(sizes.contains(&(291, size)));
         }
         assert!(!sizes.contains(&(439, 438)) && sizes.contains(&(439, 439)));
     }
@@ -225,6 +227,6 @@ mod tests {
                 assert!(seen.contains(&(type_byte, size)));
             }
         }
-        assert!(seen.len() >= 10 * ENDS.len());
+        assert!(seen.len() >= 13 * ENDS.len());
     }
 }

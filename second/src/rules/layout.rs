@@ -48,6 +48,8 @@ pub struct Layout {
     pub type_byte: u8,
     pub least_unit: u8,
     pub greatest_unit: u8,
+    /// 0 for what is unsequenced; else the number may be any.
+    pub greatest_number: u32,
     /// In the order of their places, from the end of the header to the count byte.
     pub fixed: &'static [Fixed],
     /// The most bitfields.
@@ -155,12 +157,11 @@ impl Layout {
 
     // What reading and writing both check, each giving one number and its place in the message.
 
-    /// 5; the number may be any.
-    pub fn check_unit(&self, unit: u8) -> Result<(), Refusal> {
-        check(
-            (self.least_unit..=self.greatest_unit).contains(&unit),
-            Refusal::Unit,
-        )
+    /// 5
+    pub fn check_header(&self, unit: u8, number: u32) -> Result<(), Refusal> {
+        let units = self.least_unit..=self.greatest_unit;
+        let good = units.contains(&unit) && number <= self.greatest_number;
+        check(good, Refusal::Unit)
     }
 
     /// 7

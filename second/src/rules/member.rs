@@ -4,6 +4,7 @@
 mod tests;
 
 use super::book::{self, Book, BOOKED};
+use super::desk::{Told, HANDED};
 use super::frame;
 use super::login::Login;
 use super::number;
@@ -11,8 +12,9 @@ use super::read;
 use super::record::SIZE;
 use super::table;
 use super::types::{
-    ACKNOWLEDGMENT, CANCEL_ORDER, CLIENT_HEARTBEAT, EXECUTION, LOGIN_RESPONSE, LOGOUT, MEMBER,
-    NEW_ORDER, REPLAY_COMPLETE, SERVER_HEARTBEAT, VENUE,
+    ACKNOWLEDGMENT, CANCEL_ORDER, CANCEL_REJECTED, CLIENT_HEARTBEAT, EXECUTION, LOGIN_RESPONSE,
+    LOGOUT, MEMBER, MODIFY_REJECTED, NEW_ORDER, ORDER_REJECTED, REPLAY_COMPLETE, SERVER_HEARTBEAT,
+    VENUE,
 };
 use super::write;
 use super::{check, Refusal};
@@ -26,13 +28,16 @@ pub enum Phase {
 }
 
 const ORDERS: [u8; 2] = [NEW_ORDER, CANCEL_ORDER];
-const FROM_VENUE: [u8; 6] = [
+const FROM_VENUE: [u8; 9] = [
     LOGIN_RESPONSE,
     LOGOUT,
     SERVER_HEARTBEAT,
     REPLAY_COMPLETE,
     ACKNOWLEDGMENT,
     EXECUTION,
+    ORDER_REJECTED,
+    CANCEL_REJECTED,
+    MODIFY_REJECTED,
 ];
 /// In a Login Response.
 const STATUS_PLACE: usize = 10;
@@ -87,24 +92,24 @@ impl Member {
         Ok(())
     }
 
-    /// The first whole message of what came from the venue.
-    pub fn get(&mut self, bytes: &[u8], buffer: &mut [u8]) -> Result<(), Refusal> {
+    /// The first whole message of what came from the venue, and what the desk gets of it.
+    pub fn get(&mut self, bytes: &[u8], buffer: &mut [u8]) -> Result<Told, Refusal> {
         self.take(&FROM_VENUE, bytes, buffer)
     }
 
-    /// The same for what must be an application message.
+    /// The same for what must be a sequenced application message.
     pub fn message(&mut self, bytes: &[u8], buffer: &mut [u8]) -> Result<(), Refusal> {
-        self.take(&BOOKED, bytes, buffer)
+        self.take(&BOOKED, bytes, buffer).map(|_| ())
     }
 
     /// The same for what must be a Login Response.
     pub fn response(&mut self, bytes: &[u8], buffer: &mut [u8]) -> Result<(), Refusal> {
-        self.take(&[LOGIN_RESPONSE], bytes, buffer)
+        self.take(&[LOGIN_RESPONSE], bytes, buffer).map(|_| ())
     }
 
     /// 16 if closed, the reader's, to which types other than these are 4, 16 for a type that the
-    /// phase does not take, 14, 15, 13.
-    fn take(&mut self, types: &[u8], bytes: &[u8], buffer: &mut [u8]) -> Result<(), Refusal> {
+    /// phase does not take, 14, 15, 13. What is handed to the desk leaves all as it was.
+    fn take(&mut self, types: &[u8], bytes: &[u8], buffer: &mut [u8]) -> Result<Told, Refusal> {
         check(self.phase != Phase::Closed, Refusal::Phase)?;
         let message = read::of_types(VENUE, bytes, types)?;
         let type_byte = frame::header(message).type_byte;
@@ -116,16 +121,17 @@ impl Member {
             }
             LOGIN_RESPONSE | LOGOUT => self.end(buffer),
             REPLAY_COMPLETE => self.phase = Phase::Live,
-            SERVER_HEARTBEAT => {}
-            _ => self.book.append(buffer, message)?,
+            ACKNOWLEDGMENT | EXECUTION => self.book.append(buffer, message)?,
+            _ => {}
         }
-        Ok(())
+        Ok(Told::of(type_byte))
     }
 
     /// Whether a message of a type is for the phase.
     fn takes(&self, type_byte: u8) -> bool {
         let open = type_byte == LOGOUT;
-        let running = BOOKED.contains(&type_byte) || type_byte == SERVER_HEARTBEAT || open;
+        let application = BOOKED.contains(&type_byte) || HANDED.contains(&type_byte);
+        let running = application || type_byte == SERVER_HEARTBEAT || open;
         match self.phase {
             Phase::Closed => false,
             Phase::Asked => type_byte == LOGIN_RESPONSE || open,

@@ -40,7 +40,7 @@ pub fn of_types<'a>(direction: u8, buffer: &'a [u8], types: &[u8]) -> Result<&'a
 /// The record of a whole message with bitfields.
 fn with_bitfields(layout: &Layout, message: &[u8]) -> Result<Record, Refusal> {
     let header = frame::header(message);
-    layout.check_unit(header.unit)?;
+    layout.check_header(header.unit, header.number)?;
 
     // The total is judged three times: up to the count byte, up to the end of the bitfields, and
     // in whole. It is the place that is told in each of them.
@@ -197,6 +197,20 @@ mod tests {
         assert_eq!(execution.bitfields[..3], [0, 0, 0x46]);
         assert_eq!(execution.slots[49..57], *b"TEST123C");
         assert_eq!(execution.slots[61..65], [120, 0, 0, 0]);
+        let rejected = record_of(1, &examples::order_rejected());
+        assert_eq!((rejected.unit, rejected.number, rejected.count), (0, 0, 3));
+        assert_eq!(rejected.fixed[8..14], *b"ABC123");
+        assert_eq!(rejected.fixed[28..46], *b"DDuplicate ClOrdID");
+        assert_eq!(rejected.slots[24..28], *b"MSFT");
+        assert_eq!(rejected.slots[57..61], *b"TEST");
+        for (example, text) in [
+            (examples::cancel_rejected(), &b"JTOO LATE\0"[..]),
+            (examples::modify_rejected(), b"PPending\0"),
+        ] {
+            let rejected = record_of(1, &example);
+            assert_eq!((rejected.count, rejected.slots), (0, [0; SLOTS]));
+            assert_eq!(&rejected.fixed[28..28 + text.len()], text);
+        }
     }
 
     /// A New Order whose parts after the fixed one are `tail`; an identifier may start with any
@@ -249,6 +263,32 @@ mod tests {
         assert_eq!(refusal(0, &order(0, b',', &tail)), 6);
     }
 
+    /// Unsequenced: unit 0 and number 0, both; and bitfields up to 19.
+    #[test]
+    fn headers_and_counts_of_rejections() {
+        for example in [
+            examples::order_rejected(),
+            examples::cancel_rejected(),
+            examples::modify_rejected(),
+        ] {
+            for (place, byte) in [(5, 1), (5, 255), (6, 1), (7, 1), (8, 1), (9, 1)] {
+                let mut bad = example.clone();
+                bad[place] = byte;
+                assert_eq!(refusal(1, &bad), 5);
+                assert_eq!(refusal(0, &bad), 4);
+            }
+            let mut message = example[..101].to_vec();
+            for count in 0..=19 {
+                message[100] = count;
+                message.resize(101 + usize::from(count), 0);
+                measure(&mut message);
+                assert_eq!(record_of(1, &message).count, count);
+            }
+            message[100] = 20;
+            assert_eq!(rules::refusal(super::message(1, &message)), 7);
+        }
+    }
+
     /// Trailing zero bitfields stay in the record, with their count.
     #[test]
     fn zero_bitfields_are_kept() {
@@ -279,8 +319,9 @@ mod tests {
     #[test]
     fn buffers() {
         for (direction, example, own) in [
-            (0, examples::new_order(), 235),
-            (1, examples::execution(), 235),
+            (0, examples::new_order(), 291),
+            (1, examples::execution(), 291),
+            (1, examples::cancel_rejected(), 291),
             (0, examples::client_heartbeat(), 439),
             (1, examples::logout_with_its_length(), 439),
         ] {
@@ -315,6 +356,9 @@ mod tests {
         for (example, reserved) in [
             (examples::acknowledgment(), 46),
             (examples::execution(), 68),
+            (examples::order_rejected(), 99),
+            (examples::cancel_rejected(), 99),
+            (examples::modify_rejected(), 99),
         ] {
             for byte in 0..=255 {
                 let mut other = example.clone();
@@ -330,6 +374,23 @@ mod tests {
             let mut blank = example.clone();
             blank[18..38].fill(0);
             assert_eq!(refusal(1, &blank), 10);
+        }
+        for example in [
+            examples::order_rejected(),
+            examples::cancel_rejected(),
+            examples::modify_rejected(),
+        ] {
+            let mut blank = example.clone();
+            blank[38..99].fill(0);
+            assert_eq!(refusal(1, &blank), 0);
+            for place in [38, 39, 98] {
+                for bad in [31, 127] {
+                    let mut other = example.clone();
+                    other[place] = bad;
+                    let place = if place == 38 { 38 } else { 39 };
+                    assert_eq!(message(1, &other), Err(Refusal::Value(place)));
+                }
+            }
         }
         let mut execution = examples::execution();
         execution[62..68].fill(0);

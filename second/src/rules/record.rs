@@ -3,21 +3,23 @@
 
 use super::number;
 
-pub const FIXED: usize = 59;
-pub const BITFIELDS: usize = 15;
-pub const SLOTS: usize = 154;
-pub const SIZE: usize = 235;
+/// The bytes of each part: as many as the message that has most of them takes.
+pub const FIXED: usize = 90;
+pub const BITFIELDS: usize = 19;
+pub const SLOTS: usize = 175;
+
+const NUMBER_PLACE: usize = 2;
+pub const FIXED_PLACE: usize = 6;
+pub const COUNT_PLACE: usize = FIXED_PLACE + FIXED;
+pub const BITFIELDS_PLACE: usize = COUNT_PLACE + 1;
+pub const SLOTS_PLACE: usize = BITFIELDS_PLACE + BITFIELDS;
+/// The bytes of the whole record.
+pub const SIZE: usize = SLOTS_PLACE + SLOTS;
 
 /// The bytes of a session message's record.
 pub const SESSION_SIZE: usize = 439;
 /// Where the body of a session message stands in its record.
 pub const BODY_PLACE: usize = 6;
-
-const NUMBER_PLACE: usize = 2;
-const FIXED_PLACE: usize = 6;
-const COUNT_PLACE: usize = FIXED_PLACE + FIXED;
-const BITFIELDS_PLACE: usize = COUNT_PLACE + 1;
-const SLOTS_PLACE: usize = BITFIELDS_PLACE + BITFIELDS;
 
 #[derive(Clone, Debug, PartialEq, Eq)]
 pub struct Record {
@@ -69,14 +71,15 @@ mod tests {
 
     #[test]
     fn places() {
-        let bytes: Vec<u8> = (0..=235).collect();
+        let bytes: Vec<u8> = (0..300_u16).map(|place| place as u8).collect();
         let record = Record::of_bytes(&bytes);
         assert_eq!((record.type_byte, record.unit), (0, 1));
         assert_eq!(record.number, 0x05040302);
-        assert_eq!((record.fixed[0], record.fixed[58]), (6, 64));
-        assert_eq!(record.count, 65);
-        assert_eq!((record.bitfields[0], record.bitfields[14]), (66, 80));
-        assert_eq!((record.slots[0], record.slots[153]), (81, 234));
-        assert_eq!(record.bytes(), bytes[..SIZE]);
+        assert_eq!((record.fixed[0], record.fixed[89]), (6, 95));
+        assert_eq!(record.count, 96);
+        assert_eq!((record.bitfields[0], record.bitfields[18]), (97, 115));
+        assert_eq!((record.slots[0], record.slots[174]), (116, 290_u16 as u8));
+        assert_eq!(record.bytes(), bytes[..291]);
+        assert_eq!(SIZE, 291);
     }
 }

@@ -18,3 +18,6 @@ pub const SERVER_HEARTBEAT: u8 = 0x09;
 pub const REPLAY_COMPLETE: u8 = 0x13;
 pub const ACKNOWLEDGMENT: u8 = 0x25;
 pub const EXECUTION: u8 = 0x2C;
+pub const ORDER_REJECTED: u8 = 0x26;
+pub const CANCEL_REJECTED: u8 = 0x2B;
+pub const MODIFY_REJECTED: u8 = 0x29;

@@ -46,7 +46,7 @@ pub fn session(
 
 /// The message of a record with bitfields.
 fn with_bitfields(layout: &Layout, record: &Record) -> Result<Vec<u8>, Refusal> {
-    layout.check_unit(record.unit)?;
+    layout.check_header(record.unit, record.number)?;
     layout.check_count(record.count)?;
     let count = usize::from(record.count);
     // The places past the count are no bitfields: what stands there is judged with the unused.
@@ -116,6 +116,9 @@ mod tests {
             (1, examples::least_acknowledgment()),
             (1, examples::booked_acknowledgment()),
             (1, examples::execution()),
+            (1, examples::order_rejected()),
+            (1, examples::cancel_rejected()),
+            (1, examples::modify_rejected()),
             (0, examples::login()),
             (0, examples::options_login()),
             (0, examples::client_heartbeat()),
@@ -144,28 +147,28 @@ mod tests {
         let mut buffer = [0xEE; 75];
         bad[1] = 1;
         bad[6] = b',';
-        bad[65] = 11;
-        bad[67] = 0xC4;
-        bad[80] = 0x80;
+        bad[96] = 11;
+        bad[98] = 0xC4;
+        bad[115] = 0x80;
         for direction in [1, 2] {
             assert_eq!(refusal(direction, &[], &mut buffer), 13);
             assert_eq!(refusal(direction, &bad[..1], &mut buffer), 4);
             assert_eq!(refusal(direction, &bad, &mut buffer), 4);
         }
         assert_eq!(refusal(0, &bad[..1], &mut buffer), 13);
-        assert_eq!(refusal(0, &bad[..234], &mut buffer), 13);
+        assert_eq!(refusal(0, &bad[..290], &mut buffer), 13);
         assert_eq!(refusal(0, &bad, &mut buffer), 5);
         bad[1] = 0;
         assert_eq!(refusal(0, &bad, &mut buffer), 7);
-        bad[65] = 3;
+        bad[96] = 3;
         assert_eq!(refusal(0, &bad, &mut buffer), 8);
-        bad[67] = 0xC0;
+        bad[98] = 0xC0;
         assert_eq!(refusal(0, &bad, &mut buffer), 9);
-        bad[67] = 0xC1;
+        bad[98] = 0xC1;
         assert_eq!(refusal(0, &bad, &mut buffer), 10);
         bad[6] = b'A';
         assert_eq!(refusal(0, &bad, &mut buffer), 12);
-        bad[80] = 0;
+        bad[115] = 0;
         assert_eq!(bad, good);
         assert_eq!(refusal(0, &bad, &mut buffer), 13);
         assert_eq!(buffer, [0xEE; 75]);
@@ -174,7 +177,7 @@ mod tests {
         assert_eq!(buffer[..], examples::new_order());
     }
 
-    /// The places are those of the message that would be written: Symbol's slot is at 81 + 27 of
+    /// The places are those of the message that would be written: Symbol's slot is at 116 + 27 of
     /// the record, and with OrdType for Price it stands seven bytes earlier in the message.
     #[test]
     fn places_of_the_example() {
@@ -186,18 +189,18 @@ mod tests {
             }
             record(0, &bad, &mut []).unwrap_err()
         };
-        assert_eq!(changed(&[(108, 0x2D)]), Refusal::Value(47));
-        assert_eq!(changed(&[(66, 16), (108, 0x2D)]), Refusal::Value(40));
-        assert_eq!(changed(&[(66, 16), (98, 7)]), Refusal::Value(39));
-        assert_eq!(changed(&[(65, 4), (108, 0x2D)]), Refusal::Value(48));
-        assert_eq!(changed(&[(26, 0), (108, 0x2D)]), Refusal::Value(30));
+        assert_eq!(changed(&[(143, 0x2D)]), Refusal::Value(47));
+        assert_eq!(changed(&[(97, 16), (143, 0x2D)]), Refusal::Value(40));
+        assert_eq!(changed(&[(97, 16), (133, 7)]), Refusal::Value(39));
+        assert_eq!(changed(&[(96, 4), (143, 0x2D)]), Refusal::Value(48));
+        assert_eq!(changed(&[(26, 0), (143, 0x2D)]), Refusal::Value(30));
         assert_eq!(changed(&[(27, 0), (28, 0)]), Refusal::Value(31));
-        assert_eq!(changed(&[(144, 7)]), Refusal::Value(60));
-        assert_eq!(changed(&[(65, 11)]), Refusal::Count(35));
-        assert_eq!(changed(&[(67, 0xC9)]), Refusal::Bit(37));
-        assert_eq!(changed(&[(67, 0xC0)]), Refusal::Missing(38));
-        assert_eq!(changed(&[(65, 0)]), Refusal::Missing(35));
-        assert_eq!(changed(&[(234, 1)]), Refusal::Unused);
+        assert_eq!(changed(&[(179, 7)]), Refusal::Value(60));
+        assert_eq!(changed(&[(96, 11)]), Refusal::Count(35));
+        assert_eq!(changed(&[(98, 0xC9)]), Refusal::Bit(37));
+        assert_eq!(changed(&[(98, 0xC0)]), Refusal::Missing(38));
+        assert_eq!(changed(&[(96, 0)]), Refusal::Missing(35));
+        assert_eq!(changed(&[(290, 1)]), Refusal::Unused);
     }
 
     /// Every place of a record that P5 does not use must be zero, and no other place gives 12.
@@ -206,10 +209,10 @@ mod tests {
         let good = record_of(0, &examples::new_order());
         let used = [
             0..31,
-            65..69,
-            81 + 8..81 + 16,
-            81 + 27..81 + 35,
-            81 + 43..81 + 64,
+            96..100,
+            116 + 8..116 + 16,
+            116 + 27..116 + 35,
+            116 + 43..116 + 64,
         ];
         for place in 0..SIZE {
             let mut bad = good.clone();
@@ -225,10 +228,13 @@ mod tests {
     #[test]
     fn shorter_and_longer_records() {
         for (direction, message, own) in [
-            (0, examples::new_order(), 235),
-            (0, examples::cancel(), 235),
-            (1, examples::acknowledgment(), 235),
-            (1, examples::execution(), 235),
+            (0, examples::new_order(), 291),
+            (0, examples::cancel(), 291),
+            (1, examples::acknowledgment(), 291),
+            (1, examples::execution(), 291),
+            (1, examples::order_rejected(), 291),
+            (1, examples::cancel_rejected(), 291),
+            (1, examples::modify_rejected(), 291),
             (0, examples::options_login(), 439),
             (0, examples::client_heartbeat(), 439),
             (1, examples::login_response_of_the_notes(), 439),

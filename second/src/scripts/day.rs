@@ -83,7 +83,11 @@ fn proceed(driver: &mut Driver) {
         steps.push((14, Driver::deliver));
     }
     if venue {
-        steps.extend([(8, Driver::step as Step), (1, server_beat)]);
+        steps.extend([
+            (8, Driver::step as Step),
+            (1, server_beat),
+            (1, Driver::reject),
+        ]);
         // A session that the member's new line is not part of.
         if member == Phase::Closed || (member == Phase::Asked && idle) {
             steps.push((9, Driver::break_venue));
@@ -175,6 +179,9 @@ pub fn twice_broken(driver: &mut Driver) {
         log_in(driver);
         for _ in 0..driver.random.between(1, 2) {
             driver.step();
+            if driver.one_in(4) {
+                driver.reject();
+            }
             if !driver.one_in(4) {
                 driver.deliver();
             }
@@ -224,6 +231,10 @@ pub fn complete(driver: &mut Driver) {
         }
         driver.step();
         driver.deliver();
+        if driver.one_in(8) {
+            driver.reject();
+            driver.deliver();
+        }
     }
 }
 

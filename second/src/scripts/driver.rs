@@ -5,7 +5,7 @@ use crate::ask;
 use crate::bench::Bench;
 use crate::hex;
 use crate::questions::bitfields::sample::{Sample, CANCEL, NEW_ORDER};
-use crate::questions::made::some_type;
+use crate::questions::made::{rejection, some_type};
 use crate::questions::parts::Parts;
 use crate::questions::session::sample::{self as session, LOGIN};
 use crate::random::Random;
@@ -155,6 +155,25 @@ impl Driver {
         let unit = self.random.between(0, self.units.len() - 1);
         sample.unit = self.units[unit];
         sample
+    }
+
+    /// A message of one of the three types that are handed to the desk, most of them short.
+    pub fn rejection(&mut self) -> Sample {
+        let mut sample = rejection(&mut self.random);
+        if self.random.below(4) != 0 {
+            let listed = sample.layout.listed;
+            sample.clear();
+            if !listed.is_empty() {
+                sample.select(listed[self.random.between(0, listed.len() - 1)].name);
+            }
+        }
+        sample
+    }
+
+    /// The venue rejects something. It goes the way of what is sent: behind it, and lost with it.
+    pub fn reject(&mut self) {
+        let message = self.rejection().bytes();
+        self.send(message);
     }
 
     pub fn log(&mut self) {

@@ -4,7 +4,7 @@ use super::day;
 use super::driver::{Driver, GETS};
 use crate::hex;
 use crate::questions::bitfields::sample::{
-    identifier, unlisted_bit, Sample, ACKNOWLEDGMENT, CANCEL, EXECUTION, NEW_ORDER,
+    identifier, unlisted_bit, Sample, ACKNOWLEDGMENT, CANCEL, EXECUTION, NEW_ORDER, REJECTED,
 };
 use crate::questions::parts::{measure, Parts};
 use crate::questions::session::faults;
@@ -14,6 +14,7 @@ use crate::questions::session::sample::{
 use crate::random::Random;
 use crate::rules::book::{BOOKED, MARK};
 use crate::rules::frame;
+use crate::rules::record::{COUNT_PLACE, SIZE, SLOTS_PLACE};
 use crate::rules::table::entry;
 use crate::rules::types::VENUE;
 
@@ -66,13 +67,14 @@ fn of_message(random: &mut Random, which: usize, unit: u8, number: u32) -> Vec<V
     let mut good = Sample::least(random, which);
     (good.unit, good.number) = (unit, number);
     let mut all = of_framing(&good.bytes());
-    let bad_units = match good.layout.direction {
-        VENUE => [0, 33],
-        _ => [1, 255],
+    let bad_headers = match (good.layout.direction, good.layout.greatest_number) {
+        (VENUE, 0) => vec![(1, 0), (0, 1), (1, 1), (0, u32::MAX)],
+        (VENUE, _) => vec![(0, number), (33, number)],
+        _ => vec![(1, number), (255, number)],
     };
-    for unit in bad_units {
+    for (unit, number) in bad_headers {
         let mut sample = good.clone();
-        sample.unit = unit;
+        (sample.unit, sample.number) = (unit, number);
         all.push(sample.bytes());
     }
     for size in [10, good.bytes().len() - 1, good.bytes().len() + 1] {
@@ -173,6 +175,9 @@ fn gets(driver: &mut Driver) {
         for which in [LOGOUT, SERVER_HEARTBEAT, REPLAY_COMPLETE] {
             others.extend(of_session(random, which));
         }
+        for which in REJECTED {
+            others.extend(of_message(random, which, 0, 0));
+        }
         let all = [&messages[..], &responses, &others].concat();
         for (call, own) in GETS.into_iter().zip([&all, &messages, &responses]) {
             let foreign = all.iter().filter(|bytes| !own.contains(bytes));
@@ -249,9 +254,17 @@ fn of_kinds(driver: &mut Driver) -> Vec<Vec<u8>> {
     booked[6].extend(&of_session[0]);
     of_session[0].extend(&booked[2]);
     let orders = [NEW_ORDER, CANCEL].map(|which| Sample::least(random, which).bytes());
+    let rejected = REJECTED.map(|which| Sample::any(random, which).bytes());
     let mut unknown = booked[2].clone();
-    unknown[4] = 0x26;
-    [booked, of_session, orders.to_vec(), vec![unknown]].concat()
+    unknown[4] = 0x27;
+    [
+        booked,
+        of_session,
+        orders.to_vec(),
+        rejected.to_vec(),
+        vec![unknown],
+    ]
+    .concat()
 }
 
 fn orders(driver: &mut Driver) {
@@ -263,12 +276,20 @@ fn orders(driver: &mut Driver) {
                 .iter()
                 .map(|sample| sample.record())
                 .collect();
-            for (place, value) in [(0, 0x37), (0, 0x25), (1, 1), (65, 255), (80, 1), (234, 1)] {
+            for (place, value) in [
+                (0, 0x37),
+                (0, 0x25),
+                (0, 0x26),
+                (1, 1),
+                (COUNT_PLACE, 255),
+                (SLOTS_PLACE - 1, 1),
+                (SIZE - 1, 1),
+            ] {
                 let mut record = good.record();
                 record[place] = value;
                 records.push(record);
             }
-            records.push(good.record()[..234].to_vec());
+            records.push(good.record()[..SIZE - 1].to_vec());
             records.push(Vec::new());
             if phase == 2 || outgoing == u32::MAX {
                 records.truncate(3);
@@ -286,8 +307,17 @@ fn orders(driver: &mut Driver) {
     driver.to_venue.clear();
 }
 
+/// Of the rejections a good one and their faults, which the log does not look at.
 fn logs(driver: &mut Driver) {
     let unit = driver.units[0];
+    for which in REJECTED {
+        let mut all = of_message(&mut driver.random, which, 0, 0);
+        all.push(Sample::any(&mut driver.random, which).bytes());
+        for bytes in all {
+            let line = format!("v-log {} {}", hex::write(&bytes), driver.log_room);
+            driver.ask(line);
+        }
+    }
     for which in [ACKNOWLEDGMENT, EXECUTION] {
         let next = entry(&driver.bench.venue.table, unit) + 1;
         for bytes in of_message(&mut driver.random, which, unit, next) {

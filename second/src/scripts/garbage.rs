@@ -135,7 +135,7 @@ fn member_call(driver: &mut Driver) {
     let asked = driver.bench.member.phase == Phase::Asked;
     let call = match asked && driver.one_in(2) {
         true => 11,
-        false => driver.random.below(13),
+        false => driver.random.below(14),
     };
     match call {
         0..=4 => {
@@ -147,6 +147,11 @@ fn member_call(driver: &mut Driver) {
         5 => {
             let room = about(driver, driver.bench.member.book.length + 16);
             driver.ask(format!("m-break {}", room));
+        }
+        12 => {
+            let message = driver.rejection().bytes();
+            let room = about(driver, driver.bench.member.book.length + message.len());
+            driver.get_by("m-get", &message, room);
         }
         6 | 7 => driver.order(),
         8 => driver.beat(),
@@ -264,7 +269,7 @@ fn fill_log(driver: &mut Driver) {
         let unit = random.pick(&[0, 1, 5, 32, 33, 255]);
         let inside = random.pick(&[0, 0, 1, 1, 2, 255]);
         let length = random.pick(&[8, 8, 8, 8, 8, 8, 7, 9]);
-        let kind = random.pick(&[0x25, 0x25, 0x2C, 0x09]);
+        let kind = random.pick(&[0x25, 0x25, 0x2C, 0x26, 0x09]);
         *sample.value("OrderID") = vec![0xBA, 0xBA, length, 0, kind, unit, inside, 0];
         *sample.value("Reserved") = vec![random.pick(&[0, 0, 0, 1])];
         sample.unit = random.between(1, 32) as u8;
@@ -294,7 +299,10 @@ fn venue_call(driver: &mut Driver) {
             driver.ask(format!("v-step {} {}", log_room, room));
         }
         10 => {
-            let message = driver.next_message();
+            let message = match driver.one_in(4) {
+                true => driver.rejection().bytes(),
+                false => driver.next_message(),
+            };
             let room = about(driver, length + message.len());
             driver.ask(format!("v-log {} {}", hex::write(&message), room));
         }

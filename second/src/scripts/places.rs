@@ -4,7 +4,7 @@ use super::driver::{Driver, LoginLine, GETS};
 use super::faults::{set_phase, to_live};
 use crate::hex;
 use crate::questions::bitfields::places as bitfields;
-use crate::questions::bitfields::sample::{ACKNOWLEDGMENT, CANCEL, EXECUTION, NEW_ORDER};
+use crate::questions::bitfields::sample::{ACKNOWLEDGMENT, CANCEL, EXECUTION, NEW_ORDER, REJECTED};
 use crate::questions::parts::Parts;
 use crate::questions::session::places as session;
 use crate::questions::session::sample::{
@@ -66,6 +66,12 @@ fn gets(driver: &mut Driver) {
                 driver.get_by(call, &bytes, driver.book_room);
             }
         }
+        for which in REJECTED {
+            for bytes in of_messages(driver, which, 0, 0).iter().step_by(2) {
+                let call = if driver.one_in(4) { message } else { any };
+                driver.get_by(call, bytes, driver.book_room);
+            }
+        }
         for bytes in of_session(driver, RESPONSE) {
             let call = if driver.one_in(2) { any } else { response };
             driver.get_by(call, &bytes, driver.book_room);
@@ -112,6 +118,12 @@ fn venue(driver: &mut Driver) {
     for which in [ACKNOWLEDGMENT, EXECUTION] {
         for bytes in of_messages(driver, which, unit, next) {
             let line = format!("v-log {} {}", hex::write(&bytes), driver.log_room);
+            driver.ask(line);
+        }
+    }
+    for which in REJECTED {
+        for bytes in of_messages(driver, which, 0, 0).iter().step_by(8) {
+            let line = format!("v-log {} {}", hex::write(bytes), driver.log_room);
             driver.ask(line);
         }
     }

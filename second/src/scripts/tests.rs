@@ -40,7 +40,7 @@ fn shapes() {
         let last = &script[script.len() - 2..];
         assert_eq!((&last[0].0[..], &last[1].0[..]), ("m-book", "v-book"));
     }
-    assert!(size < 6_000_000);
+    assert!(size < 6_300_000);
 }
 
 /// Each question is answered with each number that it can give, and with no other. What comes
@@ -128,7 +128,8 @@ fn lines_outside_the_format() {
 fn phase_of(question: &str, answer: &str) -> Option<u8> {
     let place = match question.split(' ').next()? {
         "m-open" | "m-restart" | "m-login" | "m-order" | "m-beat" => 1,
-        call if GETS.contains(&call) => 1,
+        "m-get" => 2,
+        "m-message" | "m-response" => 1,
         "m-state" | "m-break" => 0,
         _ => return None,
     };
@@ -175,6 +176,118 @@ fn gets_in_each_phase() {
         }
     }
     assert!(seen.is_empty());
+}
+
+/// The type of what a question offers, if it is one of those that are handed to the desk.
+fn rejection_of(question: &str) -> Option<&str> {
+    let bytes = question.split(' ').nth(1)?;
+    let type_byte = bytes.get(8..10)?;
+    let known = bytes.starts_with("BABA") && ["26", "29", "2B"].contains(&type_byte);
+    known.then_some(type_byte)
+}
+
+/// Each rejection is offered to each call in each phase, with every number that it gets there; to
+/// `v-log`, which has no phase, as to a phase 9. One that is handed to the desk leaves the member as
+/// it was, and so does one that is refused.
+#[test]
+fn rejections() {
+    let mut seen: BTreeMap<(String, String, u8), BTreeSet<u8>> = BTreeMap::new();
+    let mut handed = 0;
+    for script in answered() {
+        let mut phase = 0;
+        let mut member = String::new();
+        for (question, answer) in script {
+            let call = question.split(' ').next().unwrap();
+            let words: Vec<&str> = answer.split(' ').collect();
+            let known = rejection_of(&question).filter(|_| call != "v-order" && answer != "?");
+            if let Some(type_byte) = known {
+                let number = ask::number_of(words[0]).parse().unwrap();
+                let phase = if call == "v-log" { 9 } else { phase };
+                let key = (call.to_string(), type_byte.to_string(), phase);
+                seen.entry(key).or_default().insert(number);
+                if call == "m-get" {
+                    assert_eq!(words[1], if number == 0 { "2" } else { "0" });
+                    assert_eq!(words[2..].join(" "), member);
+                    handed += usize::from(number == 0);
+                }
+            }
+            phase = phase_of(&question, &answer).unwrap_or(phase);
+            member = member_of(&question, &answer).unwrap_or(member);
+        }
+    }
+    assert!(handed > 200);
+    for type_byte in ["26", "29", "2B"] {
+        for (call, phase, expected) in [
+            ("m-get", 0, "16"),
+            ("m-get", 1, "3 5 6 7 8 10 16"),
+            ("m-get", 2, "0 3 5 6 7 8 10"),
+            ("m-get", 3, "0 3 5 6 7 8 10"),
+            ("m-message", 0, "16"),
+            ("m-message", 1, "4"),
+            ("m-message", 2, "4"),
+            ("m-message", 3, "4"),
+            ("m-response", 0, "16"),
+            ("m-response", 1, "4"),
+            ("m-response", 2, "4"),
+            ("m-response", 3, "4"),
+            ("v-log", 9, "4"),
+        ] {
+            let key = (call.to_string(), type_byte.to_string(), phase);
+            let found = seen.get(&key).cloned().unwrap_or_default();
+            let expected: BTreeSet<u8> = expected.split(' ').map(|n| n.parse().unwrap()).collect();
+            assert!(found.is_superset(&expected), "{:?} {:?}", key, found);
+        }
+    }
+}
+
+/// MEMBER in an answer.
+fn member_of(question: &str, answer: &str) -> Option<String> {
+    let first = match question.split(' ').next()? {
+        "m-get" => 2,
+        "m-state" | "m-break" => 0,
+        "m-book" => return None,
+        call if call.starts_with("m-") => 1,
+        _ => return None,
+    };
+    let words: Vec<&str> = answer.split(' ').collect();
+    Some(words.get(first..first + 7)?.join(" "))
+}
+
+/// What the member books and what is handed to the desk, in the order in which it comes: of a replay
+/// small letters, of a live session capital ones.
+fn desk_of(script: &[(String, String)]) -> String {
+    let mut all = String::new();
+    for (question, answer) in script {
+        let words: Vec<&str> = answer.split(' ').collect();
+        let call = question.split(' ').next().unwrap_or_default();
+        let sort = match (call, &words[..]) {
+            ("m-get", ["0", "1", "2", ..]) | ("m-message", ["0", "2", ..]) => "b",
+            ("m-get", ["0", "2", "2", ..]) => "h",
+            ("m-get", ["0", "1", "3", ..]) | ("m-message", ["0", "3", ..]) => "B",
+            ("m-get", ["0", "2", "3", ..]) => "H",
+            _ => "",
+        };
+        all.push_str(sort);
+    }
+    all
+}
+
+/// Rejections come between replayed messages and between live ones, on quiet days and on those that
+/// break.
+#[test]
+fn rejections_among_others() {
+    let scripts = answered();
+    for (script, kind) in scripts.iter().zip(STORED) {
+        if matches!(kind, Kind::Days(_)) {
+            let desk = desk_of(script);
+            assert!(desk.contains('h') || desk.contains('H'), "{:?}", kind);
+        }
+    }
+    let all: Vec<String> = scripts.iter().map(|script| desk_of(script)).collect();
+    for (what, least) in [("bhb", 15), ("BHB", 15), ("hh", 2), ("bh", 30), ("hb", 30)] {
+        let count: usize = all.iter().map(|desk| desk.matches(what).count()).sum();
+        assert!(count >= least, "{} {}", what, count);
+    }
 }
 
 /// How the replays of a script ended: `C` completed, `b` broken, `l` by a Logout, `r` by a

@@ -3,13 +3,14 @@
 use super::driver::{Driver, LoginLine, Step, GETS, SHOWN};
 use crate::examples;
 use crate::hex;
-use crate::questions::bitfields::sample::{Sample, ACKNOWLEDGMENT, EXECUTION};
+use crate::questions::bitfields::sample::{Sample, ACKNOWLEDGMENT, CANCEL_REJECTED, EXECUTION};
 use crate::questions::book::damaged;
 use crate::questions::parts::Parts;
 use crate::questions::session::sample::{
     Sample as Session, CLIENT_HEARTBEAT, LOGIN, LOGOUT, REPLAY_COMPLETE, RESPONSE, SERVER_HEARTBEAT,
 };
 use crate::rules::member::Phase;
+use crate::rules::record::SIZE;
 use crate::rules::table::entry;
 
 /// A call, most often one that its phase takes, so that it is refused for something else.
@@ -76,13 +77,17 @@ fn get(driver: &mut Driver, bytes: &[u8], room: usize) {
 }
 
 fn get_damaged(driver: &mut Driver) {
-    let bytes = match (driver.random.below(3), driver.to_member.front()) {
+    let bytes = match (driver.random.below(4), driver.to_member.front()) {
         (0, Some(next)) => {
             let next = next.clone();
             damaged(&mut driver.random, &next)
         }
         (1, _) => {
             let sample = any_of_the_session(driver, &OF_THE_VENUE);
+            sample.damaged(&mut driver.random).1
+        }
+        (2, _) => {
+            let sample = driver.rejection();
             sample.damaged(&mut driver.random).1
         }
         _ => damaged_booked(driver),
@@ -92,10 +97,11 @@ fn get_damaged(driver: &mut Driver) {
 
 /// Any type of either direction, whatever the phase.
 fn get_any(driver: &mut Driver) {
-    let bytes = match driver.random.below(4) {
+    let bytes = match driver.random.below(5) {
         0 => driver.some_order().bytes(),
         1 => driver.booked().bytes(),
         2 => any_of_the_session(driver, &[LOGIN, CLIENT_HEARTBEAT]).bytes(),
+        3 => driver.rejection().bytes(),
         _ => any_of_the_session(driver, &OF_THE_VENUE).bytes(),
     };
     get(driver, &bytes, driver.book_room);
@@ -197,18 +203,18 @@ fn order(driver: &mut Driver) {
     let size = sample.bytes().len();
     let (record, room) = match driver.random.below(8) {
         0 => (
-            sample.record()[..driver.random.between(0, 234)].to_vec(),
+            sample.record()[..driver.random.between(0, SIZE - 1)].to_vec(),
             size,
         ),
         1 => {
             let mut record = sample.record();
-            record[0] = driver.random.pick(&[0x37, 0x03, 0x25, 0x2C, 0, 0x3A]);
+            record[0] = driver.random.pick(&[0x37, 0x03, 0x25, 0x26, 0x2C, 0, 0x3A]);
             (record, size)
         }
         2 => (sample.record(), short(driver, size)),
         _ => {
             let (_, record, _) = sample.damaged_record(&mut driver.random);
-            let end = record.len().min(240);
+            let end = record.len().min(SIZE + 5);
             (record[..end].to_vec(), size + 8)
         }
     };
@@ -258,6 +264,8 @@ fn log(driver: &mut Driver) {
                 examples::login(),
                 examples::replay_complete(),
                 examples::logout_request(),
+                driver.rejection().bytes(),
+                driver.rejection().bytes(),
             ];
             let index = driver.random.between(0, strangers.len() - 1);
             (strangers[index].clone(), driver.log_room)
@@ -336,7 +344,8 @@ fn take_order(driver: &mut Driver) {
             Session::any(&mut driver.random, which).bytes()
         }
         2 => {
-            let which = [ACKNOWLEDGMENT, EXECUTION][driver.random.between(0, 1)];
+            let which = [ACKNOWLEDGMENT, EXECUTION, CANCEL_REJECTED];
+            let which = which[driver.random.between(0, which.len() - 1)];
             Sample::least(&mut driver.random, which).bytes()
         }
         _ => {

@@ -38,24 +38,33 @@ same-length-3 c = search needs
 returns-4 : tie.Need-returns-4
 returns-4 c = search needs
 
+both-ends-requires-4 : tie.Need-both-ends-requires-4
+both-ends-requires-4 c κs = search needs
+
+same-length-4 : tie.Need-same-length-4
+same-length-4 c = search needs
+
+returns-5 : tie.Need-returns-5
+returns-5 c = search needs
+
 shared-slice-read-to : tie.Need-shared-slice-read-to
 shared-slice-read-to c = search needs
 
 slice-write-to : tie.Need-slice-write-to
 slice-write-to c = search needs
 
-same-length-4 : tie.Need-same-length-4
-same-length-4 c = search needs
-
-returns-5 : tie.Need-returns-5
-returns-5 c =
-    let test = c .before .before in
-    let a = test .before .before .before .before .before .before .args in
-    one-put (now (a .to)) (now (a .from)) (omega arith) (omega arith)
+same-length-5 : tie.Need-same-length-5
+same-length-5 c = search needs
 
 returns-6 : tie.Need-returns-6
 returns-6 c =
-    let a = c .before .before .before .before .before .before .before .args in
+    let test = c .before .before in
+    let a = test .before .before .before .before .before .before .before .args in
+    one-put (now (a .to)) (now (a .from)) (omega arith) (omega arith)
+
+returns-7 : tie.Need-returns-7
+returns-7 c =
+    let a = c .before .before .before .before .before .before .before .before .args in
     none-put (now (a .to)) (now (a .from)) (omega arith)
 
 pub copy-few-spec : {M : Type 1} → statement M
@@ -72,8 +81,11 @@ copy-few-spec =
     both-ends-requires-3
     same-length-3
     returns-4
-    shared-slice-read-to
-    slice-write-to
+    both-ends-requires-4
     same-length-4
     returns-5
-    returns-6)
+    shared-slice-read-to
+    slice-write-to
+    same-length-5
+    returns-6
+    returns-7)

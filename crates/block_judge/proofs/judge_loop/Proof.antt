@@ -1,5 +1,5 @@
 -- `block_judge::judge_loop` meets its contract. The loop's invariant: the walk over the places of the other bytes, from the state reached, ends as the
--- walk over all 120. The measure is the count of bytes that are left. Assumes nothing.
+-- walk over all. The measure is the count of bytes that are left. Assumes nothing.
 use Rattle.block_judge.specs.State.{judging, judgeWalk}
 use Rattle.block.specs.Loops.{byte-turn, bytes-end}
 use Rattle.block.specs.Walk.{judgeEntry}

@@ -1,5 +1,5 @@
--- `block_store::store_all` meets its contract: no byte stores nothing, the message of each arm is the one that its bytes are of, and any other lists
--- nothing. Assumes nothing.
+-- `block_store::store_all` meets its contract: no byte stores nothing, the message of each arm is the one that its bytes are of, and any other goes
+-- through the loop. Assumes nothing.
 use mathlib.Core.Path.{refl, ap}
 use Prim.Native.Nat.{ℕ}
 use native.Mathlib.Omega.{arith}
@@ -9,7 +9,6 @@ use Rattle.block.specs.Loops.{bytes-end}
 use Rattle.block.specs.Fits.{left}
 use Rattle.block.specs.Sizes.{allPlaces}
 use Rattle.block_store.specs.State.{storing}
-use Rattle.block_store.proofs.Unlisted.{none-listed, others-unlisted}
 use borrow.Author.Needs.{needs}
 use Rattle.block_store.proofs.store_all.Statement.{statement}
 use Rattle.block_store.proofs.store_all.Tie as tie
@@ -39,6 +38,9 @@ execution-bytes-requires c κs =
     let a = c .before .before .before .before .before .before .args in
     omega (arith, ap (λ (n : ℕ). left n (a .count) (now (a .bits)) allPlaces 0) (c .before .match .keys4))
 
+store-loop-requires : tie.Need-store-loop-requires
+store-loop-requires c κs = search needs
+
 same-length : tie.Need-same-length
 same-length c = search needs
 
@@ -63,11 +65,11 @@ same-length-4 c = search needs
 returns-5 : tie.Need-returns-5
 returns-5 c = rw (c .before .before .before .before .match .keys4) (c .before .before .execution-bytes .ensures)
 
+same-length-5 : tie.Need-same-length-5
+same-length-5 c = search needs
+
 returns-6 : tie.Need-returns-6
-returns-6 c =
-    let a = c .before .before .before .before .before .args in
-    let other = c .match .rest in
-    none-listed (a .message) (a .count) (now (a .bits)) (now (a .msg)) allPlaces 0 (storing 0 (now (a .layout))) (others-unlisted (a .message) (other .0 .0 .0 .1) (other .0 .0 .1) (other .0 .1) (other .1) allPlaces 0)
+returns-6 c = search needs
 
 pub store-all-spec : {M : Type 1} → statement M
 store-all-spec =
@@ -78,6 +80,7 @@ store-all-spec =
     cancel-order-bytes-requires
     acknowledgment-bytes-requires
     execution-bytes-requires
+    store-loop-requires
     same-length
     returns-2
     same-length-2
@@ -86,4 +89,5 @@ store-all-spec =
     returns-4
     same-length-4
     returns-5
+    same-length-5
     returns-6)

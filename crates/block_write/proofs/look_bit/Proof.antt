@@ -1,5 +1,5 @@
 -- `block_write::look_bit` meets its contract: a bit that is not set changes nothing, and for one that is set the dictionary's entry is known in each
--- arm. A listed field lies within the layout's 154 bytes. Assumes nothing.
+-- arm. A listed field lies within the layout. Assumes nothing.
 use mathlib.Core.Path.{refl, sym, _∙_}
 use native.Mathlib.Omega.{arith}
 use borrow.Author.Tests.{eq-eqb, ne-eqb}

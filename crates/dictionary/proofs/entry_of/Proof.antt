@@ -10,6 +10,6 @@ unfolding entryOf
 entry-of-spec =
     tie.close
     (tie.spec
-    free free free free
-    (λ c. cc) (λ c. cc) (λ c. cc) (λ c. cc)
+    free free free free free free
+    (λ c. cc) (λ c. cc) (λ c. cc) (λ c. cc) (λ c. cc) (λ c. cc)
     (λ c. search ne-eqb))

@@ -20,6 +20,15 @@ type-head-requires-3 c κs = search needs
 type-head-requires-4 : tie.Need-type-head-requires-4
 type-head-requires-4 c κs = search needs
 
+type-head-requires-5 : tie.Need-type-head-requires-5
+type-head-requires-5 c κs = search needs
+
+type-head-requires-6 : tie.Need-type-head-requires-6
+type-head-requires-6 c κs = search needs
+
+type-head-requires-7 : tie.Need-type-head-requires-7
+type-head-requires-7 c κs = search needs
+
 returns : tie.Need-returns
 unfolding countAt mostOf
 returns c =
@@ -45,10 +54,28 @@ returns-4 c =
     c .type-head4 .ensures ∙ known-type (now (start .args .m)) (start .args .message) (start .pre) 0x2C (c .before .match .keys4) refl
 
 returns-5 : tie.Need-returns-5
+unfolding countAt mostOf
 returns-5 c =
+    let start = c .before .before .before in
+    c .type-head5 .ensures ∙ known-type (now (start .args .m)) (start .args .message) (start .pre) 0x26 (c .before .match .keys5) refl
+
+returns-6 : tie.Need-returns-6
+unfolding countAt mostOf
+returns-6 c =
+    let start = c .before .before .before in
+    c .type-head6 .ensures ∙ known-type (now (start .args .m)) (start .args .message) (start .pre) 0x29 (c .before .match .keys6) refl
+
+returns-7 : tie.Need-returns-7
+unfolding countAt mostOf
+returns-7 c =
+    let start = c .before .before .before in
+    c .type-head7 .ensures ∙ known-type (now (start .args .m)) (start .args .message) (start .pre) 0x2B (c .before .match .keys7) refl
+
+returns-8 : tie.Need-returns-8
+returns-8 c =
     let start = c .before .before in
-    let others = c .match .rest in
-    unknown-type (now (start .args .m)) (start .args .message) (start .pre) (others .0 .0 .0 .1) (others .0 .0 .1) (others .0 .1) (others .1)
+    let o = c .match .rest in
+    unknown-type (now (start .args .m)) (start .args .message) (start .pre) (o .0 .0 .0 .0 .0 .0 .1) (o .0 .0 .0 .0 .0 .1) (o .0 .0 .0 .0 .1) (o .0 .0 .0 .1) (o .0 .0 .1) (o .0 .1) (o .1)
 
 pub head-refusal-spec : {M : Type 1} → statement M
 head-refusal-spec =
@@ -58,8 +85,14 @@ head-refusal-spec =
     type-head-requires-2
     type-head-requires-3
     type-head-requires-4
+    type-head-requires-5
+    type-head-requires-6
+    type-head-requires-7
     returns
     returns-2
     returns-3
     returns-4
-    returns-5)
+    returns-5
+    returns-6
+    returns-7
+    returns-8)

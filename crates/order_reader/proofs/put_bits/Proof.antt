@@ -7,6 +7,7 @@ use Rattle.order_reader.proofs.put_bits.Reads as reads
 use Rattle.order_reader.proofs.put_bits.Lts as lts
 use Rattle.block.proofs.clear.Reads as clear-reads
 use Rattle.block.proofs.copy_few.Reads as copy-few-reads
+use Rattle.block.specs.Sizes.{mostBitfields}
 
 -- src/lib.rt:126:5
 clear-requires : tie.Need-clear-requires
@@ -25,7 +26,7 @@ returns : tie.Need-returns
 returns c =
     let start = c .before .before .before .before .before .before .before .before .before .before in
     let a = start .args in
-    put-over (now (a .tail)) (now (a .bits)) _ _ 15 (start .pre .0) (start .pre .1) (c .before .before .before .before .before .before .clear .ensures) (c .before .before .copy-few .ensures)
+    put-over (now (a .tail)) (now (a .bits)) _ _ mostBitfields (start .pre .0) (start .pre .1) (c .before .before .before .before .before .before .clear .ensures) (c .before .before .copy-few .ensures)
 
 pub put-bits-spec : {M : Type 1} → statement M
 put-bits-spec = tie.close (tie.spec clear-requires copy-few-requires same-length returns)

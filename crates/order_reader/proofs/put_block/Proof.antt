@@ -12,6 +12,7 @@ use denote.Ref.{now}
 use borrow.Author.Needs.{needs}
 use Rattle.order_reader.proofs.put_block.Statement.{statement}
 use Rattle.order_reader.proofs.put_block.Tie as tie
+use Rattle.block.specs.Sizes.{mostBitfields}
 
 slice-write-tail : tie.Need-slice-write-tail
 slice-write-tail c = search needs
@@ -29,7 +30,7 @@ put-bits-requires : tie.Need-put-bits-requires
 put-bits-requires c κs =
     let start = c .before .before .before in
     let a = start .args in
-    let pad = now (a .bits) ++ zeros (15 - length (now (a .bits))) in
+    let pad = now (a .bits) ++ zeros (mostBitfields - length (now (a .bits))) in
     let n = pad-long (now (a .bits)) (start .pre .0) in
     let first = first-stored (a .count) (now (a .tail)) (omega (arith, start .pre .1)) in
     (start .pre .0, omega (arith, tail-length (now (a .tail)) _ (a .count ∷ []) pad 1 refl (omega (arith, n, start .pre .1)) first, start .pre .1))
@@ -38,7 +39,7 @@ same-length : tie.Need-same-length
 same-length c =
     let start = c .before .before .before .before .before .before in
     let a = start .args in
-    let pad = now (a .bits) ++ zeros (15 - length (now (a .bits))) in
+    let pad = now (a .bits) ++ zeros (mostBitfields - length (now (a .bits))) in
     let n = pad-long (now (a .bits)) (start .pre .0) in
     let first = first-stored (a .count) (now (a .tail)) (omega (arith, start .pre .1)) in
     ap length (puts-then (now (a .tail)) _ (a .count ∷ []) pad 1 refl (omega (arith, n, start .pre .1)) first (c .before .before .put-bits .ensures))
@@ -48,7 +49,7 @@ returns : tie.Need-returns
 returns c =
     let start = c .before .before .before .before .before .before in
     let a = start .args in
-    let pad = now (a .bits) ++ zeros (15 - length (now (a .bits))) in
+    let pad = now (a .bits) ++ zeros (mostBitfields - length (now (a .bits))) in
     let n = pad-long (now (a .bits)) (start .pre .0) in
     let first = first-stored (a .count) (now (a .tail)) (omega (arith, start .pre .1)) in
     puts-then (now (a .tail)) _ (a .count ∷ []) pad 1 refl (omega (arith, n, start .pre .1)) first (c .before .before .put-bits .ensures)

@@ -14,7 +14,7 @@ use denote.Ref.{now}
 use borrow.Author.Needs.{needs}
 use Rattle.order_reader.proofs.put_front.Statement.{statement}
 use Rattle.order_reader.proofs.put_front.Tie as tie
-use Rattle.block.specs.Sizes.{fixedEnd}
+use Rattle.block.specs.Sizes.{fixedEnd, mostBitfields}
 
 unit-of-requires : tie.Need-unit-of-requires
 unit-of-requires c κs = search needs
@@ -49,7 +49,7 @@ returns c =
     let start = united .before .before .before .before in
     let a = start .args in
     let n = body-long (now (a .m)) (a .message) (a .count) (now (a .bits)) (start .pre .0) (start .pre .1) in
-    let body = (take (countAt (a .message) - 10) (drop 10 (now (a .m))) ++ zeros (fixedEnd - countAt (a .message))) ++ (a .count ∷ (now (a .bits) ++ zeros (15 - length (now (a .bits))))) in
+    let body = (take (countAt (a .message) - 10) (drop 10 (now (a .m))) ++ zeros (fixedEnd - countAt (a .message))) ++ (a .count ∷ (now (a .bits) ++ zeros (mostBitfields - length (now (a .bits))))) in
     puts-then (now (a .buffer)) _ (a .message ∷ united .unit-of .result ∷ bytesOf 4 (numbered .number-of .result)) body 6 refl (omega (arith, n, start .pre .2)) (headed .put-head .ensures) (c .before .before .put-body .ensures)
     ∙ ap₂ (λ (u i : ℕ). patched (now (a .buffer)) 0 ((a .message ∷ u ∷ bytesOf 4 i) ++ body)) (united .unit-of .ensures) (numbered .number-of .ensures)
 

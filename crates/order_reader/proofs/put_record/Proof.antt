@@ -10,6 +10,7 @@ use denote.Ref.{now}
 use borrow.Author.Needs.{needs}
 use Rattle.order_reader.proofs.put_record.Statement.{statement}
 use Rattle.order_reader.proofs.put_record.Tie as tie
+use Rattle.block.specs.Sizes.{slotsPlace}
 
 put-front-requires : tie.Need-put-front-requires
 put-front-requires c κs = search needs
@@ -37,7 +38,7 @@ returns c =
     let layout = layoutOf (a .message) (a .count) (now (a .bits)) (now (a .optional)) in
     let n = front-long (now (a .m)) (a .message) (a .count) (now (a .bits)) (start .pre .0) (omega (arith, start .pre .1, start .pre .2)) in
     let l = layout-long (a .message) (a .count) (now (a .bits)) (now (a .optional)) (start .pre .3) in
-    puts-then (now (a .buffer)) _ (frontBytes (now (a .m)) (a .message) (a .count) (now (a .bits))) layout 81 n (omega (arith, l, start .pre .4)) (fronted .put-front .ensures) (c .before .before .put-layout .ensures)
+    puts-then (now (a .buffer)) _ (frontBytes (now (a .m)) (a .message) (a .count) (now (a .bits))) layout slotsPlace n (omega (arith, l, start .pre .4)) (fronted .put-front .ensures) (c .before .before .put-layout .ensures)
     ∙ ap (patched (now (a .buffer)) 0) (front-and-layout (now (a .m)) (a .message) (a .count) (now (a .bits)) layout)
 
 pub put-record-spec : {M : Type 1} → statement M

@@ -4,12 +4,14 @@ use Rattle.numbers.specs.Numbers.{bytesOf}
 use Rattle.numbers.proofs.Tail.{puts-then}
 use mathlib.Core.Path.{_≡_, refl}
 use mathlib.Core.List.{_∷_, _++_}
+use Prim.Native.Nat.{_-_}
 use lib.ListN.{length, length-append}
 use native.Mathlib.Omega.{arith}
 use denote.Ref.{now}
 use borrow.Author.Needs.{needs}
 use Rattle.order_records.proofs.pack_parts.Statement.{statement}
 use Rattle.order_records.proofs.pack_parts.Tie as tie
+use Rattle.block.specs.Sizes.{recordSize}
 
 put-head-requires : tie.Need-put-head-requires
 put-head-requires c κs = search needs
@@ -36,7 +38,7 @@ returns c =
     let start = headed .before .before .before .before .before .before in
     let a = start .args in
     let body = now (a .fixed) ++ (a .count ∷ (now (a .bits) ++ now (a .slots))) in
-    let n : length body ≡ 229 = omega (arith, length-append (now (a .fixed)) (a .count ∷ (now (a .bits) ++ now (a .slots))), length-append (now (a .bits)) (now (a .slots)), start .pre .0, start .pre .1, start .pre .2) in
+    let n : length body ≡ recordSize - 6 = omega (arith, length-append (now (a .fixed)) (a .count ∷ (now (a .bits) ++ now (a .slots))), length-append (now (a .bits)) (now (a .slots)), start .pre .0, start .pre .1, start .pre .2) in
     puts-then (now (a .out)) _ (a .message ∷ a .unit ∷ bytesOf 4 (a .number)) body 6 refl (omega (arith, n, start .pre .3)) (headed .put-head .ensures) (c .before .before .put-body .ensures)
 
 pub pack-parts-spec : {M : Type 1} → statement M

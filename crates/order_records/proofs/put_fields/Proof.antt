@@ -5,6 +5,7 @@ use denote.Ref.{now}
 use borrow.Author.Needs.{needs}
 use Rattle.order_records.proofs.put_fields.Statement.{statement}
 use Rattle.order_records.proofs.put_fields.Tie as tie
+use Rattle.block.specs.Sizes.{mostBitfields}
 
 copy-requires : tie.Need-copy-requires
 copy-requires c κs = search needs
@@ -29,7 +30,7 @@ returns c =
     let copied = c .before .before .before .before .before .before in
     let start = copied .before .before .before .before .before in
     let a = start .args in
-    puts-then (now (a .tail)) _ (now (a .bits)) (now (a .slots)) 15 (start .pre .0) (omega (arith, start .pre .1, start .pre .2)) (copied .copy .ensures) (c .before .before .copy-layout .ensures)
+    puts-then (now (a .tail)) _ (now (a .bits)) (now (a .slots)) mostBitfields (start .pre .0) (omega (arith, start .pre .1, start .pre .2)) (copied .copy .ensures) (c .before .before .copy-layout .ensures)
 
 pub put-fields-spec : {M : Type 1} → statement M
 put-fields-spec =

@@ -7,7 +7,7 @@ use denote.Ref.{now}
 use borrow.Author.Needs.{needs}
 use Rattle.order_records.proofs.unpack.Statement.{statement}
 use Rattle.order_records.proofs.unpack.Tie as tie
-use Rattle.block.specs.Sizes.{fixedSize, layoutSize}
+use Rattle.block.specs.Sizes.{fixedSize, layoutSize, mostBitfields, bitsPlace, slotsPlace}
 
 sub-copy : tie.Need-sub-copy
 sub-copy c = search needs
@@ -70,7 +70,7 @@ returns : tie.Need-returns
 returns c =
     let start = c .before .before .before .before .before .before .before .before .before .before .before .before .before .before .before .before .before in
     let s = now (start .args .s) in
-    record-is s (c .before .read-u32 .ensures) (patched-part _ s fixedSize 6 refl (omega (arith, start .pre)) (c .before .before .before .before .before .before .before .before .before .before .before .before .before .copy .ensures)) (patched-part _ s 15 66 refl (omega (arith, start .pre)) (c .before .before .before .before .before .before .before .before .before .copy2 .ensures)) (patched-part _ s layoutSize 81 refl (omega (arith, start .pre)) (c .before .before .before .before .before .copy3 .ensures))
+    record-is s (c .before .read-u32 .ensures) (patched-part _ s fixedSize 6 refl (omega (arith, start .pre)) (c .before .before .before .before .before .before .before .before .before .before .before .before .before .copy .ensures)) (patched-part _ s mostBitfields bitsPlace refl (omega (arith, start .pre)) (c .before .before .before .before .before .before .before .before .before .copy2 .ensures)) (patched-part _ s layoutSize slotsPlace refl (omega (arith, start .pre)) (c .before .before .before .before .before .copy3 .ensures))
 
 pub unpack-spec : {M : Type 1} → statement M
 unpack-spec =

@@ -37,7 +37,7 @@ returns c =
     let then = c .before .before .before in
     let start = then .before .before in
     let s = now (start .args .s) in
-    c .two-blank .ensures ∙ windows-from 0 8 (length s - 8) (length s - (length s - 8)) s (omega (arith, then .if1 .taken)) (omega arith) (omega (arith, start .pre))
+    c .two-blank .ensures ∙ windows-from 0 16 (length s - 16) (length s - (length s - 16)) s (omega (arith, then .if1 .taken)) (omega arith) (omega (arith, start .pre))
 
 sub-two-blank-3 : tie.Need-sub-two-blank-3
 sub-two-blank-3 c = search needs
@@ -65,16 +65,44 @@ returns-2 c =
     let then = c .before .before .before in
     let else = then .before in
     let s = now (else .before .before .args .s) in
-    c .two-blank2 .ensures ∙ windows-from 0 4 (length s - 4) (length s - (length s - 4)) s (omega (arith, then .if2 .taken)) (omega arith) (omega (arith, else .if1 .left))
+    c .two-blank2 .ensures ∙ windows-from 0 8 (length s - 8) (length s - (length s - 8)) s (omega (arith, then .if2 .taken)) (omega arith) (omega (arith, else .if1 .left))
+
+sub-two-blank-5 : tie.Need-sub-two-blank-5
+sub-two-blank-5 c = search needs
+
+part-two-blank-start-5 : tie.Need-part-two-blank-start-5
+part-two-blank-start-5 c = search needs
+
+part-two-blank-end-5 : tie.Need-part-two-blank-end-5
+part-two-blank-end-5 c = search needs
+
+sub-two-blank-6 : tie.Need-sub-two-blank-6
+sub-two-blank-6 c = search needs
+
+part-two-blank-start-6 : tie.Need-part-two-blank-start-6
+part-two-blank-start-6 c = search needs
+
+part-two-blank-end-6 : tie.Need-part-two-blank-end-6
+part-two-blank-end-6 c = search needs
+
+two-blank-requires-3 : tie.Need-two-blank-requires-3
+two-blank-requires-3 c κs = search needs
+
+returns-3 : tie.Need-returns-3
+returns-3 c =
+    let then = c .before .before .before in
+    let else = then .before in
+    let s = now (else .before .before .before .args .s) in
+    c .two-blank3 .ensures ∙ windows-from 0 4 (length s - 4) (length s - (length s - 4)) s (omega (arith, then .if3 .taken)) (omega arith) (omega (arith, else .if2 .left))
 
 read-u32-requires : tie.Need-read-u32-requires
 read-u32-requires c κs = search needs
 
-returns-3 : tie.Need-returns-3
-returns-3 c =
+returns-4 : tie.Need-returns-4
+returns-4 c =
     let else = c .before in
-    let s = now (else .before .before .before .args .s) in
-    ap (λ (x : ℕ). eqb x 0) (c .read-u32 .ensures) ∙ number-nul 4 s (omega (arith, else .if2 .left))
+    let s = now (else .before .before .before .before .args .s) in
+    ap (λ (x : ℕ). eqb x 0) (c .read-u32 .ensures) ∙ number-nul 4 s (omega (arith, else .if3 .left))
 
 pub blank-few-spec : {M : Type 1} → statement M
 blank-few-spec =
@@ -96,5 +124,13 @@ blank-few-spec =
     part-two-blank-end-4
     two-blank-requires-2
     returns-2
+    sub-two-blank-5
+    part-two-blank-start-5
+    part-two-blank-end-5
+    sub-two-blank-6
+    part-two-blank-start-6
+    part-two-blank-end-6
+    two-blank-requires-3
+    returns-3
     read-u32-requires
-    returns-3)
+    returns-4)

@@ -1,7 +1,7 @@
 -- `order_writer::fixed_blank` meets its contract: in each arm the bytes that are not used are those after the literal place, in two windows.
 -- Assumes nothing.
 use Rattle.kinds.specs.Kinds.{allNul}
-use Rattle.orders.specs.OrderLaws.{in-new-order, in-cancel-order, in-acknowledgment, in-others}
+use Rattle.orders.specs.OrderLaws.{in-new-order, in-cancel-order, in-acknowledgment, in-execution, in-others}
 use Rattle.order_writer.proofs.Windows.{windows-from}
 use native.Mathlib.Omega.{arith}
 use lib.ListN.{drop, drop-of-length-le}
@@ -76,32 +76,61 @@ part-two-blank-end-6 c = search needs
 two-blank-requires-3 : tie.Need-two-blank-requires-3
 two-blank-requires-3 c κs = search needs
 
+sub-two-blank-7 : tie.Need-sub-two-blank-7
+sub-two-blank-7 c = search needs
+
+part-two-blank-start-7 : tie.Need-part-two-blank-start-7
+part-two-blank-start-7 c = search needs
+
+part-two-blank-end-7 : tie.Need-part-two-blank-end-7
+part-two-blank-end-7 c = search needs
+
+sub-two-blank-8 : tie.Need-sub-two-blank-8
+sub-two-blank-8 c = search needs
+
+part-two-blank-start-8 : tie.Need-part-two-blank-start-8
+part-two-blank-start-8 c = search needs
+
+part-two-blank-end-8 : tie.Need-part-two-blank-end-8
+part-two-blank-end-8 c = search needs
+
+two-blank-requires-4 : tie.Need-two-blank-requires-4
+two-blank-requires-4 c κs = search needs
+
 returns : tie.Need-returns
 returns c =
     let arm = c .before .before .before in
     let start = arm .before .before in
     let s = now (start .args .fixed) in
-    c .two-blank .ensures ∙ windows-from 25 32 43 16 s (start .pre) (omega arith) (omega arith) ∙ ap (λ (n : ℕ). allNul (drop (n - 10) s)) (sym (in-new-order _ (arm .match .keys1)))
+    c .two-blank .ensures ∙ windows-from 25 64 74 16 s (start .pre) (omega arith) (omega arith) ∙ ap (λ (n : ℕ). allNul (drop (n - 10) s)) (sym (in-new-order _ (arm .match .keys1)))
 
 returns-2 : tie.Need-returns-2
 returns-2 c =
     let arm = c .before .before .before in
     let start = arm .before .before in
     let s = now (start .args .fixed) in
-    c .two-blank2 .ensures ∙ windows-from 20 32 43 16 s (start .pre) (omega arith) (omega arith) ∙ ap (λ (n : ℕ). allNul (drop (n - 10) s)) (sym (in-cancel-order _ (arm .match .keys2)))
+    c .two-blank2 .ensures ∙ windows-from 20 64 74 16 s (start .pre) (omega arith) (omega arith) ∙ ap (λ (n : ℕ). allNul (drop (n - 10) s)) (sym (in-cancel-order _ (arm .match .keys2)))
 
 returns-3 : tie.Need-returns-3
 returns-3 c =
     let arm = c .before .before .before in
     let start = arm .before .before in
     let s = now (start .args .fixed) in
-    c .two-blank3 .ensures ∙ windows-from 37 16 43 16 s (start .pre) (omega arith) (omega arith) ∙ ap (λ (n : ℕ). allNul (drop (n - 10) s)) (sym (in-acknowledgment _ (arm .match .keys3)))
+    c .two-blank3 .ensures ∙ windows-from 37 32 58 32 s (start .pre) (omega arith) (omega arith) ∙ ap (λ (n : ℕ). allNul (drop (n - 10) s)) (sym (in-acknowledgment _ (arm .match .keys3)))
 
 returns-4 : tie.Need-returns-4
 returns-4 c =
+    let arm = c .before .before .before in
+    let start = arm .before .before in
+    let s = now (start .args .fixed) in
+    c .two-blank4 .ensures ∙ windows-from 59 16 74 16 s (start .pre) (omega arith) (omega arith) ∙ ap (λ (n : ℕ). allNul (drop (n - 10) s)) (sym (in-execution _ (arm .match .keys4)))
+
+returns-5 : tie.Need-returns-5
+returns-5 c =
     let start = c .before .before in
     let s = now (start .args .fixed) in
-    sym (ap (λ (n : ℕ). allNul (drop (n - 10) s)) (in-others _ (c .match .rest .0 .0 .1) (c .match .rest .0 .1) (c .match .rest .1)) ∙ ap allNul (drop-of-length-le s {i = fixedSize} (omega (arith, start .pre))))
+    let r = c .match .rest in
+    sym (ap (λ (n : ℕ). allNul (drop (n - 10) s)) (in-others _ (r .0 .0 .0 .1) (r .0 .0 .1) (r .0 .1) (r .1)) ∙ ap allNul (drop-of-length-le s {i = fixedSize} (omega (arith, start .pre))))
 
 pub fixed-blank-spec : {M : Type 1} → statement M
 fixed-blank-spec =
@@ -128,7 +157,15 @@ fixed-blank-spec =
     part-two-blank-start-6
     part-two-blank-end-6
     two-blank-requires-3
+    sub-two-blank-7
+    part-two-blank-start-7
+    part-two-blank-end-7
+    sub-two-blank-8
+    part-two-blank-start-8
+    part-two-blank-end-8
+    two-blank-requires-4
     returns
     returns-2
     returns-3
-    returns-4)
+    returns-4
+    returns-5)

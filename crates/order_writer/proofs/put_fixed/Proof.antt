@@ -1,5 +1,5 @@
 -- `order_writer::put_fixed` meets its contract: the number in each arm is what the message's fixed part has. Assumes nothing.
-use Rattle.orders.specs.OrderLaws.{in-new-order, in-cancel-order, in-acknowledgment, in-others}
+use Rattle.orders.specs.OrderLaws.{in-new-order, in-cancel-order, in-acknowledgment, in-execution, in-others}
 use native.Mathlib.Omega.{arith}
 use borrow.Author.Needs.{needs}
 use Rattle.order_writer.proofs.put_fixed.Statement.{statement}
@@ -23,8 +23,13 @@ put-part-requires-3 c κs =
 put-part-requires-4 : tie.Need-put-part-requires-4
 put-part-requires-4 c κs =
     let start = c .before .before .before .before in
+    (omega (arith, in-execution _ (c .before .match .keys4)), start .pre .0, start .pre .1)
+
+put-part-requires-5 : tie.Need-put-part-requires-5
+put-part-requires-5 c κs =
+    let start = c .before .before .before .before in
     let other = c .before .match .rest in
-    (omega (arith, in-others _ (other .0 .0 .1) (other .0 .1) (other .1)), start .pre .0, start .pre .1)
+    (omega (arith, in-others _ (other .0 .0 .0 .1) (other .0 .0 .1) (other .0 .1) (other .1)), start .pre .0, start .pre .1)
 
 same-length : tie.Need-same-length
 same-length c = search needs
@@ -50,6 +55,12 @@ same-length-4 c = search needs
 returns-4 : tie.Need-returns-4
 returns-4 c = search needs
 
+same-length-5 : tie.Need-same-length-5
+same-length-5 c = search needs
+
+returns-5 : tie.Need-returns-5
+returns-5 c = search needs
+
 pub put-fixed-spec : {M : Type 1} → statement M
 put-fixed-spec =
     tie.close
@@ -58,6 +69,7 @@ put-fixed-spec =
     put-part-requires-2
     put-part-requires-3
     put-part-requires-4
+    put-part-requires-5
     same-length
     returns
     same-length-2
@@ -65,4 +77,6 @@ put-fixed-spec =
     same-length-3
     returns-3
     same-length-4
-    returns-4)
+    returns-4
+    same-length-5
+    returns-5)

@@ -13,7 +13,7 @@ use Rattle.order_writer.proofs.put_part.Statement.{statement}
 use Rattle.order_writer.proofs.put_part.Tie as tie
 use Rattle.block.specs.Sizes.{fixedSize}
 
--- the bytes of a fixed part are at most 59
+-- the bytes of a fixed part are no more than a record has
 few : (c : tie.Start) → c .args .n ≤ fixedSize
 few c = omega (arith, c .pre .0, count-bounds (c .args .message) .high)
 

@@ -13,12 +13,13 @@ use Rattle.order_writer.specs.Stages.{seenRefusal}
 use borrow.Author.Needs.{needs}
 use Rattle.order_writer.proofs.seen_refusal.Statement.{statement}
 use Rattle.order_writer.proofs.seen_refusal.Tie as tie
+use Rattle.block.specs.Sizes.{fixedEnd}
 
 -- where the function starts, and how far the count byte stands
 abbrev start-of : tie.After-struct-known → tie.Start
 start-of k = k .before .before .before .before .before
 
-near : (k : tie.After-struct-known) → k .before .count-at .result ≤ 69
+near : (k : tie.After-struct-known) → k .before .count-at .result ≤ fixedEnd
 near k = omega (arith, k .before .count-at .ensures, count-bounds (start-of k .args .message) .high)
 
 count-at-requires : tie.Need-count-at-requires

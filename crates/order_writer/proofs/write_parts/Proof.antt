@@ -20,7 +20,7 @@ use mathlib.Core.Path.{_≡_, refl, sym, ap, _∙_}
 use borrow.Author.Needs.{needs}
 use Rattle.order_writer.proofs.write_parts.Statement.{statement}
 use Rattle.order_writer.proofs.write_parts.Tie as tie
-use Rattle.block.specs.Sizes.{allPlaces, fixedEnd, layoutSize}
+use Rattle.block.specs.Sizes.{allPlaces, fixedEnd, layoutSize, mostBitfields}
 
 -- a layout copied over zeros
 whole-layout : (v z : List ℕ) → length z ≡ layoutSize → length v ≡ layoutSize → patched z 0 v ≡ v
@@ -31,13 +31,13 @@ abbrev parts : tie.Start → Record
 parts c = let a = c .args in recordFrom (a .message) (a .unit) (a .number) (now (a .fixed)) (a .count) (now (a .bits)) (now (a .slots))
 
 -- past the top
-top-zero : (c : tie.Else1) → topRefusal (c .before .before .before .before .before .before .args .message) (c .before .before .before .before .before .before .args .unit) (c .before .before .before .before .before .before .args .count) ≡ 0
+top-zero : (c : tie.Else1) → topRefusal (c .before .before .before .before .before .before .args .message) (c .before .before .before .before .before .before .args .unit) (c .before .before .before .before .before .before .args .number) (c .before .before .before .before .before .before .args .count) ≡ 0
 top-zero c = sym (c .before .top-refusal .ensures) ∙ c .if1 .left
 
-few : (c : tie.Else1) → c .before .before .before .before .before .before .args .count ≤ 15
+few : (c : tie.Else1) → c .before .before .before .before .before .before .args .count ≤ mostBitfields
 few c =
     let a = c .before .before .before .before .before .before .args in
-    count-fits (a .message) (a .unit) (a .count) (top-zero c)
+    count-fits (a .message) (a .unit) (a .number) (a .count) (top-zero c)
 
 abbrev past-top : tie.After-look-all → tie.Else1
 past-top c = c .before .before .before .before .before
@@ -71,7 +71,7 @@ size c =
     let start = start-of look in
     size-is (parts start) (look .look-all .result) _ (start .pre .1) (looked-at look) (c .count-at .ensures)
 
-small : (c : tie.After-count-at) → (c .count-at .result ≤ fixedEnd) × (start-of (look-of (c .before .before)) .args .count ≤ 15) × (look-of (c .before .before) .look-all .result .total ≤ layoutSize)
+small : (c : tie.After-count-at) → (c .count-at .result ≤ fixedEnd) × (start-of (look-of (c .before .before)) .args .count ≤ mostBitfields) × (look-of (c .before .before) .look-all .result .total ≤ layoutSize)
 small c =
     let look = look-of (c .before .before) in
     let start = start-of look in
@@ -115,7 +115,9 @@ seen-refusal-requires c κs =
     let start = start-of look in
     let near = bad-near (parts start) (look .look-all .result) _ (start .pre .1) (looked-at look) in
     let close = wrong-near (parts start) (look .look-all .result) _ (start .pre .1) (looked-at look) in
-    (start .pre .0, start .pre .2, few (past-top look), near, close)
+    let copied = look .before .before .before in
+    let long = look .look-all .kept .1 .1 .1 .0 ∙ ap length (copied .copy-layout .ensures ∙ whole-layout (now (start .args .slots)) _ refl (start .pre .1)) ∙ start .pre .1 in
+    (start .pre .0, start .pre .2, few (past-top look), near, close, long)
 
 returns-2 : tie.Need-returns-2
 returns-2 c =

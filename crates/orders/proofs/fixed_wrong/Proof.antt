@@ -1,8 +1,8 @@
--- `orders::fixed_wrong` meets its contract: every fixed part is its identifier and, in two types, more to test. Assumes nothing.
+-- `orders::fixed_wrong` meets its contract: every fixed part is its identifier and, in five types, more to test. Assumes nothing.
 use Rattle.orders.specs.Shapes.{countAt}
-use Rattle.orders.specs.FixedFields.{newOrderFields, cancelOrderFields, acknowledgmentFields, executionFields, fixedFields, fixedWrong}
+use Rattle.orders.specs.FixedFields.{newOrderFields, cancelOrderFields, acknowledgmentFields, executionFields, rejectionFields, fixedFields, fixedWrong}
 use Rattle.refusals.specs.FirstBad.{firstBad}
-use Rattle.orders.specs.Rests.{nameAt, newOrderRest, executionRest}
+use Rattle.orders.specs.Rests.{nameAt, newOrderRest, executionRest, rejectionRest}
 use Rattle.kinds.specs.declared.Kind.the-variants.{Identifier}
 use Rattle.kinds.specs.Kinds.{agreesFilledOf}
 use mathlib.Core.Path.{_≡_, refl, sym, ap, ap₂, _∙_}
@@ -15,20 +15,21 @@ use lib.ListN.{take, drop}
 use denote.Ref.{now}
 use borrow.Author.Needs.{needs}
 use borrow.Author.Tests.{ne-eqb, not-true, not-false}
-use Rattle.orders.specs.OrderLaws.{in-new-order, in-others}
+use Rattle.orders.specs.OrderLaws.{in-new-order, in-execution, in-others}
 use Rattle.orders.proofs.fixed_wrong.Statement.{statement}
 use Rattle.orders.proofs.fixed_wrong.Tie as tie
 
 -- the identifier lies within the fixed part
 name-fits : (message n : ℕ) → countAt message ≤ n + 10 → nameAt message + 20 ≤ n
 unfolding countAt nameAt
-name-fits message n h = by (eqb message 0x38) (eqb message 0x39) (eqb message 0x25) h
+name-fits message n h = by (eqb message 0x38) (eqb message 0x39) (eqb message 0x25) (eqb message 0x2C) h
   where
-    by : (a b d : Bool) → cond a 35 (cond b 30 (cond d 47 69)) ≤ n + 10 → cond a 0 (cond b 0 8) + 20 ≤ n
-    by true b d h = omega (arith, h)
-    by false true d h = omega (arith, h)
-    by false false true h = omega (arith, h)
-    by false false false h = omega (arith, h)
+    by : (a b d e : Bool) → cond a 35 (cond b 30 (cond d 47 (cond e 69 100))) ≤ n + 10 → cond a 0 (cond b 0 8) + 20 ≤ n
+    by true b d e h = omega (arith, h)
+    by false true d e h = omega (arith, h)
+    by false false true e h = omega (arith, h)
+    by false false false true h = omega (arith, h)
+    by false false false false h = omega (arith, h)
 
 name-near : (message : ℕ) → nameAt message ≤ 8
 unfolding nameAt
@@ -41,19 +42,21 @@ name-near message = by (eqb message 0x38) (eqb message 0x39)
 
 -- the first bad field after it
 unfoldable restWrong : ℕ → List ℕ → ℕ
-restWrong message f = cond (eqb message 0x38) (newOrderRest f) (cond (eqb message 0x39) 0 (cond (eqb message 0x25) 0 (executionRest f)))
+restWrong message f = cond (eqb message 0x38) (newOrderRest f) (cond (eqb message 0x39) 0 (cond (eqb message 0x25) 0 (cond (eqb message 0x2C) (executionRest f) (rejectionRest f))))
 
 in-two : (message : ℕ) (f : List ℕ) → fixedWrong message f ≡ cond (agreesFilledOf Identifier (take 20 (drop (nameAt message) f))) (restWrong message f) (10 + nameAt message)
 unfolding fixedWrong fixedFields nameAt restWrong
-in-two message f = by (eqb message 0x38) (eqb message 0x39) (eqb message 0x25)
+in-two message f = by (eqb message 0x38) (eqb message 0x39) (eqb message 0x25) (eqb message 0x2C)
   where
-    by : (a b d : Bool)
-        → firstBad (cond a (newOrderFields f) (cond b (cancelOrderFields f) (cond d (acknowledgmentFields f) (executionFields f))))
-        ≡ cond (agreesFilledOf Identifier (take 20 (drop (cond a 0 (cond b 0 8)) f))) (cond a (newOrderRest f) (cond b 0 (cond d 0 (executionRest f)))) (10 + cond a 0 (cond b 0 8))
-    by true b d = refl
-    by false true d = refl
-    by false false true = refl
-    by false false false = refl
+    by : (a b d e : Bool)
+        → firstBad (cond a (newOrderFields f) (cond b (cancelOrderFields f) (cond d (acknowledgmentFields f) (cond e (executionFields f) (rejectionFields f)))))
+        ≡ cond (agreesFilledOf Identifier (take 20 (drop (cond a 0 (cond b 0 8)) f)))
+        (cond a (newOrderRest f) (cond b 0 (cond d 0 (cond e (executionRest f) (rejectionRest f))))) (10 + cond a 0 (cond b 0 8))
+    by true b d e = refl
+    by false true d e = refl
+    by false false true e = refl
+    by false false false true = refl
+    by false false false false = refl
 
 -- so once the identifier is tested, it is told or the rest decides
 once-named : (message at : ℕ) (f : List ℕ) (r b : Bool) → at ≡ nameAt message → r ≡ agreesFilledOf Identifier (take (at + 20 - at) (drop at f)) → r ≡ b
@@ -95,7 +98,10 @@ new-order-rest-requires : tie.Need-new-order-rest-requires
 new-order-rest-requires c κs = omega (arith, c .before .before .before .before .before .before .pre, in-new-order _ (c .match .keys1))
 
 execution-rest-requires : tie.Need-execution-rest-requires
-execution-rest-requires c κs = omega (arith, c .before .before .before .before .before .before .pre, in-others _ (c .match .rest .0 .0 .1) (c .match .rest .0 .1) (c .match .rest .1))
+execution-rest-requires c κs = omega (arith, c .before .before .before .before .before .before .pre, in-execution _ (c .match .keys4))
+
+rejection-rest-requires : tie.Need-rejection-rest-requires
+rejection-rest-requires c κs = omega (arith, c .before .before .before .before .before .before .pre, in-others _ (c .match .rest .0 .0 .0 .1) (c .match .rest .0 .0 .1) (c .match .rest .0 .1) (c .match .rest .1))
 
 returns-2 : tie.Need-returns-2
 unfolding restWrong
@@ -127,7 +133,16 @@ returns-5 c =
     let named = c .before .before .before in
     let a = named .before .before .before .before .args in
     let whole = once-named (a .message) _ (now (a .f)) _ true (named .before .before .name-at .ensures) (named .identifies .ensures) (not-false _ (c .before .before .if1 .left)) in
-    c .execution-rest .ensures ∙ sym (whole ∙ simp (ne-eqb _ _ (c .before .match .rest .1), ne-eqb _ _ (c .before .match .rest .0 .1), ne-eqb _ _ (c .before .match .rest .0 .0 .1)))
+    c .execution-rest .ensures ∙ sym (whole ∙ rw (c .before .match .keys4))
+
+returns-6 : tie.Need-returns-6
+unfolding restWrong
+returns-6 c =
+    let named = c .before .before .before in
+    let a = named .before .before .before .before .args in
+    let whole = once-named (a .message) _ (now (a .f)) _ true (named .before .before .name-at .ensures) (named .identifies .ensures) (not-false _ (c .before .before .if1 .left)) in
+    let r = c .before .match .rest in
+    c .rejection-rest .ensures ∙ sym (whole ∙ simp (ne-eqb _ _ (r .1), ne-eqb _ _ (r .0 .1), ne-eqb _ _ (r .0 .0 .1), ne-eqb _ _ (r .0 .0 .0 .1)))
 
 pub fixed-wrong-spec : {M : Type 1} → statement M
 fixed-wrong-spec =
@@ -143,7 +158,9 @@ fixed-wrong-spec =
     returns
     new-order-rest-requires
     execution-rest-requires
+    rejection-rest-requires
     returns-2
     returns-3
     returns-4
-    returns-5)
+    returns-5
+    returns-6)

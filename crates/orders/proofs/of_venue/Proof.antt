@@ -1,19 +1,20 @@
 -- `orders::of_venue` meets its contract. Assumes nothing.
-use mathlib.Core.Logic.{⊎-elim, inl, inr}
-use mathlib.Core.Path.{_≡_}
-use borrow.Author.Tests.{ne-eqb}
+use mathlib.Core.Path.{sym, _∙_}
+use borrow.Author.Needs.{needs}
 use Rattle.orders.proofs.of_venue.Statement.{statement}
 use Rattle.orders.proofs.of_venue.Tie as tie
 
+is-sequenced-requires : tie.Need-is-sequenced-requires
+is-sequenced-requires c κs = search needs
+
 returns : tie.Need-returns
-returns c =
-    let m = c .before .args .message in
-    ⊎-elim (λ (e : m ≡ 0x25). rw e) (λ (e : m ≡ 0x2C). rw e) (c .match .keys1)
+returns c = rw (sym (c .before .is-sequenced .ensures) ∙ c .if1 .taken)
+
+is-unsequenced-requires : tie.Need-is-unsequenced-requires
+is-unsequenced-requires c κs = search needs
 
 returns-2 : tie.Need-returns-2
-returns-2 c =
-    let m = c .before .args .message in
-    simp (ne-eqb m 0x25 (λ e. c .match .rest .1 (inl e)), ne-eqb m 0x2C (λ e. c .match .rest .1 (inr e)))
+returns-2 c = rw (sym (c .before .before .is-sequenced .ensures) ∙ c .before .if1 .left) (c .is-unsequenced .ensures)
 
 pub of-venue-spec : {M : Type 1} → statement M
-of-venue-spec = tie.close (tie.spec returns returns-2)
+of-venue-spec = tie.close (tie.spec is-sequenced-requires returns is-unsequenced-requires returns-2)

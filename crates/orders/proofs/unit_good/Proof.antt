@@ -26,14 +26,28 @@ returns : tie.Need-returns
 unfolding unitGood
 returns c = rw (sym (c .before .of-member .ensures) ∙ c .if1 .taken)
 
-unit-refusal-requires : tie.Need-unit-refusal-requires
-unit-refusal-requires c κs = search needs
+is-unsequenced-requires : tie.Need-is-unsequenced-requires
+is-unsequenced-requires c κs = search needs
+
+both-zero-requires : tie.Need-both-zero-requires
+both-zero-requires c κs = search needs
 
 returns-2 : tie.Need-returns-2
 unfolding unitGood
 returns-2 c =
-    let a = c .before .before .before .args in
-    rw (sym (c .before .before .of-member .ensures) ∙ c .before .if1 .left) (ap (λ (x : ℕ). eqb x 0) (c .unit-refusal .ensures) ∙ in-table (a .unit))
+    let asked = c .before .before in
+    rw (sym (asked .before .before .of-member .ensures) ∙ asked .before .if1 .left, sym (asked .is-unsequenced .ensures) ∙ c .before .if2 .taken) (c .both-zero .ensures)
+
+unit-refusal-requires : tie.Need-unit-refusal-requires
+unit-refusal-requires c κs = search needs
+
+returns-3 : tie.Need-returns-3
+unfolding unitGood
+returns-3 c =
+    let asked = c .before .before in
+    let first = asked .before .before in
+    let a = first .before .args in
+    rw (sym (first .of-member .ensures) ∙ asked .before .if1 .left, sym (asked .is-unsequenced .ensures) ∙ c .before .if2 .left) (ap (λ (x : ℕ). eqb x 0) (c .unit-refusal .ensures) ∙ in-table (a .unit))
 
 pub unit-good-spec : {M : Type 1} → statement M
-unit-good-spec = tie.close (tie.spec of-member-requires returns unit-refusal-requires returns-2)
+unit-good-spec = tie.close (tie.spec of-member-requires returns is-unsequenced-requires both-zero-requires returns-2 unit-refusal-requires returns-3)

@@ -1,7 +1,7 @@
 //! Damaged messages with bitfields and damaged records of them: one to three strokes, each of a
 //! kind that some rule looks at.
 
-use super::sample::{Sample, BITFIELDS_PLACE, COUNT_PLACE, FIXED_PLACE, SIZE, SLOTS_PLACE};
+use super::sample::Sample;
 use crate::questions::parts::{measure, Parts};
 use crate::questions::strokes::{
     change, lengthen, shorten, some_bit, some_count, some_direction, some_unit, strike,
@@ -11,6 +11,14 @@ use crate::questions::writing::pattern;
 use crate::random::Random;
 use crate::rules::frame::HEADER;
 use crate::rules::layout::Layout;
+use crate::rules::record::{
+    BITFIELDS_PLACE, COUNT_PLACE, FIXED_PLACE, SESSION_SIZE, SIZE, SLOTS_PLACE,
+};
+
+/// Types of both directions and of none.
+const TYPE_BYTES: [u8; 12] = [
+    0x38, 0x39, 0x25, 0x2C, 0x26, 0x29, 0x2B, 0x37, 0x24, 0x00, 0x27, 0xFF,
+];
 
 /// A direction and the bytes of a damaged message, which may still be valid.
 pub fn message(random: &mut Random, sample: &Sample) -> (u8, Vec<u8>) {
@@ -33,14 +41,21 @@ pub fn record(random: &mut Random, sample: &Sample) -> (u8, Vec<u8>, Vec<u8>) {
     (direction, bytes, pattern(random, room))
 }
 
+/// Another unit, or of what is unsequenced perhaps another number, which follows it.
+fn strike_header(random: &mut Random, layout: &Layout, bytes: &mut [u8], unit_place: usize) {
+    if layout.greatest_number == 0 && random.below(2) == 0 {
+        strike(random, bytes, unit_place + 1, unit_place + 4);
+    } else {
+        let unit = some_unit(random);
+        change(bytes, unit_place, |_| unit);
+    }
+}
+
 fn strike_message(random: &mut Random, layout: &Layout, direction: &mut u8, bytes: &mut Vec<u8>) {
     let count_place = layout.count_place();
     let first = layout.bitfields_place();
     match random.below(20) {
-        0 => {
-            let unit = some_unit(random);
-            change(bytes, 5, |_| unit);
-        }
+        0 => strike_header(random, layout, bytes, 5),
         1 => change(bytes, count_place, |count| some_count(random, count)),
         2 | 3 => {
             let place = first + random.between(0, layout.most - 1);
@@ -94,10 +109,7 @@ fn strike_record(
     room: &mut usize,
 ) {
     match random.below(16) {
-        0 => {
-            let unit = some_unit(random);
-            change(bytes, 1, |_| unit);
-        }
+        0 => strike_header(random, layout, bytes, 1),
         1 | 2 => change(bytes, COUNT_PLACE, |count| some_count(random, count)),
         3 | 4 => {
             let place = BITFIELDS_PLACE + random.between(0, layout.most - 1);
@@ -125,14 +137,14 @@ fn strike_record(
         }
         12 => *direction = some_direction(random, *direction),
         13 => {
-            let other = random.pick(&[0x38, 0x39, 0x25, 0x2C, 0x37, 0x24, 0x00, 0x26, 0xFF]);
+            let other = random.pick(&TYPE_BYTES);
             change(bytes, 0, |_| other);
         }
         14 => {
             let size = match random.below(6) {
                 0 => random.between(0, 2),
-                1 => random.between(429, 449),
-                _ => random.between(225, 245),
+                1 => random.between(SESSION_SIZE - 10, SESSION_SIZE + 10),
+                _ => random.between(SIZE - 10, SIZE + 10),
             };
             bytes.resize(size, random.byte());
         }
@@ -150,7 +162,7 @@ fn places_of(bytes: &[u8], sort: impl Fn(u8) -> bool) -> Vec<usize> {
 #[cfg(test)]
 mod tests {
     use super::*;
-    use crate::questions::bitfields::sample::NEW_ORDER;
+    use crate::questions::bitfields::sample::{NEW_ORDER, TYPES};
     use crate::questions::judged;
     use std::collections::BTreeSet;
 
@@ -158,7 +170,7 @@ mod tests {
     #[test]
     fn every_refusal() {
         let mut random = Random::new(110);
-        for which in 0..4 {
+        for which in 0..TYPES {
             let (reads, writes) = judged::damaged_answers::<Sample>(&mut random, which, 6_000);
             // More may come where the damage makes another message of it.
             let mut least_reads = BTreeSet::from([0, 1, 2, 3, 4, 5, 6, 7, 8, 9, 10]);
@@ -174,6 +186,6 @@ mod tests {
 
     #[test]
     fn round_trips_of_the_damaged() {
-        judged::round_trips_of_the_damaged::<Sample>(131, 4, 8_000);
+        judged::round_trips_of_the_damaged::<Sample>(131, TYPES, 14_000);
     }
 }

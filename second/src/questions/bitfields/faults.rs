@@ -16,7 +16,7 @@ pub fn sets(which: usize, order: &[u8]) -> Vec<u8> {
 pub fn small_with(random: &mut Random, which: usize, numbers: &[u8]) -> Sample {
     let mut sample = Sample::with_first_field(random, which);
     if numbers.contains(&5) {
-        sample.unit = sample.layout.greatest_unit + 1;
+        sample.spoil_header(random);
     }
     if numbers.contains(&8) {
         let (byte, bit) = unlisted_bit(which);

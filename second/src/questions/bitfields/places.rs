@@ -76,7 +76,8 @@ pub fn counts(random: &mut Random, which: usize) -> Placed {
     all
 }
 
-/// 8: each bitfield that can be bad. All bits of a New Order's first are listed.
+/// 8: each bitfield that can be bad. All bits of a New Order's first are listed, and of an Order
+/// Rejected's third.
 pub fn bits(random: &mut Random, which: usize) -> Placed {
     let layout = &layout::ALL[which];
     let unlisted: Vec<(usize, u8)> = (1..=layout.most)
@@ -234,6 +235,7 @@ pub fn totals(random: &mut Random, which: usize) -> Vec<(Vec<u8>, usize)> {
 #[cfg(test)]
 mod tests {
     use super::*;
+    use crate::questions::bitfields::sample::{ORDER_REJECTED, TYPES};
     use crate::rules::{read, write, Refusal};
 
     /// What can be bad: all but the kinds B and P and the reserved bytes.
@@ -257,6 +259,18 @@ mod tests {
             "ClOrdID BaseLiquidityIndicator SubLiquidityIndicator ContraBroker Side ExecInst \
              OrdType TimeInForce Symbol SymbolSfx Capacity Account ClearingFirm ClearingAccount"
         );
+        assert_eq!(
+            names(4),
+            "ClOrdID RejectReason Text Side ExecInst OrdType TimeInForce Symbol SymbolSfx Capacity \
+             Account ClearingFirm ClearingAccount DisplayIndicator PreventMatch AttributedQuote \
+             ExtExecInst EchoText RoutingInst RoutStrategy RouteDeliveryMethod ExDestination"
+        );
+        assert_eq!(
+            names(5),
+            "ClOrdID RejectReason Text Side ExecInst OrdType TimeInForce Symbol SymbolSfx Capacity \
+             EchoText"
+        );
+        assert_eq!(names(6), "ClOrdID RejectReason Text");
     }
 
     /// Read and written, each is refused at its place.
@@ -275,7 +289,7 @@ mod tests {
     fn places() {
         let mut random = Random::new(190);
         for _ in 0..20 {
-            for which in 0..4 {
+            for which in 0..TYPES {
                 check(counts(&mut random, which), Refusal::Count);
                 check(bits(&mut random, which), Refusal::Bit);
                 check(missing(&mut random, which), Refusal::Missing);
@@ -293,10 +307,23 @@ mod tests {
     #[test]
     fn every_bitfield() {
         let mut random = Random::new(191);
-        for (which, first, last) in [(0, 37, 45), (1, 31, 32), (2, 48, 62), (3, 70, 84)] {
+        for (which, first, last) in [
+            (0, 37, 45),
+            (1, 31, 32),
+            (2, 48, 62),
+            (3, 70, 84),
+            (4, 101, 119),
+            (5, 101, 119),
+            (6, 101, 119),
+        ] {
             let places = bits(&mut random, which).into_iter();
             let places: BTreeSet<usize> = places.map(|(_, place)| place).collect();
-            assert_eq!(places, (first..=last).collect());
+            let mut expected: BTreeSet<usize> = (first..=last).collect();
+            if which == ORDER_REJECTED {
+                // All bits of its third are listed.
+                expected.remove(&103);
+            }
+            assert_eq!(places, expected);
         }
         let places = missing(&mut random, 0).into_iter();
         let places: BTreeSet<usize> = places.map(|(_, place)| place).collect();

@@ -4,7 +4,10 @@ mod bits;
 mod order;
 mod values;
 
-use super::sample::{self, Sample, ACKNOWLEDGMENT, CANCEL, EXECUTION, NEW_ORDER};
+use super::sample::{
+    self, Sample, ACKNOWLEDGMENT, CANCEL, CANCEL_REJECTED, EXECUTION, MODIFY_REJECTED, NEW_ORDER,
+    ORDER_REJECTED,
+};
 use crate::examples;
 use crate::questions::parts::Parts;
 use crate::questions::reading::{self, add, measured, Asked};
@@ -55,6 +58,9 @@ fn from_the_documents(asked: &mut Asked) {
     asked.push((VENUE, examples::least_acknowledgment()));
     asked.push((VENUE, examples::booked_acknowledgment()));
     asked.push((VENUE, examples::execution()));
+    asked.push((VENUE, examples::order_rejected()));
+    asked.push((VENUE, examples::cancel_rejected()));
+    asked.push((VENUE, examples::modify_rejected()));
     // P9 and P10 in other forms.
     let mut message = examples::cancel();
     message[30] = 3;
@@ -111,7 +117,10 @@ fn cuts(asked: &mut Asked, random: &mut Random, which: usize) {
         NEW_ORDER => examples::new_order(),
         CANCEL => examples::cancel(),
         ACKNOWLEDGMENT => examples::acknowledgment(),
-        _ => examples::execution(),
+        EXECUTION => examples::execution(),
+        ORDER_REJECTED => examples::order_rejected(),
+        CANCEL_REJECTED => examples::cancel_rejected(),
+        _ => examples::modify_rejected(),
     };
     reading::cut_anywhere(asked, direction, &whole);
     let mut cut_from = |first: usize, message: &[u8]| {
@@ -173,6 +182,15 @@ fn headers(asked: &mut Asked, random: &mut Random, which: usize) {
         sample.number = number;
         add(asked, &sample);
     }
+    // Units and numbers together, which matter to what is unsequenced and to what is not.
+    if sample.layout.direction == VENUE {
+        for unit in [0, 1, 32, 33, 255] {
+            for number in [0, 1, 256, 65_536, 0x0100_0000, 0xFFFF_FFFF] {
+                (sample.unit, sample.number) = (unit, number);
+                add(asked, &sample);
+            }
+        }
+    }
 }
 
 /// Directions that the type does not have, also with faults of framing and of the unit.
@@ -215,6 +233,9 @@ fn random_messages(asked: &mut Asked, random: &mut Random) {
         (CANCEL, 90),
         (ACKNOWLEDGMENT, 350),
         (EXECUTION, 300),
+        (ORDER_REJECTED, 170),
+        (CANCEL_REJECTED, 80),
+        (MODIFY_REJECTED, 30),
     ];
     reading::any::<Sample>(asked, random, &counts);
     let counts = [
@@ -222,6 +243,9 @@ fn random_messages(asked: &mut Asked, random: &mut Random) {
         (CANCEL, 120),
         (ACKNOWLEDGMENT, 200),
         (EXECUTION, 200),
+        (ORDER_REJECTED, 120),
+        (CANCEL_REJECTED, 80),
+        (MODIFY_REJECTED, 50),
     ];
     reading::damaged::<Sample>(asked, random, &counts);
 }

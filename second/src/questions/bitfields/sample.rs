@@ -4,20 +4,22 @@ use super::damage;
 use crate::questions::parts::Parts;
 use crate::questions::values::{full_value, some_number, some_value};
 use crate::random::Random;
+use crate::rules::desk::HANDED;
 use crate::rules::layout::{self, Layout, Listed, Rule};
-use crate::rules::record::SESSION_SIZE;
+use crate::rules::record::{COUNT_PLACE, SESSION_SIZE, SIZE, SLOTS_PLACE};
 
 pub const NEW_ORDER: usize = 0;
 pub const CANCEL: usize = 1;
 pub const ACKNOWLEDGMENT: usize = 2;
 pub const EXECUTION: usize = 3;
-
-/// The places of a record, and its bytes.
-pub const FIXED_PLACE: usize = 6;
-pub const COUNT_PLACE: usize = 65;
-pub const BITFIELDS_PLACE: usize = 66;
-pub const SLOTS_PLACE: usize = 81;
-pub const SIZE: usize = 235;
+pub const ORDER_REJECTED: usize = 4;
+pub const CANCEL_REJECTED: usize = 5;
+pub const MODIFY_REJECTED: usize = 6;
+/// How many there are.
+#[cfg(test)]
+pub const TYPES: usize = 7;
+/// Those that are handed to the desk.
+pub const REJECTED: [usize; 3] = [ORDER_REJECTED, CANCEL_REJECTED, MODIFY_REJECTED];
 
 /// The fields that a New Order's requirement names.
 pub const REQUIRED: [&str; 4] = ["Symbol", "Capacity", "Price", "OrdType"];
@@ -43,7 +45,7 @@ impl Sample {
         let mut sample = Sample {
             layout,
             unit: layout.least_unit,
-            number: random.number(),
+            number: random.number().min(layout.greatest_number),
             fixed: Vec::new(),
             count: 0,
             bitfields: Vec::new(),
@@ -64,12 +66,28 @@ impl Sample {
         sample
     }
 
-    /// The same with the first listed field besides.
+    /// The same with the first listed field besides, if there is one.
     pub fn with_first_field(random: &mut Random, which: usize) -> Sample {
         let mut sample = Sample::least(random, which);
-        let field = &sample.layout.listed[0];
-        sample.set_bit(field.byte, field.bit);
+        if let Some(field) = sample.layout.listed.first() {
+            sample.set_bit(field.byte, field.bit);
+        }
         sample
+    }
+
+    /// A unit or a number that the message may not carry; of what is unsequenced each of them, or
+    /// both.
+    pub fn spoil_header(&mut self, random: &mut Random) {
+        let sort = match self.layout.greatest_number {
+            0 => random.below(3),
+            _ => 0,
+        };
+        if sort != 1 {
+            self.unit = self.layout.greatest_unit + 1;
+        }
+        if sort != 0 {
+            self.number = 1 << (8 * random.below(4));
+        }
     }
 
     /// Sets the first bit of each required group that has none.
@@ -156,7 +174,7 @@ impl Parts for Sample {
             0 => random.pick(&units),
             _ => random.between(usize::from(units[0]), usize::from(units[1])) as u8,
         };
-        sample.number = some_number(random);
+        sample.number = some_number(random).min(layout.greatest_number);
         for (field, value) in layout.fixed.iter().zip(&mut sample.fixed) {
             *value = match field.rule {
                 Rule::Any(kind) => some_value(random, kind, field.width, 0),
@@ -223,13 +241,18 @@ impl Parts for Sample {
         record
     }
 
-    /// Most have the bytes of the longest record, some their own alone or a few after them. What
-    /// follows the record plays no part: it is zero in most, but not in all.
+    /// Most have the bytes of the longest record, some their own alone or a few after them; of the
+    /// rejections most have their own alone. What follows the record plays no part: it is zero in
+    /// most, but not in all.
     fn lent(random: &mut Random, record: &[u8]) -> Vec<u8> {
+        let (some, most) = match HANDED.contains(&record[0]) {
+            true => (SESSION_SIZE, SIZE),
+            false => (SIZE, SESSION_SIZE),
+        };
         let size = match random.below(6) {
-            0 => SIZE,
+            0 => some,
             1 => random.between(SIZE + 1, SESSION_SIZE - 1),
-            _ => SESSION_SIZE,
+            _ => most,
         };
         let mut bytes = record.to_vec();
         bytes.resize(size, 0);
@@ -274,12 +297,11 @@ pub fn identifier(which: usize) -> &'static str {
     }
 }
 
-/// A bit that is not listed, though others of its bitfield are.
+/// A bit that is not listed, though others of its bitfield are if any are.
 pub fn unlisted_bit(which: usize) -> (usize, u8) {
-    if which == NEW_ORDER {
-        (2, 4)
-    } else {
-        (1, 2)
+    match which {
+        CANCEL | ACKNOWLEDGMENT | EXECUTION => (1, 2),
+        _ => (2, 4),
     }
 }
 
@@ -311,17 +333,18 @@ mod tests {
 
     #[test]
     fn unlisted_bits() {
-        for which in 0..4 {
+        for which in 0..TYPES {
             let (byte, bit) = unlisted_bit(which);
             let listed = layout::ALL[which].listed_bits(byte);
-            assert!(listed != 0 && listed & bit == 0);
+            assert!(listed != 0 || which == MODIFY_REJECTED);
+            assert_eq!(listed & bit, 0);
         }
     }
 
     #[test]
     fn least_samples() {
         let mut random = Random::new(100);
-        for which in 0..4 {
+        for which in 0..TYPES {
             let sample = Sample::least(&mut random, which);
             let record = read::message(sample.layout.direction, &sample.bytes()).unwrap();
             assert_eq!(record, sample.record());
@@ -334,8 +357,8 @@ mod tests {
     #[test]
     fn reader_and_writer_agree_with_the_parts() {
         let mut random = Random::new(101);
-        for round in 0..4_000 {
-            judged::agree(&Sample::any(&mut random, round % 4));
+        for round in 0..7_000 {
+            judged::agree(&Sample::any(&mut random, round % TYPES));
         }
     }
 
@@ -347,23 +370,29 @@ mod tests {
         let (mut own, mut longest, mut zero) = (0, 0, 0);
         for _ in 0..400 {
             let bytes = Sample::lent(&mut random, &record);
-            assert!((235..=439).contains(&bytes.len()));
-            assert_eq!(bytes[..235], record);
-            own += usize::from(bytes.len() == 235);
+            assert!((291..=439).contains(&bytes.len()));
+            assert_eq!(bytes[..291], record);
+            own += usize::from(bytes.len() == 291);
             longest += usize::from(bytes.len() == 439);
-            let after = &bytes[235..];
+            let after = &bytes[291..];
             zero += usize::from(!after.is_empty() && after.iter().all(|byte| *byte == 0));
         }
         assert!((40..100).contains(&own));
         assert!((200..360).contains(&longest));
         assert!((200..320).contains(&zero));
+        let record = Sample::any(&mut random, CANCEL_REJECTED).record();
+        let sizes = (0..400).map(|_| Sample::lent(&mut random, &record).len());
+        let sizes: Vec<usize> = sizes.collect();
+        let count = |size: usize| sizes.iter().filter(|other| **other == size).count();
+        assert!((200..360).contains(&count(291)));
+        assert!((40..100).contains(&count(439)));
     }
 
     /// Each listed bit is both set and not set, each count is used, and both ends of the units.
     #[test]
     fn any_sample_is_any() {
         let mut random = Random::new(102);
-        for which in 0..4 {
+        for which in 0..TYPES {
             let layout = &layout::ALL[which];
             let samples: Vec<Sample> = (0..2_000)
                 .map(|_| Sample::any(&mut random, which))

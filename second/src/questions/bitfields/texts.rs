@@ -51,17 +51,18 @@ pub fn texts(random: &mut Random, which: usize) -> Vec<Text> {
 #[cfg(test)]
 mod tests {
     use super::*;
+    use crate::questions::bitfields::sample::TYPES;
     use crate::questions::parts::Parts;
     use crate::rules::kinds;
 
     #[test]
     fn text_fields() {
         let mut random = Random::new(99);
-        let counts: Vec<usize> = (0..4)
+        let counts: Vec<usize> = (0..TYPES)
             .map(|which| texts(&mut random, which).len())
             .collect();
-        assert_eq!(counts, [16, 2, 11, 14]);
-        for which in 0..4 {
+        assert_eq!(counts, [16, 2, 11, 14, 22, 11, 3]);
+        for which in 0..TYPES {
             for mut text in texts(&mut random, which) {
                 let full = text.sample.value(text.name).clone();
                 assert!(kinds::filled(text.kind, &full), "{}", text.name);

@@ -4,13 +4,17 @@ mod order;
 mod unused;
 
 use super::read;
-use super::sample::{Sample, ACKNOWLEDGMENT, CANCEL, EXECUTION, NEW_ORDER};
+use super::sample::{
+    Sample, ACKNOWLEDGMENT, CANCEL, CANCEL_REJECTED, EXECUTION, MODIFY_REJECTED, NEW_ORDER,
+    ORDER_REJECTED,
+};
 use super::texts::texts;
 use crate::questions::parts::Parts;
 use crate::questions::values::bad_bytes;
 use crate::questions::writing::{self, add, line, pattern};
 use crate::random::Random;
 use crate::rules::layout;
+use crate::rules::types::VENUE;
 use std::collections::BTreeSet;
 
 pub fn ask(lines: &mut Vec<String>) {
@@ -32,6 +36,9 @@ pub fn ask(lines: &mut Vec<String>) {
         (CANCEL, 40),
         (ACKNOWLEDGMENT, 60),
         (EXECUTION, 60),
+        (ORDER_REJECTED, 50),
+        (CANCEL_REJECTED, 30),
+        (MODIFY_REJECTED, 20),
     ];
     writing::damaged::<Sample>(lines, &mut random, &counts);
 }
@@ -71,6 +78,21 @@ fn headers(lines: &mut Vec<String>, random: &mut Random, which: usize) {
         sample.number = number;
         add(lines, random, &sample);
     }
+    if own == VENUE {
+        for (unit, number) in [
+            (0, 0),
+            (0, 1),
+            (1, 0),
+            (1, 1),
+            (1, u32::MAX),
+            (32, 256),
+            (255, 0x0100_0000),
+        ] {
+            let mut sample = least.clone();
+            (sample.unit, sample.number) = (unit, number);
+            add(lines, random, &sample);
+        }
+    }
     for direction in [1 - own, 2, 3, 128, 254, 255] {
         let room = random.between(0, 40);
         let buffer = pattern(random, room);
@@ -78,7 +100,8 @@ fn headers(lines: &mut Vec<String>, random: &mut Random, which: usize) {
         lines.push(line(direction, &record, &buffer));
     }
     for type_byte in [
-        0x00, 0x02, 0x26, 0x2D, 0x38, 0x39, 0x25, 0x2C, 0x37, 0x24, 0x03, 0x09, 0xFF,
+        0x00, 0x02, 0x26, 0x29, 0x2B, 0x2D, 0x36, 0x48, 0x38, 0x39, 0x25, 0x2C, 0x37, 0x24, 0x03,
+        0x09, 0xFF,
     ] {
         let mut record = Sample::lent(random, &least.record());
         record[0] = type_byte;
@@ -98,8 +121,10 @@ fn counts(lines: &mut Vec<String>, random: &mut Random, which: usize) {
         add(lines, random, &all);
     }
     let mut least = Sample::least(random, which);
-    let far = [32, 127, 128, 255];
-    for count in (0..most + 3).chain(far) {
+    // About the most of the others too, which the record has places for.
+    let far = [16, 18, 19, 20, 32, 127, 128, 255];
+    let counts: BTreeSet<u8> = (0..most + 3).chain(far).collect();
+    for count in counts {
         least.count = count;
         add(lines, random, &least);
     }
@@ -148,7 +173,7 @@ fn bad_texts(lines: &mut Vec<String>, random: &mut Random, which: usize) {
 
 /// OrderQty, which has a range in a New Order alone.
 fn quantities(lines: &mut Vec<String>, random: &mut Random) {
-    for which in [NEW_ORDER, ACKNOWLEDGMENT, EXECUTION] {
+    for which in [NEW_ORDER, ACKNOWLEDGMENT, EXECUTION, ORDER_REJECTED] {
         let mut sample = Sample::least(random, which);
         if which != NEW_ORDER {
             sample.select("OrderQty");

@@ -83,6 +83,9 @@ pub fn bad_messages(random: &mut Random) -> Vec<Vec<u8>> {
         examples::login_response_of_the_notes(),
         examples::login_response(),
         examples::logout_request(),
+        examples::order_rejected(),
+        examples::cancel_rejected(),
+        examples::modify_rejected(),
     ];
     for which in [ACKNOWLEDGMENT, EXECUTION] {
         let mut sample = Sample::least(random, which);
@@ -132,7 +135,10 @@ pub fn changed_books() -> Vec<Vec<u8>> {
         }
     }
     // Every type near the two that a book holds, and those of other messages.
-    let types = (0x20..=0x30).chain([0, 2, 3, 8, 9, 0x13, 0x37, 0x38, 0x39, 0xA5, 0xFF]);
+    let others = [
+        0, 2, 3, 8, 9, 0x13, 0x36, 0x37, 0x38, 0x39, 0x48, 0xA5, 0xFF,
+    ];
+    let types = (0x20..=0x30).chain(others);
     for value in types {
         let mut book = example()[..73].to_vec();
         book[MARK + 4] = value;

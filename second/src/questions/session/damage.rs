@@ -10,6 +10,10 @@ use crate::questions::strokes::{
 use crate::questions::writing::pattern;
 use crate::random::Random;
 use crate::rules::frame::HEADER;
+use crate::rules::record::SIZE;
+
+/// From here on a record is mostly zero.
+const MOSTLY_UNUSED: usize = 230;
 
 /// A direction and the bytes of a damaged message, which may still be valid.
 pub fn message(random: &mut Random, sample: &Sample) -> (u8, Vec<u8>) {
@@ -164,7 +168,7 @@ fn strike_record(random: &mut Random, direction: &mut u8, bytes: &mut Vec<u8>, r
     match random.below(8) {
         0 => *direction = some_direction(random, *direction),
         1 => {
-            let other = random.pick(&[0x37, 0x24, 0x08, 0x03, 0x09, 0x13, 0x02, 0x38, 0x25]);
+            let other = random.pick(&[0x37, 0x24, 0x08, 0x03, 0x09, 0x13, 0x02, 0x38, 0x25, 0x26]);
             change(bytes, 0, |_| other);
         }
         2 => strike(random, bytes, 1, 5),
@@ -173,15 +177,15 @@ fn strike_record(random: &mut Random, direction: &mut u8, bytes: &mut Vec<u8>, r
             let size = match random.below(6) {
                 0 => random.between(0, 2),
                 1 => random.between(0, RECORD),
-                2 => random.between(229, 241),
-                _ => random.between(429, 449),
+                2 => random.between(SIZE - 6, SIZE + 6),
+                _ => random.between(RECORD - 10, RECORD + 10),
             };
             bytes.resize(size, random.byte());
         }
         // A byte that is not zero in what is mostly not used.
         6 => {
-            if bytes.len() > 230 {
-                let place = random.between(230, bytes.len() - 1);
+            if bytes.len() > MOSTLY_UNUSED {
+                let place = random.between(MOSTLY_UNUSED, bytes.len() - 1);
                 change(bytes, place, |byte| byte ^ 1);
             }
         }

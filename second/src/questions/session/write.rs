@@ -9,6 +9,7 @@ use crate::questions::parts::Parts;
 use crate::questions::values::{bad_bytes, textual};
 use crate::questions::writing::{self, add, add_record, line, pattern};
 use crate::random::Random;
+use crate::rules::record::SIZE;
 use crate::rules::session;
 use std::collections::BTreeSet;
 
@@ -96,7 +97,7 @@ fn unused(lines: &mut Vec<String>, random: &mut Random, which: usize) {
     ] {
         let end = BODY_PLACE + sample.body().len();
         let between: Vec<usize> = (0..4).map(|_| random.between(end, RECORD - 1)).collect();
-        for place in [end, end + 1, 234, 235, RECORD - 1]
+        for place in [end, end + 1, SIZE - 1, SIZE, RECORD - 1]
             .into_iter()
             .chain(between)
             .filter(|place| (end..RECORD).contains(place))

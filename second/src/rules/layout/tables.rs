@@ -1,16 +1,17 @@
 //! The table of each message with bitfields. The fixed part of Order Execution and the choice of
-//! its bits are those of document 000.
+//! its bits are those of document 000, and so is all of the rejections.
 
 use super::{Fixed, Layout, Listed, Rule};
 use crate::rules::kinds::Kind;
 use crate::rules::types::{self, MEMBER, VENUE};
 
-pub static ALL: [Layout; 4] = [
+pub static ALL: [Layout; 7] = [
     Layout {
         direction: MEMBER,
         type_byte: types::NEW_ORDER,
         least_unit: 0,
         greatest_unit: 0,
+        greatest_number: ANY_NUMBER,
         fixed: NEW_ORDER_FIXED,
         most: 10,
         listed: NEW_ORDER_LISTED,
@@ -21,6 +22,7 @@ pub static ALL: [Layout; 4] = [
         type_byte: types::CANCEL_ORDER,
         least_unit: 0,
         greatest_unit: 0,
+        greatest_number: ANY_NUMBER,
         fixed: CANCEL_ORDER_FIXED,
         most: 2,
         listed: CANCEL_ORDER_LISTED,
@@ -31,6 +33,7 @@ pub static ALL: [Layout; 4] = [
         type_byte: types::ACKNOWLEDGMENT,
         least_unit: 1,
         greatest_unit: 32,
+        greatest_number: ANY_NUMBER,
         fixed: ACKNOWLEDGMENT_FIXED,
         most: 15,
         listed: ACKNOWLEDGMENT_LISTED,
@@ -41,12 +44,34 @@ pub static ALL: [Layout; 4] = [
         type_byte: types::EXECUTION,
         least_unit: 1,
         greatest_unit: 32,
+        greatest_number: ANY_NUMBER,
         fixed: EXECUTION_FIXED,
         most: 15,
         listed: EXECUTION_LISTED,
         required: &[],
     },
+    rejected(types::ORDER_REJECTED, ORDER_REJECTED_LISTED),
+    rejected(types::CANCEL_REJECTED, CANCEL_REJECTED_LISTED),
+    rejected(types::MODIFY_REJECTED, &[]),
 ];
+
+const ANY_NUMBER: u32 = u32::MAX;
+
+/// The three rejections of request 2: unsequenced, and alike but for their bits. Table 67 marks none
+/// for User Modify Rejected.
+const fn rejected(type_byte: u8, listed: &'static [Listed]) -> Layout {
+    Layout {
+        direction: VENUE,
+        type_byte,
+        least_unit: 0,
+        greatest_unit: 0,
+        greatest_number: 0,
+        fixed: REJECTED_FIXED,
+        most: 19,
+        listed,
+        required: &[],
+    }
+}
 
 // Short names for the columns of the tables.
 const A: Kind = Kind::Letters;
@@ -150,3 +175,59 @@ const EXECUTION_LISTED: &[Listed] = match ACKNOWLEDGMENT_LISTED {
     [listed @ .., _leaves_qty, _last_shares, _last_px, _expire_time] => listed,
     _ => panic!("the acknowledgment has these four and others"),
 };
+
+/// Tables 36, 46 and 42, which name the reason after their message.
+const REJECTED_FIXED: &[Fixed] = &[
+    fixed("TransactionTime", 8, Rule::Any(B)),
+    fixed("ClOrdID", 20, IDENTIFIER),
+    fixed("RejectReason", 1, Rule::Any(T)),
+    fixed("Text", 60, Rule::Any(T)),
+    fixed("Reserved", 1, Rule::Any(B)),
+];
+
+/// Table 64. The third character of PreventMatch may be a digit.
+const ORDER_REJECTED_LISTED: &[Listed] = &[
+    bit(1, 1, "Side", 1, N),
+    bit(1, 2, "PegDifference", 8, P),
+    bit(1, 4, "Price", 8, P),
+    bit(1, 8, "ExecInst", 1, T),
+    bit(1, 16, "OrdType", 1, N),
+    bit(1, 32, "TimeInForce", 1, N),
+    bit(1, 64, "MinQty", 4, B),
+    bit(2, 1, "Symbol", 8, N),
+    bit(2, 2, "SymbolSfx", 8, N),
+    bit(2, 64, "Capacity", 1, A),
+    bit(3, 1, "Account", 16, T),
+    bit(3, 2, "ClearingFirm", 4, A),
+    bit(3, 4, "ClearingAccount", 4, T),
+    bit(3, 8, "DisplayIndicator", 1, N),
+    bit(3, 16, "MaxFloor", 4, B),
+    bit(3, 32, "DiscretionAmount", 2, B),
+    bit(3, 64, "OrderQty", 4, B),
+    bit(3, 128, "PreventMatch", 3, N),
+    bit(6, 1, "SecondaryOrderID", 8, B),
+    bit(6, 8, "AttributedQuote", 1, N),
+    bit(6, 16, "ExtExecInst", 1, T),
+    bit(8, 2, "EchoText", 64, T),
+    bit(8, 4, "StopPx", 8, P),
+    bit(8, 8, "RoutingInst", 4, T),
+    bit(8, 16, "RoutStrategy", 6, T),
+    bit(8, 32, "RouteDeliveryMethod", 3, T),
+    bit(8, 64, "ExDestination", 1, T),
+];
+
+/// Table 69. The marks of its byte 3 are lost: none of that byte is taken.
+const CANCEL_REJECTED_LISTED: &[Listed] = &[
+    bit(1, 1, "Side", 1, N),
+    bit(1, 2, "PegDifference", 8, P),
+    bit(1, 4, "Price", 8, P),
+    bit(1, 8, "ExecInst", 1, T),
+    bit(1, 16, "OrdType", 1, N),
+    bit(1, 32, "TimeInForce", 1, N),
+    bit(1, 64, "MinQty", 4, B),
+    bit(2, 1, "Symbol", 8, N),
+    bit(2, 2, "SymbolSfx", 8, N),
+    bit(2, 64, "Capacity", 1, A),
+    bit(8, 2, "EchoText", 64, T),
+    bit(8, 4, "StopPx", 8, P),
+];

@@ -8,7 +8,7 @@ fn layout(type_byte: u8) -> &'static Layout {
         .unwrap()
 }
 
-/// The places that document 01 gives, and 000 for the execution.
+/// The places that document 01 gives, and 000 for the execution and the rejections.
 #[test]
 fn places_of_the_fixed_parts() {
     let places = |type_byte: u8| {
@@ -33,6 +33,12 @@ fn places_of_the_fixed_parts() {
         "TransactionTime 10 ClOrdID 18 ExecID 38 LastShares 46 LastPx 50 LeavesQty 58 \
          BaseLiquidityIndicator 62 SubLiquidityIndicator 63 ContraBroker 64 Reserved 68 count 69"
     );
+    for type_byte in [0x26, 0x2B, 0x29] {
+        assert_eq!(
+            places(type_byte),
+            "TransactionTime 10 ClOrdID 18 RejectReason 38 Text 39 Reserved 99 count 100"
+        );
+    }
 }
 
 /// Widths and kinds, once more as the documents have them; `!` is never blank.
@@ -86,6 +92,23 @@ fn forms_of_the_fields() {
          byte 2: 1 8N 2 8N 64 1A \
          byte 3: 1 16T 2 4A 4 4T 16 4B 64 4B"
     );
+    assert_eq!(
+        forms(0x26),
+        "8B 20I! 1T 60T 1B most 19 \
+         byte 1: 1 1N 2 8P 4 8P 8 1T 16 1N 32 1N 64 4B \
+         byte 2: 1 8N 2 8N 64 1A \
+         byte 3: 1 16T 2 4A 4 4T 8 1N 16 4B 32 2B 64 4B 128 3N \
+         byte 6: 1 8B 8 1N 16 1T \
+         byte 8: 2 64T 4 8P 8 4T 16 6T 32 3T 64 1T"
+    );
+    assert_eq!(
+        forms(0x2B),
+        "8B 20I! 1T 60T 1B most 19 \
+         byte 1: 1 1N 2 8P 4 8P 8 1T 16 1N 32 1N 64 4B \
+         byte 2: 1 8N 2 8N 64 1A \
+         byte 8: 2 64T 4 8P"
+    );
+    assert_eq!(forms(0x29), "8B 20I! 1T 60T 1B most 19");
 }
 
 /// First byte first and lowest bit first, each of them a single bit within the bitfields.
@@ -114,9 +137,20 @@ fn counts_and_sums_of_the_bits() {
             (layout.listed.len(), widths)
         })
         .collect();
-    assert_eq!(sums, [(20, 154), (1, 4), (18, 89), (14, 65)]);
+    assert_eq!(
+        sums,
+        [
+            (20, 154),
+            (1, 4),
+            (18, 89),
+            (14, 65),
+            (27, 175),
+            (12, 113),
+            (0, 0)
+        ]
+    );
     let bitfields = |type_byte: u8| {
-        let mut bitfields = [0; 15];
+        let mut bitfields = [0; 19];
         for field in layout(type_byte).listed {
             bitfields[field.byte - 1] |= field.bit;
         }
@@ -124,11 +158,14 @@ fn counts_and_sums_of_the_bits() {
     };
     assert_eq!(
         bitfields(0x38),
-        [255, 195, 193, 0, 0, 51, 0, 0, 0, 2, 0, 0, 0, 0, 0]
+        [255, 195, 193, 0, 0, 51, 0, 0, 0, 2, 0, 0, 0, 0, 0, 0, 0, 0, 0]
     );
     assert_eq!(bitfields(0x39)[..3], [1, 0, 0]);
     assert_eq!(bitfields(0x25)[..6], [125, 67, 87, 0, 142, 0]);
     assert_eq!(bitfields(0x2C)[..6], [125, 67, 87, 0, 0, 0]);
+    assert_eq!(bitfields(0x26)[..9], [127, 67, 255, 0, 0, 25, 0, 126, 0]);
+    assert_eq!(bitfields(0x2B)[..9], [127, 67, 0, 0, 0, 0, 0, 6, 0]);
+    assert_eq!(bitfields(0x29), [0; 19]);
 }
 
 /// A field has one width and one kind wherever it is listed.
@@ -155,13 +192,13 @@ fn all_fit_a_record() {
 }
 
 #[test]
-fn only_four_types() {
+fn only_seven_types() {
     for direction in 0..=255 {
         for type_byte in 0..=255 {
             let known = Layout::of(direction, type_byte).is_ok();
             let expected = matches!(
                 (direction, type_byte),
-                (0, 0x38) | (0, 0x39) | (1, 0x25) | (1, 0x2C)
+                (0, 0x38 | 0x39) | (1, 0x25 | 0x2C | 0x26 | 0x2B | 0x29)
             );
             assert_eq!(known, expected, "{} {}", direction, type_byte);
         }
@@ -169,15 +206,18 @@ fn only_four_types() {
 }
 
 #[test]
-fn units() {
+fn units_and_numbers() {
     for layout in &ALL {
+        let unsequenced = [0x26, 0x2B, 0x29].contains(&layout.type_byte);
         for unit in 0..=255 {
-            let good = if layout.direction == MEMBER {
-                unit == 0
-            } else {
-                unit > 0 && unit < 33
-            };
-            assert_eq!(layout.check_unit(unit).is_ok(), good);
+            for number in [0, 1, 256, u32::MAX] {
+                let good = match layout.direction {
+                    MEMBER => unit == 0,
+                    _ if unsequenced => unit == 0 && number == 0,
+                    _ => unit > 0 && unit < 33,
+                };
+                assert_eq!(layout.check_header(unit, number).is_ok(), good);
+            }
         }
     }
 }
@@ -210,7 +250,7 @@ fn required_fields() {
     }
     assert_eq!(new_order.check_required(&[]), Err(Refusal::Missing(35)));
     assert_eq!(new_order.check_required(&[0x14]), Err(Refusal::Missing(36)));
-    for type_byte in [0x39, 0x25, 0x2C] {
+    for type_byte in [0x39, 0x25, 0x2C, 0x26, 0x2B, 0x29] {
         assert_eq!(layout(type_byte).check_required(&[]), Ok(()));
     }
 }

@@ -44,6 +44,9 @@ fn phases() {
         (second_message(), [16, 16, 2, 3]),
         (examples::server_heartbeat(), [16, 16, 2, 3]),
         (examples::replay_complete(), [16, 16, 3, 16]),
+        (examples::order_rejected(), [16, 16, 2, 3]),
+        (examples::cancel_rejected(), [16, 16, 2, 3]),
+        (examples::modify_rejected(), [16, 16, 2, 3]),
         (examples::client_heartbeat(), [16, 4, 4, 4]),
         (examples::cancel(), [16, 4, 4, 4]),
     ] {
@@ -89,6 +92,9 @@ fn calls_for_one_kind() {
         ),
         (examples::server_heartbeat(), [16, 4, 4, 4], [16, 4, 4, 4]),
         (examples::replay_complete(), [16, 4, 4, 4], [16, 4, 4, 4]),
+        (examples::order_rejected(), [16, 4, 4, 4], [16, 4, 4, 4]),
+        (examples::cancel_rejected(), [16, 4, 4, 4], [16, 4, 4, 4]),
+        (examples::modify_rejected(), [16, 4, 4, 4], [16, 4, 4, 4]),
         (examples::cancel(), [16, 4, 4, 4], [16, 4, 4, 4]),
         (vec![0xBA], [16, 3, 3, 3], [16, 3, 3, 3]),
         (vec![0xBA, 0xBA, 7, 0], [16, 2, 2, 2], [16, 2, 2, 2]),
@@ -111,6 +117,38 @@ fn calls_for_one_kind() {
                     assert_eq!(answer, any_answer);
                     assert_eq!((member, &buffer), (any.clone(), &any_buffer));
                 }
+            }
+        }
+    }
+}
+
+/// What is handed to the desk leaves session, book and buffer as they were, whatever the room.
+#[test]
+fn rejections() {
+    for message in [
+        examples::order_rejected(),
+        examples::cancel_rejected(),
+        examples::modify_rejected(),
+    ] {
+        for phase in [Phase::Replaying, Phase::Live] {
+            let (mut member, mut buffer) = self::member(phase);
+            let before = (member.clone(), buffer.clone());
+            for room in [0, 73, 300] {
+                let answer = member.get(&message, &mut buffer[..room]);
+                assert_eq!(answer, Ok(Told::Handed));
+                assert_eq!((member.clone(), buffer.clone()), before);
+            }
+            assert_eq!(member.get(&second_message(), &mut buffer), Ok(Told::Booked));
+            let beat = member.get(&examples::server_heartbeat(), &mut buffer);
+            assert_eq!(beat, Ok(Told::Nothing));
+        }
+        // The reader's come before 16 for the phase, and after it if closed.
+        for (place, expected) in [(5, 5), (6, 5), (9, 5), (100, 7), (18, 10)] {
+            let mut bad = message.clone();
+            bad[place] = if place == 100 { 20 } else { b',' };
+            for (phase, expected) in PHASES.into_iter().zip([16, expected, expected, expected]) {
+                let (mut member, mut buffer) = self::member(phase);
+                assert_eq!(refusal(member.get(&bad, &mut buffer)), expected);
             }
         }
     }
@@ -146,7 +184,7 @@ fn numbers_and_room() {
         assert_eq!(refusal(member.get(&message, &mut buffer[..room])), expected);
         assert_eq!((member.clone(), buffer.clone()), before);
     }
-    assert_eq!(member.get(&next, &mut buffer[..130]), Ok(()));
+    assert_eq!(member.get(&next, &mut buffer[..130]), Ok(Told::Booked));
     assert_eq!((member.book.length, member.book.count), (130, 2));
     assert_eq!(buffer[73..130], next);
     assert_eq!(entry(&member.book.table, 1), 2);
@@ -197,7 +235,7 @@ fn orders() {
     let mut unit = record.clone();
     unit[1] = 1;
     for (record, room, expected) in [
-        (&record[..234], 76, 13),
+        (&record[..290], 76, 13),
         (&session[..], 76, 4),
         (&unit, 76, 5),
         (&record, 75, 13),

@@ -1,5 +1,6 @@
 -- `block_write::give::acknowledgment_bytes` meets its contract: what is left to walk after a byte ends as what was left before it, and places that are not listed
 -- give nothing. Assumes nothing.
+use Prim.Native.Nat.{_-_}
 use mathlib.Core.Path.{refl, _∙_}
 use native.Mathlib.Omega.{arith}
 use denote.Ref.{now}
@@ -10,6 +11,7 @@ use Rattle.block_write.proofs.Given.{ended, passed, left-later}
 use borrow.Author.Needs.{needs}
 use Rattle.block_write.proofs.give.acknowledgment_bytes.Statement.{statement}
 use Rattle.block_write.proofs.give.acknowledgment_bytes.Tie as tie
+use Rattle.block.specs.Sizes.{allPlaces}
 
 give-next-requires : tie.Need-give-next-requires
 give-next-requires c κs = search needs
@@ -26,7 +28,7 @@ give-next-requires-4 c κs =
     let second = third .before .before .before .before in
     let first = second .before .before .before .before in
     let a = first .before .before .before .before .before .args in
-    omega (arith, left-later 0x25 (a .count) (now (a .bits)) 8 88 24)
+    omega (arith, left-later 0x25 (a .count) (now (a .bits)) 8 (allPlaces - 32) 24)
 
 same-length : tie.Need-same-length
 same-length c = search needs
@@ -39,9 +41,9 @@ returns c =
     let second = third .before .before .before .before in
     let first = second .before .before .before .before in
     let a = first .before .before .before .before .before .args in
-    ended 0x25 (a .count) (now (a .bits)) (now (a .layout)) 80 40 refl _
+    ended 0x25 (a .count) (now (a .bits)) (now (a .layout)) (allPlaces - 40) 40 refl _
     ∙ fourth .give-next4 .ensures .0
-    ∙ passed 0x25 (a .count) (now (a .bits)) (now (a .layout)) 8 24 refl 88 _
+    ∙ passed 0x25 (a .count) (now (a .bits)) (now (a .layout)) 8 24 refl (allPlaces - 32) _
     ∙ third .give-next3 .ensures .0
     ∙ second .give-next2 .ensures .0
     ∙ first .give-next .ensures .0

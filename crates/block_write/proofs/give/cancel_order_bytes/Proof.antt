@@ -1,5 +1,6 @@
 -- `block_write::give::cancel_order_bytes` meets its contract: what is left to walk after a byte ends as what was left before it, and places that are not listed
 -- give nothing. Assumes nothing.
+use Prim.Native.Nat.{_-_}
 use mathlib.Core.Path.{refl, _∙_}
 use denote.Ref.{now}
 use Rattle.dictionary.specs.Dictionary.{entryOf}
@@ -9,6 +10,7 @@ use Rattle.block_write.proofs.Given.{ended}
 use borrow.Author.Needs.{needs}
 use Rattle.block_write.proofs.give.cancel_order_bytes.Statement.{statement}
 use Rattle.block_write.proofs.give.cancel_order_bytes.Tie as tie
+use Rattle.block.specs.Sizes.{allPlaces}
 
 give-next-requires : tie.Need-give-next-requires
 give-next-requires c κs = search needs
@@ -21,7 +23,7 @@ unfolding unlisted entryAt entryOf
 returns c =
     let first = c .before .before in
     let a = first .before .before .before .before .before .args in
-    ended 0x39 (a .count) (now (a .bits)) (now (a .layout)) 112 8 refl _
+    ended 0x39 (a .count) (now (a .bits)) (now (a .layout)) (allPlaces - 8) 8 refl _
     ∙ first .give-next .ensures .0
 
 pub cancel-order-bytes-spec : {M : Type 1} → statement M

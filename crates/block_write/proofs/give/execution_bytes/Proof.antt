@@ -1,5 +1,6 @@
 -- `block_write::give::execution_bytes` meets its contract: what is left to walk after a byte ends as what was left before it, and places that are not listed
 -- give nothing. Assumes nothing.
+use Prim.Native.Nat.{_-_}
 use mathlib.Core.Path.{refl, _∙_}
 use denote.Ref.{now}
 use Rattle.dictionary.specs.Dictionary.{entryOf}
@@ -9,6 +10,7 @@ use Rattle.block_write.proofs.Given.{ended}
 use borrow.Author.Needs.{needs}
 use Rattle.block_write.proofs.give.execution_bytes.Statement.{statement}
 use Rattle.block_write.proofs.give.execution_bytes.Tie as tie
+use Rattle.block.specs.Sizes.{allPlaces}
 
 give-next-requires : tie.Need-give-next-requires
 give-next-requires c κs = search needs
@@ -29,7 +31,7 @@ returns c =
     let second = third .before .before .before .before in
     let first = second .before .before .before .before in
     let a = first .before .before .before .before .before .args in
-    ended 0x2C (a .count) (now (a .bits)) (now (a .layout)) 96 24 refl _
+    ended 0x2C (a .count) (now (a .bits)) (now (a .layout)) (allPlaces - 24) 24 refl _
     ∙ third .give-next3 .ensures .0
     ∙ second .give-next2 .ensures .0
     ∙ first .give-next .ensures .0

@@ -1,5 +1,5 @@
 -- `block_write::give::give_loop` meets its contract. The loop's invariant: the message keeps its length, and the walk over the places of the other bytes,
--- from the state reached, ends as the walk over all 120; what they select fits. The measure is the count of bytes that are left. Assumes nothing.
+-- from the state reached, ends as the walk over all; what they select fits. The measure is the count of bytes that are left. Assumes nothing.
 use mathlib.Core.Path.{_≡_, refl, _∙_}
 use Prim.Native.Nat.{_+_, _*_, _-_, _≤_}
 use native.Mathlib.Omega.{arith}
@@ -7,9 +7,8 @@ use lib.ListN.{length}
 use denote.Ref.{now}
 use Rattle.block.specs.Walk.{anyByte, giveEntry}
 use Rattle.block.specs.Loops.{byte-turn, bytes-end}
-use Rattle.block.specs.Fits.{left}
+use Rattle.block.specs.Fits.{left, left-turn}
 use Rattle.block_write.specs.State.{giving, giveWalk}
-use Rattle.block_write.proofs.Given.{left-turn}
 use borrow.Author.Needs.{needs}
 use Rattle.block_write.proofs.give.give_loop.Statement.{statement}
 use Rattle.block_write.proofs.give.give_loop.Tie as tie

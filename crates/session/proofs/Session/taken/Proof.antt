@@ -1,6 +1,6 @@
 -- `session::Session::taken` meets its contract. Assumes nothing.
 use Rattle.wire.specs.Header.{typeOf}
-use Rattle.orders.specs.Shapes.{ofVenue}
+use Rattle.orders.specs.Shapes.{sequenced}
 use Rattle.session.specs.Stages.{heardBy, heardBuffer}
 use Rattle.session.specs.Sessions.{passes}
 use Rattle.session.specs.SessionLaws.{untimely, by-message, by-session}
@@ -31,8 +31,8 @@ returns c =
     let t = typed .type-of .ensures ∙ ap typeOf (framed .frame .ensures) in
     untimely (a .self) (now (a .buffer)) (now (a .bytes)) (start .pre .0) (start .pre .1) (ap (passes (a .self .phase)) (sym t) ∙ sym (passed .passes .ensures) ∙ not-true _ (c .if1 .taken))
 
-of-venue-requires : tie.Need-of-venue-requires
-of-venue-requires c κs = search needs
+is-sequenced-requires : tie.Need-is-sequenced-requires
+is-sequenced-requires c κs = search needs
 
 append-read-requires : tie.Need-append-read-requires
 append-read-requires c κs =
@@ -43,7 +43,7 @@ append-read-requires c κs =
     let framed = typed .before in
     let start = framed .before .before .before in
     let t = typed .type-of .ensures ∙ ap typeOf (framed .frame .ensures) in
-    let v = ap ofVenue (sym t) ∙ sym (then .before .of-venue .ensures) ∙ then .if2 .taken in
+    let v = ap sequenced (sym t) ∙ sym (then .before .is-sequenced .ensures) ∙ then .if2 .taken in
     (start .pre .1, v)
 
 same-length : tie.Need-same-length
@@ -61,7 +61,7 @@ returns-2 c =
     let a = start .args in
     let t = typed .type-of .ensures ∙ ap typeOf (framed .frame .ensures) in
     by-message (a .self) (now (a .buffer)) (now (a .bytes)) (start .pre .0) (start .pre .1) (ap (passes (a .self .phase)) (sym t) ∙ sym (passed .passes .ensures) ∙ not-false _ (other .if1 .left))
-    (ap ofVenue (sym t) ∙ sym (then .before .of-venue .ensures) ∙ then .if2 .taken) (told .append-read .ensures)
+    (ap sequenced (sym t) ∙ sym (then .before .is-sequenced .ensures) ∙ then .if2 .taken) (told .append-read .ensures)
 
 heard-requires : tie.Need-heard-requires
 heard-requires c κs = search needs
@@ -81,7 +81,7 @@ returns-3 c =
     let a = start .args in
     let t = typed .type-of .ensures ∙ ap typeOf (framed .frame .ensures) in
     by-session (a .self) (now (a .buffer)) (now (a .bytes)) (start .pre .0) (start .pre .1) (ap (passes (a .self .phase)) (sym t) ∙ sym (passed .passes .ensures) ∙ not-false _ (other .if1 .left))
-    (ap ofVenue (sym t) ∙ sym (else .before .of-venue .ensures) ∙ else .if2 .left)
+    (ap sequenced (sym t) ∙ sym (else .before .is-sequenced .ensures) ∙ else .if2 .left)
     (told .heard .ensures .0 ∙ ap (heardBy (a .self) (length (now (a .buffer)))) (framed .frame .ensures), told .heard .ensures .1 ∙ ap (heardBuffer (a .self) (now (a .buffer))) (framed .frame .ensures))
 
 pub taken-spec : {M : Type 1} → statement M
@@ -92,7 +92,7 @@ taken-spec =
     type-of-requires
     passes-requires
     returns
-    of-venue-requires
+    is-sequenced-requires
     append-read-requires
     same-length
     returns-2

@@ -4,6 +4,7 @@ use crate::questions::bitfields::sample::{Sample, CANCEL, NEW_ORDER, REQUIRED};
 use crate::questions::reading::{add, Asked};
 use crate::random::Random;
 use crate::rules::layout;
+use crate::rules::record::BITFIELDS;
 
 /// Each bit of each bitfield, listed or not: with what is required and without.
 pub fn single(asked: &mut Asked, random: &mut Random, which: usize) {
@@ -58,7 +59,7 @@ pub fn counts(asked: &mut Asked, random: &mut Random, which: usize) {
         longer.lengthen(count);
         add(asked, &longer);
     }
-    let near = 0..layout.most as u8 + 5;
+    let near = 0..BITFIELDS as u8 + 5;
     let far = [31, 32, 33, 63, 64, 65, 127, 128, 129, 192, 254, 255];
     let chosen: Vec<u8> = match which {
         CANCEL => (0..=255).collect(),

@@ -1,6 +1,8 @@
 //! Values of fields.
 
-use crate::questions::bitfields::sample::{Sample, ACKNOWLEDGMENT, CANCEL, EXECUTION, NEW_ORDER};
+use crate::questions::bitfields::sample::{
+    Sample, ACKNOWLEDGMENT, CANCEL, EXECUTION, NEW_ORDER, ORDER_REJECTED, REJECTED,
+};
 use crate::questions::bitfields::texts::texts;
 use crate::questions::reading::{add, Asked};
 use crate::questions::values::{bad_bytes, end_bytes, textual};
@@ -93,7 +95,7 @@ pub fn ends(asked: &mut Asked, random: &mut Random, which: usize) {
 
 /// OrderQty, which has a range in a New Order alone.
 pub fn quantities(asked: &mut Asked, random: &mut Random) {
-    for which in [NEW_ORDER, ACKNOWLEDGMENT, EXECUTION] {
+    for which in [NEW_ORDER, ACKNOWLEDGMENT, EXECUTION, ORDER_REJECTED] {
         let mut sample = Sample::least(random, which);
         if which != NEW_ORDER {
             sample.select("OrderQty");
@@ -121,7 +123,7 @@ pub fn quantities(asked: &mut Asked, random: &mut Random) {
 }
 
 pub fn reserved_bytes(asked: &mut Asked, random: &mut Random) {
-    for which in [ACKNOWLEDGMENT, EXECUTION] {
+    for which in [ACKNOWLEDGMENT, EXECUTION].into_iter().chain(REJECTED) {
         let mut sample = Sample::least(random, which);
         for byte in [0, 1, 10, 31, 32, 44, 64, 65, 127, 128, 255] {
             sample.value("Reserved")[0] = byte;

@@ -2,11 +2,12 @@
 
 use super::unused;
 use crate::questions::bitfields::faults::{sets, small_with};
-use crate::questions::bitfields::sample::{identifier, Sample, COUNT_PLACE, SIZE};
+use crate::questions::bitfields::sample::{identifier, Sample};
 use crate::questions::order::numbers;
 use crate::questions::parts::Parts;
 use crate::questions::writing::{line, pattern};
 use crate::random::Random;
+use crate::rules::record::{COUNT_PLACE, SIZE};
 
 /// The numbers that a record can be refused with, in the order of writing.
 const ORDER: [u8; 8] = [4, 5, 7, 8, 9, 10, 12, 13];
@@ -69,13 +70,14 @@ pub fn ask(lines: &mut Vec<String>, random: &mut Random, which: usize) {
 #[cfg(test)]
 mod tests {
     use super::*;
+    use crate::questions::bitfields::sample::TYPES;
     use crate::questions::judged;
 
     /// The first fault in the order is the one that is told, and the buffer stays.
     #[test]
     fn order_of_writing() {
         let mut random = Random::new(121);
-        for which in 0..4 {
+        for which in 0..TYPES {
             for faults in sets(which, &ORDER) {
                 let (direction, record, before) = faulty(&mut random, which, faults);
                 judged::first_fault_written(direction, &record, &before, faults, &ORDER);

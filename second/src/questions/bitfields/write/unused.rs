@@ -1,12 +1,13 @@
 //! Places of a record that its message does not use.
 
-use crate::questions::bitfields::sample::{
-    Sample, BITFIELDS_PLACE, COUNT_PLACE, FIXED_PLACE, SIZE, SLOTS_PLACE,
-};
+use crate::questions::bitfields::sample::Sample;
 use crate::questions::parts::Parts;
 use crate::questions::writing::add_record;
 use crate::random::Random;
 use crate::rules::layout;
+use crate::rules::record::{
+    BITFIELDS, BITFIELDS_PLACE, COUNT_PLACE, FIXED_PLACE, SIZE, SLOTS_PLACE,
+};
 use std::collections::BTreeSet;
 
 /// The places of a record that a sample's message does not use, in runs that belong together.
@@ -44,7 +45,7 @@ pub fn ask(lines: &mut Vec<String>, random: &mut Random, which: usize) {
         }
     }
     // Past the count, listed bits and others are alike, whether their fields are there or not.
-    for byte in sample.bitfields.len() + 1..=15 {
+    for byte in sample.bitfields.len() + 1..=BITFIELDS {
         let mut record = sample.record();
         record[BITFIELDS_PLACE + byte - 1] = match layout.listed_bits(byte) {
             0 => 1 << random.below(8),
