@@ -1,12 +1,12 @@
 -- A block judged where it stands: the bitfields without the zeros after them, and the fixed part with the rest of the message after it, are
 -- judged as those of the record. Assumes nothing.
 use mathlib.Core.Path.{_≡_, refl, sym, ap, ap₂, _∙_}
-use mathlib.Core.Bool.{Bool, true, false, cond, not, _&&_}
+use mathlib.Core.Bool.{Bool, true, false, cond, _&&_}
 use mathlib.Core.List.{List, [], _∷_, _++_, append-assoc}
 use Prim.Native.Nat.{ℕ, zero, suc, _+_, _*_, _-_, _/_, _%_, _≤_, _<_}
 use native.Mathlib.Nat.{zero-add}
 use native.Mathlib.Omega.{arith}
-use lib.Dec.{ltb, eqb, leb}
+use lib.Dec.{ltb, eqb}
 use lib.ListN.{length, getD, take, drop, length-append, length-drop, take-append-drop, List·getD-append}
 use lib.Seq.{length-take-le, take-append-le, drop-append-le, getD-take}
 use borrow.Author.Tests.{eq-eqb, eqb-true}

@@ -1,6 +1,6 @@
 -- What is true of a record's bytes as they are stored: the head, the parts that make up a record, and a record loaded from any bytes or stored in any
 -- buffer. Assumes nothing.
-use mathlib.Core.Path.{_≡_, refl, ap₂, _∙_}
+use mathlib.Core.Path.{_≡_, ap₂, _∙_}
 use mathlib.Core.List.{List, [], _∷_}
 use Prim.Native.Nat.{ℕ, _≤_, _<_}
 use native.Mathlib.Omega.{arith}

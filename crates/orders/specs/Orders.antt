@@ -1,7 +1,7 @@
 -- Reading and writing a message with bitfields. Definitions alone. Assumes nothing.
 use Prim.Native.Nat.{ℕ, _+_, _-_}
 use mathlib.Core.Bool.{Bool, cond, not, _&&_, _||_}
-use mathlib.Core.List.{List, [], _∷_, _++_}
+use mathlib.Core.List.{List, _∷_, _++_}
 use lib.Dec.{leb, ltb, eqb}
 use lib.ListN.{length, getD, take, drop}
 use Rattle.refusals.specs.Names.{unknownType, badUnit, wrongTotal, tooManyBitfields, unlistedBit, notSelected, badValue, notZero, noRoom}

@@ -1,6 +1,6 @@
 -- How the session's calls go on, stage by stage. Assumes nothing.
 use mathlib.Core.Path.{_≡_, refl, sym, ap, ap₂, _∙_}
-use mathlib.Core.Bool.{Bool, true, false, cond, _||_, true≢false}
+use mathlib.Core.Bool.{Bool, true, false, cond, _||_}
 use mathlib.Core.List.{List}
 use Prim.Native.Nat.{ℕ}
 use native.Mathlib.Omega.{arith}
@@ -19,8 +19,7 @@ use Rattle.messages.specs.Messages.{carries, isSession, ownRefusal, readRefusal
 use Rattle.book.specs.declared.Book.{Book}
 use Rattle.book.specs.Books as books
 use Rattle.book.specs.Books.{pickAnswer, appendRefusal, appendedBy, appendOf, appendBuffer, closeBuffer}
-use Rattle.session.specs.declared.Phase.{Phase}
-use Rattle.session.specs.declared.Phase.the-variants.{Closed, Asked, Replaying, Live}
+use Rattle.session.specs.declared.Phase.the-variants.{Asked, Replaying, Live}
 use Rattle.session.specs.declared.Session.{Session}
 use Rattle.session.specs.declared.Answer.{Answer}
 use Rattle.session.specs.Sessions.{pickSession, answer, answered, inPhase, withBook, isClosed, isOpen, passes, endedBy, brokenBy, brokenBuffer, respondedBy, respondedBuffer, statusIn, receivedIn, receiveRefusal, receivedBy, receiveOf, receivedBuffer, receiveBuffer, loginRefusal, loginOf, loginOut, heartbeatRecord, heartbeatRefusal, heartbeatOf, heartbeatOut}

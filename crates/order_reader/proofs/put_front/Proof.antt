@@ -6,7 +6,7 @@ use Rattle.orders.specs.Shapes.{countAt}
 use Rattle.order_reader.specs.Stages.{frontBytes}
 use Rattle.order_reader.proofs.Fronts.{body-long}
 use mathlib.Core.Path.{refl, ap₂, _∙_}
-use mathlib.Core.List.{List, _∷_, _++_}
+use mathlib.Core.List.{_∷_, _++_}
 use Prim.Native.Nat.{ℕ, _-_}
 use lib.ListN.{length, take, drop}
 use native.Mathlib.Omega.{arith}

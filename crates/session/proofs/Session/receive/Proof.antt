@@ -1,5 +1,4 @@
 -- `session::Session::receive` meets its contract. Assumes nothing.
-use Rattle.session.specs.declared.Answer.{Answer}
 use Rattle.session.specs.Sessions.{receivedWith}
 use Rattle.session.specs.ReadingLaws.{told-by, after-is-receive}
 use mathlib.Core.Path.{sym, ap₂, _∙_}
