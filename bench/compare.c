@@ -122,3 +122,19 @@ void compare_damaged(const struct workload *w) {
     }
     ask_pairs(w, "the writers differ on two damages", proved_write, base_write, w->record, RECORD, BOE_ORDER_RECORD_LEN);
 }
+
+void compare_ids(void) {
+    const struct workload *none = &workloads[WORKLOADS + REJECTIONS + ORDERS - 1];
+    static struct workload w;
+    enum { IDS_AT = 14 };
+    for (unsigned ids = 0; ids < (LONGEST - none->total) / BOE_RISK_GROUP_ID_LEN; ids++) {
+        w.name = none->name;
+        w.total = 0;
+        add(&w, (const char *)none->message, IDS_AT, IDS_AT);
+        w.message[IDS_AT - 1] = (uint8_t)ids;
+        add(&w, "\xBF\xBE", ids > 0 ? 2 : 0, BOE_RISK_GROUP_ID_LEN * ids);
+        add(&w, (const char *)none->message + IDS_AT, none->total - IDS_AT, none->total - IDS_AT);
+        finish(&w);
+        ask(&w, "the readers differ on RiskGroupIDs", proved_read, base_read, BOE_FROM_MEMBER, w.message, w.total, RECORD);
+    }
+}

@@ -19,4 +19,7 @@ void compare_good(struct workload *w);
  * message, which the plain C does not know. */
 void compare_damaged(const struct workload *w);
 
+/* The same of the readers on Purge Orders with more and more RiskGroupIDs, and a total that agrees: what a changed byte alone does not make. */
+void compare_ids(void);
+
 #endif

@@ -1,9 +1,9 @@
-/* The messages a to e, and the three rejections. */
+/* The messages a to e, j and k, the three rejections, and four more orders. */
 #include "messages.h"
 
 #include <string.h>
 
-struct workload workloads[WORKLOADS + REJECTIONS];
+struct workload workloads[WORKLOADS + REJECTIONS + ORDERS];
 
 void add(struct workload *w, const char *bytes, size_t n, size_t width) {
     memcpy(w->message + w->total, bytes, n);
@@ -119,8 +119,29 @@ void make_workloads(void) {
     ADD("\x78", 4);
     finish(w);
 
+    /* j: 000's Modify Order, table 29 */
+    w = start(5, "j", 0);
+    ADD("\xBA\xBA\x00\x00\x3A\x00\x64\x00\x00\x00", 10);
+    ADD("ABC124", 20);
+    ADD("ABC123", 20);
+    ADD("\x01\x0C", 2);
+    ADD("\xE0\x2E", 4);
+    ADD("\x08\xE2\x01", 8);
+    finish(w);
+
+    /* k: 000's Purge Orders by symbol, table 32, with the length of its bytes */
+    w = start(6, "k", 0);
+    ADD("\xBA\xBA\x00\x00\x47\x00\x64\x00\x00\x00", 10);
+    ADD("\x00\x02\x15\x01", 4);
+    ADD("\x00", 1);
+    ADD("TEST", 4);
+    ADD("FSL", 16);
+    ADD("ABC123", 20);
+    ADD("ABCDE", 8);
+    finish(w);
+
     /* Order Rejected with 19 bitfields and all listed bits, its texts filled */
-    w = start(5, "Order Rejected", 1);
+    w = start(7, "Order Rejected", 1);
     ADD("\xBA\xBA\x00\x00\x26\x00\x00\x00\x00\x00", 10);
     ADD("\xE0\xFA\x20\xF7\x36\x71\xF8\x11", 8);
     ADD("ABCDEFGHIJ0123456789", 20);
@@ -157,7 +178,7 @@ void make_workloads(void) {
     finish(w);
 
     /* Cancel Rejected with all listed bits */
-    w = start(6, "Cancel Rejected", 1);
+    w = start(8, "Cancel Rejected", 1);
     ADD("\xBA\xBA\x00\x00\x2B\x00\x00\x00\x00\x00", 10);
     ADD("\xE0\xFA\x20\xF7\x36\x71\xF8\x11", 8);
     ADD("ABC123", 20);
@@ -179,12 +200,61 @@ void make_workloads(void) {
     finish(w);
 
     /* User Modify Rejected, which lists no bit, with two bitfields */
-    w = start(7, "User Modify Rejected", 1);
+    w = start(9, "User Modify Rejected", 1);
     ADD("\xBA\xBA\x00\x00\x29\x00\x00\x00\x00\x00", 10);
     ADD("\xE0\xFA\x20\xF7\x36\x71\xF8\x11", 8);
     ADD("ABC123", 20);
     ADD("P", 1);
     ADD("Pending", 60);
     ADD("\x00\x02\x00\x00", 2 + 2);
+    finish(w);
+
+    /* Modify Order with all listed bits, its texts filled */
+    w = start(10, "Modify Order", 0);
+    ADD("\xBA\xBA\x00\x00\x3A\x00\x64\x00\x00\x00", 10);
+    ADD("ABCDEFGHIJ0123456789", 20);
+    ADD("9876543210JIHGFEDCBA", 20);
+    ADD("\x02\xFD\x83", 3);
+    ADD("TEST", 4);         /* ClearingFirm */
+    ADD("\xE0\x2E", 4);     /* OrderQty */
+    ADD("\x08\xE2\x01", 8); /* Price */
+    ADD("2", 1);            /* OrdType */
+    ADD("Y", 1);            /* CancelOrigOnReject */
+    ADD("G", 1);            /* ExecInst */
+    ADD("1", 1);            /* Side */
+    ADD("\xC8", 4);         /* MaxFloor */
+    ADD("\x44\xD6\x12", 8); /* StopPx */
+    ADD("ABCD", 4);         /* LocateBroker */
+    finish(w);
+
+    /* Modify Order without Price, its identifiers a character each */
+    w = start(11, "Modify Order at the market", 0);
+    ADD("\xBA\xBA\x00\x00\x3A\x00\x64\x00\x00\x00", 10);
+    ADD("2", 20);
+    ADD("1", 20);
+    ADD("\x01\x14", 2);
+    ADD("\xE0\x2E", 4); /* OrderQty */
+    ADD("1", 1);        /* OrdType */
+    finish(w);
+
+    /* Purge Orders with ten RiskGroupIDs and all listed bits, its texts filled */
+    w = start(12, "Purge Orders", 0);
+    ADD("\xBA\xBA\x00\x00\x47\x00\x64\x00\x00\x00", 10);
+    ADD("\x5A\x02\x15\x83", 4);
+    ADD("\x0A\xBF\xBE\xC0\xBE", 1 + 18);
+    ADD("\xC1\xBE", 2);
+    ADD("TEST", 4);                  /* ClearingFirm */
+    ADD("FBLNNNNNNNNNNNNN", 16);     /* MassCancelInst */
+    ADD("A text as an id, 20.", 20); /* MassCancelID */
+    ADD("MSFTMSFT", 8);              /* Symbol */
+    ADD("SUFFIXES", 8);              /* SymbolSfx */
+    ADD("\x00", 1);                  /* MatchingUnit */
+    finish(w);
+
+    /* Purge Orders with MassCancelInst alone, a character, and no RiskGroupIDs */
+    w = start(13, "Purge Orders by its instruction alone", 0);
+    ADD("\xBA\xBA\x00\x00\x47\x00\x64\x00\x00\x00", 10);
+    ADD("\x00\x01\x04\x00", 4);
+    ADD("A", 16);
     finish(w);
 }

@@ -1,10 +1,10 @@
-/* The five counted messages, and three that are compared alone. */
+/* The seven counted messages, and seven that are compared alone. */
 #ifndef MESSAGES_H
 #define MESSAGES_H
 
 #include "boe.h"
 
-enum { RECORD = BOE_RECORD_LEN, LONGEST = 512, FILLING = 0xEE, WORKLOADS = 5, REJECTIONS = 3 };
+enum { RECORD = BOE_RECORD_LEN, LONGEST = 512, FILLING = 0xEE, WORKLOADS = 7, REJECTIONS = 3, ORDERS = 4 };
 
 struct workload {
     const char *name;
@@ -14,8 +14,9 @@ struct workload {
     uint8_t record[RECORD];
 };
 
-/* a to e, and the three rejections, which are not counted; their records are made by compare_good. */
-extern struct workload workloads[WORKLOADS + REJECTIONS];
+/* a to e, j and k; then the three rejections, and two each of Modify Order and Purge Orders, which are not counted. Their records are made by
+ * compare_good. */
+extern struct workload workloads[WORKLOADS + REJECTIONS + ORDERS];
 
 void make_workloads(void);
 

@@ -5,7 +5,8 @@ static const char *const names[BOE_REFUSALS + 1] = {
 #define NAME(name) [BOE_##name] = #name
     NAME(BAD_START), NAME(BAD_LENGTH), NAME(INCOMPLETE), NAME(UNKNOWN_TYPE), NAME(BAD_UNIT), NAME(WRONG_TOTAL), NAME(TOO_MANY_BITFIELDS),
     NAME(UNLISTED_BIT), NAME(NOT_SELECTED), NAME(BAD_VALUE), NAME(BAD_GROUP), NAME(NOT_ZERO), NAME(NO_ROOM), NAME(ALREADY_TAKEN), NAME(GAP),
-    NAME(OUT_OF_PHASE), NAME(OTHER_DATE), NAME(BAD_BOOK), NAME(NOT_A_DAY), NAME(NUMBERS_USED_UP), NAME(OLD_NUMBER), NAME(NO_FIRST_MARK)};
+    NAME(OUT_OF_PHASE), NAME(OTHER_DATE), NAME(BAD_BOOK), NAME(NOT_A_DAY), NAME(NUMBERS_USED_UP), NAME(OLD_NUMBER), NAME(NO_FIRST_MARK),
+    NAME(CONFLICT)};
 
 const char *refusal_name(uint32_t refusal) { return names[BOE_NUMBER(refusal)]; }
 
@@ -13,7 +14,8 @@ const char *refusal_name(uint32_t refusal) { return names[BOE_NUMBER(refusal)]; 
 enum { FURTHER = 4 };
 
 /* The fields of each type in the order of the message, with the protocol's names: the fixed ones that can be bad, and all optional ones, since
- * each moves those after it. A fixed one has its place, an optional one its bitfield byte, its bit and its width. */
+ * each moves those after it. A fixed one has its place, an optional one its bitfield byte, its bit and its width. RiskGroupIDCnt has none of these:
+ * it stands behind the bitfields, and its ids after it. */
 static const struct field {
     uint8_t type, place, byte, bit, len;
     const char *name;
@@ -43,6 +45,14 @@ static const struct field {
     FIELD(NEW_ORDER, DISPLAY_RANGE, "DisplayRange"), FIELD(NEW_ORDER, STOP_PX, "StopPx"), FIELD(NEW_ORDER, EX_DESTINATION, "ExDestination"),
     FIELD(NEW_ORDER, ECHO_TEXT, "EchoText"), FIELD(NEW_ORDER, LOCATE_BROKER, "LocateBroker"),
     FIXED(CANCEL_ORDER, ORIG_CL_ORD_ID, "OrigClOrdID"), FIELD(CANCEL_ORDER, CLEARING_FIRM, "ClearingFirm"),
+    FIXED(MODIFY_ORDER, CL_ORD_ID, "ClOrdID"), FIXED(MODIFY_ORDER, ORIG_CL_ORD_ID, "OrigClOrdID"),
+    FIELD(MODIFY_ORDER, CLEARING_FIRM, "ClearingFirm"), FIELD(MODIFY_ORDER, ORDER_QTY, "OrderQty"), FIELD(MODIFY_ORDER, PRICE, "Price"),
+    FIELD(MODIFY_ORDER, ORD_TYPE, "OrdType"), FIELD(MODIFY_ORDER, CANCEL_ORIG_ON_REJECT, "CancelOrigOnReject"),
+    FIELD(MODIFY_ORDER, EXEC_INST, "ExecInst"), FIELD(MODIFY_ORDER, SIDE, "Side"), FIELD(MODIFY_ORDER, MAX_FLOOR, "MaxFloor"),
+    FIELD(MODIFY_ORDER, STOP_PX, "StopPx"), FIELD(MODIFY_ORDER, LOCATE_BROKER, "LocateBroker"),
+    {BOE_PURGE_ORDERS, 0, 0, 0, 0, "RiskGroupIDCnt"}, FIELD(PURGE_ORDERS, CLEARING_FIRM, "ClearingFirm"),
+    FIELD(PURGE_ORDERS, MASS_CANCEL_INST, "MassCancelInst"), FIELD(PURGE_ORDERS, MASS_CANCEL_ID, "MassCancelID"),
+    FIELD(PURGE_ORDERS, SYMBOL, "Symbol"), FIELD(PURGE_ORDERS, SYMBOL_SFX, "SymbolSfx"), FIELD(PURGE_ORDERS, MATCHING_UNIT, "MatchingUnit"),
     FIXED(ACKNOWLEDGMENT, CL_ORD_ID, "ClOrdID"), VENUE_FIELDS(ACKNOWLEDGMENT), FIELD(ACKNOWLEDGMENT, LEAVES_QTY, "LeavesQty"),
     FIELD(ACKNOWLEDGMENT, LAST_SHARES, "LastShares"), FIELD(ACKNOWLEDGMENT, LAST_PX, "LastPx"), FIELD(ACKNOWLEDGMENT, EXPIRE_TIME, "ExpireTime"),
     FIXED(EXECUTION, CL_ORD_ID, "ClOrdID"), FIXED(EXECUTION, BASE_LIQUIDITY_INDICATOR, "BaseLiquidityIndicator"),
@@ -69,6 +79,8 @@ static unsigned count_place(uint8_t type) {
     switch (type) {
     case BOE_NEW_ORDER: return 35;
     case BOE_CANCEL_ORDER: return 30;
+    case BOE_MODIFY_ORDER: return 50;
+    case BOE_PURGE_ORDERS: return 11;
     case BOE_ACKNOWLEDGMENT: return 47;
     case BOE_EXECUTION: return 69;
     case BOE_REJECTION:
@@ -78,17 +90,29 @@ static unsigned count_place(uint8_t type) {
     }
 }
 
-/* The field that begins at a place of a message. The count byte and the bitfields are given: `count[n]` is bitfield n. The optional fields stand
- * one after the other behind the bitfields, in the order of the set bits. */
-static const char *field_at(unsigned place, uint8_t type, const uint8_t *count) {
-    unsigned next = count_place(type) + 1;
+/* What is refused, a message or a record: its type and its bytes, and where in these the count of bitfields stands and, in a Purge Orders,
+ * RiskGroupIDCnt. */
+struct source {
+    uint8_t type;
+    const uint8_t *bytes;
+    size_t count_at, ids_at;
+};
+
+/* The field that begins at a place of a message. The bitfields stand behind their count. The optional fields stand one after the other behind
+ * the bitfields, and behind the RiskGroupIDs where there are any, in the order of the set bits. */
+static const char *field_at(unsigned place, const struct source *from) {
+    const uint8_t *count = from->bytes + from->count_at;
+    unsigned next = count_place(from->type) + 1u + *count;
     for (size_t i = 0; i < sizeof fields / sizeof *fields; i++) {
         const struct field *f = &fields[i];
-        if (f->type != type) continue;
-        if (f->byte == 0) {
+        if (f->type != from->type) continue;
+        if (f->place) {
             if (f->place == place) return f->name;
+        } else if (f->byte == 0) {
+            if (next == place) return f->name;
+            next += 1u + BOE_RISK_GROUP_ID_LEN * from->bytes[from->ids_at];
         } else if (f->byte <= *count && count[f->byte] & f->bit) {
-            if (next + *count == place) return f->name;
+            if (next == place) return f->name;
             next += f->len;
         }
     }
@@ -96,11 +120,11 @@ static const char *field_at(unsigned place, uint8_t type, const uint8_t *count) 
 }
 
 /* The place of a refusal other than 6, and what is there. */
-static void print_place(FILE *to, uint32_t refusal, uint8_t type, const uint8_t *count) {
-    unsigned place = BOE_PLACE(refusal), bitfield = place - count_place(type);
+static void print_place(FILE *to, uint32_t refusal, const struct source *from) {
+    unsigned place = BOE_PLACE(refusal), bitfield = place - count_place(from->type);
     fprintf(to, " at byte %u, ", place);
     if (BOE_NUMBER(refusal) == BOE_BAD_VALUE)
-        fprintf(to, "%s", field_at(place, type, count));
+        fprintf(to, "%s", field_at(place, from));
     else if (bitfield == 0)
         fprintf(to, "the count of bitfields");
     else
@@ -109,13 +133,17 @@ static void print_place(FILE *to, uint32_t refusal, uint8_t type, const uint8_t 
 
 void print_refused(FILE *to, uint32_t refusal, const uint8_t *message) {
     fprintf(to, "%u %s", BOE_NUMBER(refusal), refusal_name(refusal));
-    if (BOE_NUMBER(refusal) == BOE_WRONG_TOTAL)
+    if (BOE_NUMBER(refusal) == BOE_WRONG_TOTAL) {
         fprintf(to, " at byte %u, the end", BOE_PLACE(refusal));
-    else if (BOE_PLACE(refusal))
-        print_place(to, refusal, message[4], message + count_place(message[4]));
+    } else if (BOE_PLACE(refusal)) {
+        size_t count_at = count_place(message[4]);
+        print_place(to, refusal, &(struct source){message[4], message, count_at, count_at + 1 + message[count_at]});
+    }
 }
 
 void print_unwritten(FILE *to, uint32_t refusal, const struct boe_record *record) {
+    uint8_t type = record->bytes[BOE_RECORD_TYPE_AT];
     fprintf(to, "%u %s", BOE_NUMBER(refusal), refusal_name(refusal));
-    if (BOE_PLACE(refusal)) print_place(to, refusal, record->bytes[BOE_RECORD_TYPE_AT], record->bytes + BOE_RECORD_COUNT_AT);
+    if (BOE_PLACE(refusal))
+        print_place(to, refusal, &(struct source){type, record->bytes, BOE_RECORD_COUNT_AT, BOE_PURGE_ORDERS_RISK_GROUP_ID_CNT_AT});
 }

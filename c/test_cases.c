@@ -11,6 +11,16 @@ static const uint8_t new_order[76] = {
 static const uint8_t cancel_order[36] = {
     0xBA, 0xBA, 0x22, 0, 0x39, 0, 0x64, 0, 0, 0, 'A', 'B', 'C', '1', '2', '3', 0, 0, 0, 0, 0, 0, 0, 0, 0, 0, 0, 0, 0, 0,
     1, 0x01, 'T', 'E', 'S', 'T'};
+/* tables 29, 31 and 32; the purges, by RiskGroupID and by symbol, with the lengths of their bytes */
+static const uint8_t modify_order[64] = {
+    0xBA, 0xBA, 0x3E, 0, 0x3A, 0, 0x64, 0, 0, 0, 'A', 'B', 'C', '1', '2', '4', [30] = 'A', 'B', 'C', '1', '2', '3',
+    [50] = 1, 0x0C, 0xE0, 0x2E, 0, 0, 0x08, 0xE2, 0x01};
+static const uint8_t purge_orders[58] = {
+    0xBA, 0xBA, 0x38, 0, 0x47, 0, 0x64, 0, 0, 0, 0, 1, 0x15, 2, 0xBF, 0xBE, 0xC0, 0xBE, 'T', 'E', 'S', 'T', 'F', 'S', 'L',
+    [38] = 'A', 'B', 'C', '1', '2', '3'};
+static const uint8_t purge_symbol[63] = {
+    0xBA, 0xBA, 0x3D, 0, 0x47, 0, 0x64, 0, 0, 0, 0, 2, 0x15, 0x01, 0, 'T', 'E', 'S', 'T', 'F', 'S', 'L',
+    [35] = 'A', 'B', 'C', '1', '2', '3', [55] = 'A', 'B', 'C', 'D', 'E'};
 static const uint8_t acknowledgment[80] = {
     0xBA, 0xBA, 0x4E, 0, 0x25, 0x03, 0x64, 0, 0, 0, 0xE0, 0xFA, 0x20, 0xF7, 0x36, 0x71,
     0xF8, 0x11, 0x41, 0x42, 0x43, 0x31, 0x32, 0x33, 0, 0, 0, 0, 0, 0, 0, 0,
@@ -176,6 +186,364 @@ static void messages(void) {
     check(boe_write(BOE_FROM_MEMBER, &record, sizeof record, out, sizeof out) == refused_at(BOE_NOT_SELECTED, 38), "Symbol is required");
 }
 
+/* ---- the optional fields by their names */
+
+/* In the order of the message. */
+struct optional {
+    uint16_t at;
+    uint8_t len, byte, bit;
+};
+#define OPTIONAL(message, name) \
+    {BOE_##message##_##name##_AT, BOE_##message##_##name##_LEN, BOE_##message##_##name##_BYTE, BOE_##message##_##name##_BIT}
+#define COUNT_OF(array) (sizeof array / sizeof *array)
+
+/* The record of an example without its fields, and with so many bitfields. */
+static struct boe_record without_fields(uint8_t direction, const uint8_t *message, size_t len, uint8_t bitfields) {
+    struct boe_record bare;
+    check(boe_read(direction, message, len, &bare, sizeof bare) == 0, "an example");
+    memset(bare.bytes + BOE_RECORD_COUNT_AT, 0, sizeof bare - BOE_RECORD_COUNT_AT);
+    bare.bytes[BOE_RECORD_COUNT_AT] = bitfields;
+    return bare;
+}
+
+static uint8_t *bitfield_of(struct boe_record *record, const struct optional *f) { return record->bytes + BOE_RECORD_BITFIELDS_AT + f->byte - 1; }
+
+/* A record that has the required fields alone, and the place of the first: each other field is tried without its bit, which is 12, and with it. Then
+ * all of them: each stands where the widths before it put it, the message reads back, and a byte less of room is 13. Answers this message's
+ * length. */
+static size_t by_name(uint8_t direction, struct boe_record bare, size_t first, const struct optional *fields, size_t count) {
+    struct boe_record record = bare, some, back;
+    uint8_t out[600];
+    size_t place = first, slot = BOE_RECORD_FIELDS_AT, before = first, least = first;
+    for (size_t i = 0; i < count; i++)
+        if (*bitfield_of(&bare, &fields[i]) & fields[i].bit) least += fields[i].len;
+    for (size_t i = 0; i < count; i++) {
+        const struct optional *f = &fields[i];
+        check(f->at == slot, "the fields fill the full layout, in their order");
+        slot += f->len;
+        memset(record.bytes + f->at, 'A' + (int)i, f->len);
+        *bitfield_of(&record, f) |= f->bit;
+        if (*bitfield_of(&bare, f) & f->bit) {
+            before += f->len;
+            continue;
+        }
+
+        some = bare;
+        memset(some.bytes + f->at, 'A' + (int)i, f->len);
+        check(boe_write(direction, &some, sizeof some, out, sizeof out) == BOE_NOT_ZERO, "a field without its bit");
+        *bitfield_of(&some, f) |= f->bit;
+        check(boe_write(direction, &some, sizeof some, out, sizeof out) == 0, "a field with its bit");
+        check(boe_frame_length(out, sizeof out) == least + f->len, "is so much longer");
+        check(all_are(out + before, f->len, (uint8_t)('A' + i)), "and has it behind the required ones before it");
+    }
+    size_t total = first + slot - BOE_RECORD_FIELDS_AT;
+    memset(out, 0x5A, sizeof out);
+    check(boe_write(direction, &record, BOE_ORDER_RECORD_LEN, out, total - 1) == BOE_NO_ROOM && all_are(out, sizeof out, 0x5A), "one byte short");
+    check(boe_write(direction, &record, BOE_ORDER_RECORD_LEN, out, total) == 0, "all fields");
+    check(boe_frame_length(out, sizeof out) == total && all_are(out + total, sizeof out - total, 0x5A), "their widths, and no byte more");
+    for (size_t i = 0; i < count; place += fields[i++].len) check(all_are(out + place, fields[i].len, (uint8_t)('A' + i)), "each at its place");
+    check(boe_read(direction, out, total, &back, sizeof back) == 0, "read again");
+    check(memcmp(back.bytes, record.bytes, BOE_ORDER_RECORD_LEN) == 0, "as they were");
+    return total;
+}
+
+/* ---- Modify Order and Purge Orders */
+
+/* The rest of an order from its count byte on, with zeros up to the total, and how it is refused. */
+struct rest {
+    const char *bytes;
+    size_t len, total;
+    enum boe_refusal number;
+    unsigned place;
+    const char *what;
+};
+#define REST(bytes, ...) {bytes, sizeof bytes - 1, __VA_ARGS__}
+
+static const struct rest modified[] = {
+#define QTY "\xE0\x2E\0\0"
+#define PX "\x08\xE2\x01\0\0\0\0\0"
+    REST("\x01\x0C" QTY PX, 64, 0, 0, "OrderQty and Price"),
+    REST("\x01\x14" QTY "1", 57, 0, 0, "no Price, at the market"),
+    REST("\x01\x14" QTY "2", 57, BOE_NOT_SELECTED, 51, "no Price, and another OrdType"),
+    REST("\x01\x14" QTY "\0", 57, BOE_NOT_SELECTED, 51, "no Price, and a blank OrdType"),
+    REST("\x01\x14" QTY "-", 57, BOE_BAD_VALUE, 56, "10 comes before the late 9"),
+    REST("\x01\x14" QTY "2", 58, BOE_WRONG_TOTAL, 58, "6 too"),
+    REST("\x01\x04" QTY, 56, BOE_NOT_SELECTED, 51, "neither Price nor OrdType"),
+    REST("\x01\x04" QTY, 59, BOE_NOT_SELECTED, 51, "this 9 comes before 6"),
+    REST("\x01\x18" PX "1", 61, BOE_NOT_SELECTED, 51, "no OrderQty"),
+    REST("\x01\x1C" QTY PX "1", 65, 0, 0, "Price, at the market"),
+    REST("\x01\x1C" QTY PX "2", 65, 0, 0, "Price, and another OrdType"),
+    REST("\x01\x0C", 64, 0, 0, "no shares, and no price"),
+    REST("\x01\x0C\xFF\xFF\xFF\xFF", 64, 0, 0, "OrderQty has no range"),
+    REST("\x01\x94" QTY "1", 58, 0, 0, "Side may be blank"),
+    REST("\x01\x8C" QTY PX "1", 65, 0, 0, "Side has digits"),
+    REST("\x01\x8C" QTY PX "-", 65, BOE_BAD_VALUE, 64, "and nothing else"),
+    REST("\x01\x4C" QTY PX " ", 65, 0, 0, "ExecInst is a text"),
+    REST("\x01\x4C" QTY PX "\x07", 65, BOE_BAD_VALUE, 64, "of characters"),
+    REST("\x01\x2C" QTY PX "z", 65, 0, 0, "CancelOrigOnReject is a letter"),
+    REST("\x01\x2C" QTY PX "1", 65, BOE_BAD_VALUE, 64, "and no digit"),
+    REST("\x01\x0D" "TES1" QTY PX, 68, BOE_BAD_VALUE, 52, "a ClearingFirm with a digit"),
+    REST("\x02\x0C\x80" QTY PX "ABC1", 69, BOE_BAD_VALUE, 65, "a LocateBroker with a digit"),
+    REST("\x02\x0C\0" QTY PX, 65, 0, 0, "a bitfield of zeros"),
+    REST("\x02\x14\0" QTY "2", 58, BOE_NOT_SELECTED, 52, "the late 9 is at the last bitfield"),
+    REST("\x02\x14\x83" QTY "1", 74, 0, 0, "all of the second bitfield"),
+    REST("\x02\x0C\x04" QTY PX, 69, BOE_UNLISTED_BIT, 52, "an unlisted bit"),
+    REST("\0", 51, BOE_NOT_SELECTED, 50, "no bitfields"),
+    REST("\x03", 54, BOE_TOO_MANY_BITFIELDS, 50, "three bitfields"),
+};
+
+static const struct rest purged[] = {
+#define ALL "A\0\0\0\0\0\0\0\0\0\0\0\0\0\0\0"
+#define TEN_IDS "0123456789ABCDEFGHIJ"
+    REST("\x01\x04\0" "A", 30, 0, 0, "all orders"),
+    REST("\x01\x04\0", 30, BOE_BAD_VALUE, 14, "a blank MassCancelInst"),
+    REST("\x01\x04\0\0AM", 30, BOE_BAD_VALUE, 14, "one that begins with NUL"),
+    REST("\x01\x04\0" " ", 30, 0, 0, "a space is a character"),
+    REST("\x01\x04\0" "A\x07", 30, BOE_BAD_VALUE, 14, "what is no character"),
+    REST("\x01\x14\0" ALL "a b", 50, 0, 0, "MassCancelID is a text"),
+    REST("\x01\x14\0" ALL "\x7F", 50, BOE_BAD_VALUE, 30, "of characters"),
+    REST("\x02\x04\x02\0" ALL "A-", 39, BOE_BAD_VALUE, 31, "a SymbolSfx with a hyphen"),
+    REST("\x01\x04\0" "F", 30, BOE_NOT_SELECTED, 12, "F without ClearingFirm"),
+    REST("\x01\x04\0" "AS", 30, BOE_NOT_SELECTED, 12, "S without MassCancelID"),
+    REST("\x01\x04\0" "AB", 30, BOE_NOT_SELECTED, 12, "B without MassCancelID"),
+    REST("\x01\x04\0" "AML", 30, BOE_CONFLICT, 0, "L without F"),
+    REST("\x01\x04\0" "ASL", 30, BOE_NOT_SELECTED, 12, "the late 9 comes before 23"),
+    REST("\x01\x04\0" "FML", 30, BOE_NOT_SELECTED, 12, "L with F, but without ClearingFirm"),
+    REST("\x01\x04\0" "fsl", 30, 0, 0, "other characters mean nothing"),
+    REST("\x01\x04\0" "XXNFSBL", 30, 0, 0, "nor do those after the third"),
+    REST("\x01\x05\0\0\0\0\0F", 34, 0, 0, "F with a blank ClearingFirm"),
+    REST("\x01\x05\0TESTFML", 34, 0, 0, "L with F"),
+    REST("\x01\x05\0TESTAML", 34, BOE_CONFLICT, 0, "L without F, with ClearingFirm"),
+    REST("\x01\x05\0TESTFS", 34, BOE_NOT_SELECTED, 12, "F with it, and S without MassCancelID"),
+    REST("\x01\x05\0T1STFS", 34, BOE_BAD_VALUE, 14, "10 comes before the late 9"),
+    REST("\x01\x14\0" "AS", 50, 0, 0, "S with a blank MassCancelID"),
+    REST("\x01\x14\0" "AB", 50, 0, 0, "B with it"),
+    REST("\x02\x04\x81\0" ALL "ABC", 40, 0, 0, "Symbol, and unit 0"),
+    REST("\x02\x04\x81\0" ALL "ABC\0\0\0\0\0\x03", 40, BOE_CONFLICT, 0, "Symbol, and unit 3"),
+    REST("\x02\x04\x81\0" ALL "\0\0\0\0\0\0\0\0\x03", 40, BOE_CONFLICT, 0, "a blank Symbol, and unit 3"),
+    REST("\x02\x04\x81\0" ALL "A-C\0\0\0\0\0\x03", 40, BOE_BAD_VALUE, 31, "10 comes before 23"),
+    REST("\x02\x04\x81\0" "F\0\0\0\0\0\0\0\0\0\0\0\0\0\0\0" "ABC\0\0\0\0\0\x03", 40, BOE_NOT_SELECTED, 13, "the late 9 too"),
+    REST("\x02\x04\x82\0" ALL "ABC\0\0\0\0\0\x03", 40, 0, 0, "SymbolSfx, and unit 3"),
+    REST("\x02\x04\x80\0" ALL "\x03", 32, 0, 0, "unit 3 alone"),
+    REST("\x02\x04\x80\0" ALL "\xFF", 32, 0, 0, "any unit"),
+    REST("\x02\x04\x01\x01\xBF\xBE" ALL "ABC", 41, 0, 0, "Symbol, and a RiskGroupID"),
+    REST("\x01\x04\x0A" TEN_IDS ALL, 50, 0, 0, "ten RiskGroupIDs"),
+    REST("\x01\x04\x0B" TEN_IDS "KL" ALL, 52, BOE_BAD_VALUE, 13, "eleven"),
+    REST("\x02\x04\0\x0B" TEN_IDS "KL" ALL, 53, BOE_BAD_VALUE, 14, "eleven, behind two bitfields"),
+    REST("\x01\x04\x0B" TEN_IDS "KL", 52, BOE_BAD_VALUE, 13, "they are told before a later field"),
+    REST("\x01\x04\x0B" TEN_IDS "KL" ALL, 51, BOE_WRONG_TOTAL, 51, "and after the total"),
+    REST("\x01\x04\xFF", 540, BOE_BAD_VALUE, 13, "255"),
+    REST("\x01\x04", 13, BOE_WRONG_TOTAL, 13, "no RiskGroupIDCnt"),
+    REST("\x01\x04\x02\xBF\xBE\xC0", 17, BOE_WRONG_TOTAL, 17, "one and a half of two"),
+    REST("\x01\x01", 13, BOE_NOT_SELECTED, 12, "9 comes before this 6"),
+    REST("\x01\x0C", 13, BOE_UNLISTED_BIT, 12, "8 too"),
+    REST("\0", 12, BOE_NOT_SELECTED, 11, "no bitfields"),
+};
+
+/* An order that has the front of an example before its count byte: how it is refused, and that nothing is stored then; else it is written again as it
+ * was. Into a buffer without room it is refused alike. */
+static void try_rest(const uint8_t *front, size_t count_at, const struct rest *r) {
+    uint8_t bytes[600] = {0}, out[600];
+    struct boe_record record, filled;
+    memcpy(bytes, front, count_at);
+    memcpy(bytes + count_at, r->bytes, r->total - count_at < r->len ? r->total - count_at : r->len);
+    bytes[2] = (uint8_t)((r->total - 2) % 256);
+    bytes[3] = (uint8_t)((r->total - 2) / 256);
+    memset(&filled, 0x5A, sizeof filled);
+    record = filled;
+    uint32_t expected = refused_at(r->number, r->place);
+    check(boe_read(BOE_FROM_MEMBER, bytes, r->total, &record, 0) == (expected ? expected : BOE_NO_ROOM), r->what);
+    check(memcmp(&record, &filled, sizeof record) == 0, "no room, and nothing stored");
+    check(boe_read(BOE_FROM_MEMBER, bytes, r->total, &record, sizeof record) == expected, r->what);
+    if (expected) {
+        check(memcmp(&record, &filled, sizeof record) == 0, "refused, and nothing stored");
+        return;
+    }
+    memset(out, 0x5A, sizeof out);
+    check(boe_write(BOE_FROM_MEMBER, &record, BOE_ORDER_RECORD_LEN, out, sizeof out) == 0, "written again");
+    check(memcmp(out, bytes, r->total) == 0 && all_are(out + r->total, sizeof out - r->total, 0x5A), "as the same bytes, and no byte more");
+}
+
+/* The unit of a member's order is 0; its number is any. No book has it. */
+static void member_header(const uint8_t *message, size_t len) {
+    uint8_t bytes[600], buffer[BOE_MARK_BYTES + 100], out[600];
+    struct boe_record record;
+    struct boe_state state;
+    memcpy(bytes, message, len);
+    bytes[5] = 1;
+    check(boe_read(BOE_FROM_MEMBER, bytes, len, &record, sizeof record) == BOE_BAD_UNIT, "a unit");
+    bytes[5] = 0;
+    memset(bytes + 6, 0xFF, 4);
+    check(boe_read(BOE_FROM_MEMBER, bytes, len, &record, sizeof record) == 0, "any number");
+    check(boe_write(BOE_FROM_MEMBER, &record, sizeof record, out, sizeof out) == 0 && memcmp(out, bytes, len) == 0, "written again");
+    record.bytes[BOE_RECORD_UNIT_AT] = 1;
+    check(boe_write(BOE_FROM_MEMBER, &record, sizeof record, out, sizeof out) == BOE_BAD_UNIT, "its record with a unit");
+    check(boe_book_open(20250819, buffer, sizeof buffer, &state, sizeof state) == 0, "a book is opened");
+    check(boe_book_append(message, len, buffer, sizeof buffer, &state, sizeof state) == BOE_UNKNOWN_TYPE, "an order is not booked");
+}
+
+static const struct optional modify_fields[] = {
+    OPTIONAL(MODIFY_ORDER, CLEARING_FIRM), OPTIONAL(MODIFY_ORDER, ORDER_QTY), OPTIONAL(MODIFY_ORDER, PRICE), OPTIONAL(MODIFY_ORDER, ORD_TYPE),
+    OPTIONAL(MODIFY_ORDER, CANCEL_ORIG_ON_REJECT), OPTIONAL(MODIFY_ORDER, EXEC_INST), OPTIONAL(MODIFY_ORDER, SIDE),
+    OPTIONAL(MODIFY_ORDER, MAX_FLOOR), OPTIONAL(MODIFY_ORDER, STOP_PX), OPTIONAL(MODIFY_ORDER, LOCATE_BROKER)};
+/* MatchingUnit, the last, does not go with Symbol, and is tried by itself. */
+static const struct optional purge_fields[] = {
+    OPTIONAL(PURGE_ORDERS, CLEARING_FIRM), OPTIONAL(PURGE_ORDERS, MASS_CANCEL_INST), OPTIONAL(PURGE_ORDERS, MASS_CANCEL_ID),
+    OPTIONAL(PURGE_ORDERS, SYMBOL), OPTIONAL(PURGE_ORDERS, SYMBOL_SFX)};
+
+/* A number's bytes, the lowest first. */
+static void put(uint8_t *at, unsigned len, uint64_t value) {
+    for (unsigned i = 0; i < len; i++, value >>= 8) at[i] = (uint8_t)value;
+}
+
+/* docs/GUIDE.md's modify: 000's example, field by field. */
+static uint32_t modify_as_told(uint32_t number, uint8_t *out, size_t out_len) {
+    struct boe_record record = {{0}};
+    uint8_t *r = record.bytes;
+    r[BOE_RECORD_TYPE_AT] = BOE_MODIFY_ORDER;
+    put(r + BOE_RECORD_NUMBER_AT, 4, number);
+    memcpy(r + BOE_MODIFY_ORDER_CL_ORD_ID_AT, "ABC124", 6);
+    memcpy(r + BOE_MODIFY_ORDER_ORIG_CL_ORD_ID_AT, "ABC123", 6);
+    r[BOE_RECORD_COUNT_AT] = 1;
+    r[BOE_RECORD_BITFIELDS_AT] = BOE_MODIFY_ORDER_ORDER_QTY_BIT | BOE_MODIFY_ORDER_PRICE_BIT;
+    put(r + BOE_MODIFY_ORDER_ORDER_QTY_AT, BOE_MODIFY_ORDER_ORDER_QTY_LEN, 12000);
+    put(r + BOE_MODIFY_ORDER_PRICE_AT, BOE_MODIFY_ORDER_PRICE_LEN, 123400);
+    return boe_write(BOE_FROM_MEMBER, &record, sizeof record, out, out_len);
+}
+
+static void modifies(void) {
+    uint8_t told[sizeof modify_order];
+    check(modify_as_told(100, told, sizeof told) == 0 && memcmp(told, modify_order, sizeof told) == 0, "the guide's modify is the example");
+    struct boe_record record;
+    uint8_t bytes[sizeof modify_order];
+    again(BOE_FROM_MEMBER, modify_order, sizeof modify_order);
+    member_header(modify_order, sizeof modify_order);
+    for (size_t i = 0; i < COUNT_OF(modified); i++) try_rest(modify_order, 50, &modified[i]);
+    memcpy(bytes, modify_order, sizeof bytes);
+    memset(bytes + 30, 0, 20);
+    check(boe_read(BOE_FROM_MEMBER, bytes, sizeof bytes, &record, sizeof record) == refused_at(BOE_BAD_VALUE, 30), "a blank OrigClOrdID");
+    memset(bytes + 10, 0, 20);
+    check(boe_read(BOE_FROM_MEMBER, bytes, sizeof bytes, &record, sizeof record) == refused_at(BOE_BAD_VALUE, 10), "both blank");
+    check(boe_read(BOE_FROM_MEMBER, modify_order, sizeof modify_order, &record, sizeof record) == 0, "Modify Order");
+    check(record.bytes[BOE_RECORD_TYPE_AT] == BOE_MODIFY_ORDER && record.bytes[BOE_RECORD_COUNT_AT] == 1, "its type and count");
+    check(memcmp(record.bytes + BOE_MODIFY_ORDER_CL_ORD_ID_AT, modify_order + 10, BOE_MODIFY_ORDER_CL_ORD_ID_LEN) == 0, "ClOrdID is at 10");
+    check(memcmp(record.bytes + BOE_MODIFY_ORDER_ORIG_CL_ORD_ID_AT, modify_order + 30, BOE_MODIFY_ORDER_ORIG_CL_ORD_ID_LEN) == 0, "OrigClOrdID is at 30");
+    check(number_at(record.bytes + BOE_MODIFY_ORDER_ORDER_QTY_AT) == 12000, "OrderQty is at 52");
+    check(memcmp(record.bytes + BOE_MODIFY_ORDER_PRICE_AT, modify_order + 56, BOE_MODIFY_ORDER_PRICE_LEN) == 0, "Price is at 56");
+    record = without_fields(BOE_FROM_MEMBER, modify_order, sizeof modify_order, 2);
+    record.bytes[BOE_RECORD_BITFIELDS_AT] = BOE_MODIFY_ORDER_ORDER_QTY_BIT | BOE_MODIFY_ORDER_PRICE_BIT;
+    check(by_name(BOE_FROM_MEMBER, record, 53, modify_fields, COUNT_OF(modify_fields)) == 89, "the longest Modify Order");
+}
+
+/* Tries a record that is refused without a place: nothing is stored, with room or without. */
+static void unwritten(const struct boe_record *record, enum boe_refusal number, const char *what) {
+    uint8_t out[600];
+    memset(out, 0x5A, sizeof out);
+    check(boe_write(BOE_FROM_MEMBER, record, sizeof *record, out, sizeof out) == number, what);
+    check(boe_write(BOE_FROM_MEMBER, record, sizeof *record, out, 0) == number, "it comes before 13");
+    check(all_are(out, sizeof out, 0x5A), "and nothing is stored");
+}
+
+/* In writing selected fields alone speak, and of what is left over 12 comes after 23. */
+static void purge_conflicts(struct boe_record record) {
+    uint8_t *second = record.bytes + BOE_RECORD_BITFIELDS_AT + BOE_PURGE_ORDERS_MATCHING_UNIT_BYTE - 1, out[600];
+    record.bytes[BOE_PURGE_ORDERS_MATCHING_UNIT_AT] = 3;
+    unwritten(&record, BOE_NOT_ZERO, "MatchingUnit without its bit");
+    *second = BOE_PURGE_ORDERS_SYMBOL_BIT;
+    unwritten(&record, BOE_NOT_ZERO, "beside a Symbol that is selected");
+    *second |= BOE_PURGE_ORDERS_MATCHING_UNIT_BIT;
+    unwritten(&record, BOE_CONFLICT, "both selected");
+    record.bytes[BOE_RECORD_COUNT_AT] = 1;
+    unwritten(&record, BOE_NOT_ZERO, "by a bitfield that is past the last");
+    record.bytes[BOE_RECORD_COUNT_AT] = 2;
+    record.bytes[BOE_PURGE_ORDERS_SYMBOL_SFX_AT] = 'A';
+    unwritten(&record, BOE_CONFLICT, "23 comes before 12");
+    *second = BOE_PURGE_ORDERS_MATCHING_UNIT_BIT;
+    unwritten(&record, BOE_NOT_ZERO, "12 for SymbolSfx, without Symbol's bit");
+    record.bytes[BOE_PURGE_ORDERS_SYMBOL_SFX_AT] = 0;
+    record.bytes[BOE_PURGE_ORDERS_MASS_CANCEL_INST_AT + 2] = 'L';
+    record.bytes[BOE_PURGE_ORDERS_MASS_CANCEL_INST_AT + 1] = 'M';
+    unwritten(&record, BOE_CONFLICT, "L without F");
+    record.bytes[BOE_PURGE_ORDERS_MASS_CANCEL_INST_AT + 1] = 'S';
+    check(boe_write(BOE_FROM_MEMBER, &record, sizeof record, out, sizeof out) == refused_at(BOE_NOT_SELECTED, 13), "the late 9 comes before 23");
+    record.bytes[BOE_PURGE_ORDERS_SYMBOL_AT] = 'A';
+    check(boe_write(BOE_FROM_MEMBER, &record, sizeof record, out, sizeof out) == refused_at(BOE_NOT_SELECTED, 13), "and before 12");
+    record.bytes[BOE_PURGE_ORDERS_MASS_CANCEL_INST_AT + 2] = 0x07;
+    check(boe_write(BOE_FROM_MEMBER, &record, sizeof record, out, sizeof out) == refused_at(BOE_BAD_VALUE, 15), "10 comes before it");
+}
+
+/* A Purge Orders of all its fields and so many RiskGroupIDs, made by name. */
+static void purge_by_name(struct boe_record bare, unsigned n) {
+    uint8_t out[600], *bitfields = bare.bytes + BOE_RECORD_BITFIELDS_AT, *ids = bare.bytes + BOE_PURGE_ORDERS_RISK_GROUP_IDS_AT;
+    size_t first = 15 + (size_t)BOE_RISK_GROUP_ID_LEN * n;
+    memset(ids, 0, BOE_RISK_GROUP_IDS_MOST * BOE_RISK_GROUP_ID_LEN);
+    for (unsigned i = 0; i < n; i++) memset(ids + BOE_RISK_GROUP_ID_LEN * i, 0xE0 + (int)i, BOE_RISK_GROUP_ID_LEN);
+    bare.bytes[BOE_PURGE_ORDERS_RISK_GROUP_ID_CNT_AT] = (uint8_t)n;
+    check(by_name(BOE_FROM_MEMBER, bare, first, purge_fields, COUNT_OF(purge_fields)) == first + 56, "all fields but MatchingUnit");
+    if (n) {
+        bare.bytes[BOE_PURGE_ORDERS_RISK_GROUP_ID_CNT_AT]--;
+        unwritten(&bare, BOE_NOT_ZERO, "a RiskGroupID after the last");
+        bare.bytes[BOE_PURGE_ORDERS_RISK_GROUP_ID_CNT_AT]++;
+    }
+
+    bitfields[0] |= BOE_PURGE_ORDERS_CLEARING_FIRM_BIT | BOE_PURGE_ORDERS_MASS_CANCEL_ID_BIT;
+    bitfields[BOE_PURGE_ORDERS_MATCHING_UNIT_BYTE - 1] =
+        BOE_PURGE_ORDERS_SYMBOL_BIT | BOE_PURGE_ORDERS_SYMBOL_SFX_BIT | BOE_PURGE_ORDERS_MATCHING_UNIT_BIT;
+    check(boe_write(BOE_FROM_MEMBER, &bare, sizeof bare, out, sizeof out) == 0, "all fields, the unit 0");
+    check(boe_frame_length(out, sizeof out) == first + 57, "up to 92 bytes, the longest");
+    check(out[10] == 0xA5 && out[14] == n, "the reserved byte as it was, and RiskGroupIDCnt behind the bitfields");
+    for (unsigned i = 0; i < n; i++) check(all_are(out + 15 + BOE_RISK_GROUP_ID_LEN * i, BOE_RISK_GROUP_ID_LEN, (uint8_t)(0xE0 + i)), "each id at its place");
+    bitfields[BOE_PURGE_ORDERS_MATCHING_UNIT_BYTE - 1] = BOE_PURGE_ORDERS_MATCHING_UNIT_BIT;
+    bare.bytes[BOE_PURGE_ORDERS_MATCHING_UNIT_AT] = 33;
+    check(boe_write(BOE_FROM_MEMBER, &bare, sizeof bare, out, sizeof out) == 0, "MatchingUnit without Symbol");
+    check(boe_frame_length(out, sizeof out) == first + 41 && out[first + 40] == 33, "is the last");
+}
+
+static void purges(void) {
+    struct boe_record record, bare;
+    const uint8_t *ids = record.bytes + BOE_PURGE_ORDERS_RISK_GROUP_IDS_AT;
+    again(BOE_FROM_MEMBER, purge_orders, sizeof purge_orders);
+    again(BOE_FROM_MEMBER, purge_symbol, sizeof purge_symbol);
+    member_header(purge_orders, sizeof purge_orders);
+    for (size_t i = 0; i < COUNT_OF(purged); i++) try_rest(purge_orders, 11, &purged[i]);
+    check(boe_read(BOE_FROM_MEMBER, purge_orders, sizeof purge_orders, &record, sizeof record) == 0, "Purge Orders by RiskGroupID");
+    check(record.bytes[BOE_RECORD_TYPE_AT] == BOE_PURGE_ORDERS && record.bytes[BOE_RECORD_COUNT_AT] == 1, "its type and count");
+    check(record.bytes[BOE_PURGE_ORDERS_RISK_GROUP_ID_CNT_AT] == 2 && BOE_PURGE_ORDERS_RISK_GROUP_ID_CNT_LEN == 1, "RiskGroupIDCnt is at 13");
+    check(memcmp(ids, purge_orders + 14, 2 * BOE_RISK_GROUP_ID_LEN) == 0 && all_are(ids + 4, BOE_RECORD_COUNT_AT - 12, 0), "the ids at 14, then zeros");
+    check(ids[BOE_RISK_GROUP_ID_LEN] + 256 * ids[BOE_RISK_GROUP_ID_LEN + 1] == 48832, "the second, its lowest byte first");
+    check(memcmp(record.bytes + BOE_PURGE_ORDERS_CLEARING_FIRM_AT, purge_orders + 18, BOE_PURGE_ORDERS_CLEARING_FIRM_LEN) == 0, "ClearingFirm is at 18");
+    check(memcmp(record.bytes + BOE_PURGE_ORDERS_MASS_CANCEL_INST_AT, purge_orders + 22, BOE_PURGE_ORDERS_MASS_CANCEL_INST_LEN) == 0,
+          "MassCancelInst is at 22");
+    check(memcmp(record.bytes + BOE_PURGE_ORDERS_MASS_CANCEL_ID_AT, purge_orders + 38, BOE_PURGE_ORDERS_MASS_CANCEL_ID_LEN) == 0, "MassCancelID is at 38");
+    check(boe_read(BOE_FROM_MEMBER, purge_symbol, sizeof purge_symbol, &record, sizeof record) == 0, "Purge Orders by symbol");
+    check(all_are(ids - 1, BOE_RECORD_COUNT_AT - 7, 0), "RiskGroupIDCnt is at 14, and there are no ids");
+    check(memcmp(record.bytes + BOE_PURGE_ORDERS_SYMBOL_AT, purge_symbol + 55, BOE_PURGE_ORDERS_SYMBOL_LEN) == 0, "Symbol is at 55");
+
+    bare = without_fields(BOE_FROM_MEMBER, purge_orders, sizeof purge_orders, 2);
+    bare.bytes[BOE_RECORD_FIXED_AT] = 0xA5;
+    bare.bytes[BOE_PURGE_ORDERS_MASS_CANCEL_INST_AT] = 'A';
+    bare.bytes[BOE_RECORD_BITFIELDS_AT] = BOE_PURGE_ORDERS_MASS_CANCEL_INST_BIT;
+    for (unsigned n = 0; n <= BOE_RISK_GROUP_IDS_MOST; n++) purge_by_name(bare, n);
+    memset(bare.bytes + BOE_PURGE_ORDERS_RISK_GROUP_ID_CNT_AT, 0, 1 + BOE_RISK_GROUP_IDS_MOST * BOE_RISK_GROUP_ID_LEN);
+    purge_conflicts(bare);
+}
+
+/* The types that are read from the member. */
+static void member_types(void) {
+    for (unsigned type = 0; type < 256; type++) {
+        uint8_t header[10] = {0xBA, 0xBA, 8, 0, (uint8_t)type};
+        struct boe_record record;
+        int known = type == BOE_NEW_ORDER || type == BOE_CANCEL_ORDER || type == BOE_MODIFY_ORDER || type == BOE_PURGE_ORDERS ||
+                    type == BOE_LOGIN_REQUEST || type == BOE_CLIENT_HEARTBEAT;
+        uint32_t refusal = boe_read(BOE_FROM_MEMBER, header, sizeof header, &record, sizeof record);
+        check((BOE_NUMBER(refusal) != BOE_UNKNOWN_TYPE) == known, "what is read from the member");
+        memset(&record, 0, sizeof record);
+        record.bytes[BOE_RECORD_TYPE_AT] = (uint8_t)type;
+        refusal = boe_write(BOE_FROM_MEMBER, &record, sizeof record, header, 0);
+        check((BOE_NUMBER(refusal) != BOE_UNKNOWN_TYPE) == known, "and written");
+    }
+}
+
 /* ---- rejections */
 
 /* The fixed part of a rejection by the names of its type: each where it is on the wire, and the count after it. */
@@ -193,13 +561,6 @@ static void messages(void) {
         check(at[BOE_RECORD_COUNT_AT] == wire[100], "the count is at 100"); \
     } while (0)
 
-/* The optional fields by their names, in the order of the message. */
-struct optional {
-    uint16_t at;
-    uint8_t len, byte, bit;
-};
-#define OPTIONAL(message, name) \
-    {BOE_##message##_##name##_AT, BOE_##message##_##name##_LEN, BOE_##message##_##name##_BYTE, BOE_##message##_##name##_BIT}
 #define BYTES_1_AND_2(message) \
     OPTIONAL(message, SIDE), OPTIONAL(message, PEG_DIFFERENCE), OPTIONAL(message, PRICE), OPTIONAL(message, EXEC_INST), \
     OPTIONAL(message, ORD_TYPE), OPTIONAL(message, TIME_IN_FORCE), OPTIONAL(message, MIN_QTY), OPTIONAL(message, SYMBOL), \
@@ -213,43 +574,11 @@ static const struct optional rejection_fields[] = {
     OPTIONAL(REJECTION, EX_DESTINATION)};
 static const struct optional cancel_rejection_fields[] = {
     BYTES_1_AND_2(CANCEL_REJECTION), OPTIONAL(CANCEL_REJECTION, ECHO_TEXT), OPTIONAL(CANCEL_REJECTION, STOP_PX)};
-enum { REJECTION_FIELDS = sizeof rejection_fields / sizeof *rejection_fields };
-enum { CANCEL_REJECTION_FIELDS = sizeof cancel_rejection_fields / sizeof *cancel_rejection_fields };
 
-/* A rejection of all its fields and the most bitfields, made by name: each field stands where the widths before it put it, the message reads back,
- * and a byte less of room is 13. Then each field alone, without its bit: 12; and with its bit alone. Answers the longest message's length. */
-static size_t by_name(const uint8_t *message, size_t len, const struct optional *fields, size_t count) {
-    enum { FIRST = 101 + BOE_RECORD_BITFIELDS_LEN };
-    struct boe_record record, bare, some, back;
-    uint8_t out[600];
-    size_t place = FIRST, slot = BOE_RECORD_FIELDS_AT;
-    check(boe_read(BOE_FROM_VENUE, message, len, &bare, sizeof bare) == 0, "a rejection");
-    memset(bare.bytes + BOE_RECORD_COUNT_AT, 0, sizeof bare - BOE_RECORD_COUNT_AT);
-    bare.bytes[BOE_RECORD_COUNT_AT] = BOE_RECORD_BITFIELDS_LEN;
-    record = bare;
-    for (size_t i = 0; i < count; i++) {
-        const struct optional *f = &fields[i];
-        check(f->at == slot, "the fields fill the full layout, in their order");
-        slot += f->len;
-        memset(record.bytes + f->at, 'A' + (int)i, f->len);
-        record.bytes[BOE_RECORD_BITFIELDS_AT + f->byte - 1] |= f->bit;
-
-        some = bare;
-        memset(some.bytes + f->at, 'A' + (int)i, f->len);
-        check(boe_write(BOE_FROM_VENUE, &some, sizeof some, out, sizeof out) == BOE_NOT_ZERO, "a field without its bit");
-        some.bytes[BOE_RECORD_BITFIELDS_AT + f->byte - 1] = f->bit;
-        check(boe_write(BOE_FROM_VENUE, &some, sizeof some, out, sizeof out) == 0, "a field with its bit");
-        check(boe_frame_length(out, sizeof out) == (size_t)FIRST + f->len && all_are(out + FIRST, f->len, (uint8_t)('A' + i)), "is the message's last");
-    }
-    size_t total = FIRST + slot - BOE_RECORD_FIELDS_AT;
-    memset(out, 0x5A, sizeof out);
-    check(boe_write(BOE_FROM_VENUE, &record, BOE_ORDER_RECORD_LEN, out, total - 1) == BOE_NO_ROOM && all_are(out, sizeof out, 0x5A), "one byte short");
-    check(boe_write(BOE_FROM_VENUE, &record, BOE_ORDER_RECORD_LEN, out, total) == 0, "all fields");
-    check(boe_frame_length(out, sizeof out) == total && all_are(out + total, sizeof out - total, 0x5A), "their widths, and no byte more");
-    for (size_t i = 0; i < count; place += fields[i++].len) check(all_are(out + place, fields[i].len, (uint8_t)('A' + i)), "each at its place");
-    check(boe_read(BOE_FROM_VENUE, out, total, &back, sizeof back) == 0, "read again");
-    check(memcmp(back.bytes, record.bytes, BOE_ORDER_RECORD_LEN) == 0, "as they were");
-    return total;
+/* A rejection of all its fields and the most bitfields; none is required. Answers its length. */
+static size_t rejection_by_name(const uint8_t *message, size_t len, const struct optional *fields, size_t count) {
+    struct boe_record bare = without_fields(BOE_FROM_VENUE, message, len, BOE_RECORD_BITFIELDS_LEN);
+    return by_name(BOE_FROM_VENUE, bare, 101 + BOE_RECORD_BITFIELDS_LEN, fields, count);
 }
 
 /* 5 for each byte of unit and number that is not 0, read and written; what comes before it, and what after. */
@@ -369,9 +698,10 @@ static void rejections(void) {
     check(boe_read(BOE_FROM_VENUE, rejection, sizeof rejection, &record, sizeof record) == 0, "Order Rejected");
     check(memcmp(record.bytes + BOE_REJECTION_SYMBOL_AT, rejection + 104, BOE_REJECTION_SYMBOL_LEN) == 0, "Symbol is at 104");
     check(memcmp(record.bytes + BOE_REJECTION_CLEARING_FIRM_AT, rejection + 112, BOE_REJECTION_CLEARING_FIRM_LEN) == 0, "ClearingFirm is at 112");
-    check(by_name(rejection, sizeof rejection, rejection_fields, REJECTION_FIELDS) == 295, "the longest message with bitfields");
+    check(rejection_by_name(rejection, sizeof rejection, rejection_fields, COUNT_OF(rejection_fields)) == 295, "the longest message with bitfields");
     check(BOE_RECORD_FIELDS_AT + BOE_RECORD_FIELDS_LEN == BOE_ORDER_RECORD_LEN, "the full layout ends with the record");
-    check(by_name(cancel_rejection, sizeof cancel_rejection, cancel_rejection_fields, CANCEL_REJECTION_FIELDS) == 233, "Cancel Rejected, all fields");
+    check(rejection_by_name(cancel_rejection, sizeof cancel_rejection, cancel_rejection_fields, COUNT_OF(cancel_rejection_fields)) == 233,
+          "Cancel Rejected, all fields");
     sequenced_units(acknowledgment, sizeof acknowledgment);
     sequenced_units(execution, sizeof execution);
 
@@ -595,6 +925,42 @@ static const struct damage messages_damaged[] = {
     OF_MEMBER(cancel_order, 32, '0', BOE_BAD_VALUE, 32, "ClearingFirm"),
     OF_MEMBER(cancel_order, 30, 3, BOE_TOO_MANY_BITFIELDS, 30, "the count"),
     OF_MEMBER(cancel_order, 31, 3, BOE_UNLISTED_BIT, 31, "the only bitfield"),
+    OF_MEMBER(modify_order, 10, 0, BOE_BAD_VALUE, 10, "ClOrdID"),
+    OF_MEMBER(modify_order, 16, ' ', BOE_BAD_VALUE, 10, "a later byte of ClOrdID"),
+    OF_MEMBER(modify_order, 30, 0, BOE_BAD_VALUE, 30, "OrigClOrdID"),
+    OF_MEMBER(modify_order, 36, ',', BOE_BAD_VALUE, 30, "a comma in OrigClOrdID"),
+    OF_MEMBER(modify_order, 49, 'X', BOE_BAD_VALUE, 30, "OrigClOrdID's last byte, after NULs"),
+    OF_MEMBER(modify_order, 50, 3, BOE_TOO_MANY_BITFIELDS, 50, "the count"),
+    OF_MEMBER(modify_order, 50, 0, BOE_NOT_SELECTED, 50, "no bitfields"),
+    OF_MEMBER(modify_order, 51, 0x0E, BOE_UNLISTED_BIT, 51, "the only bitfield"),
+    OF_MEMBER(modify_order, 51, 0x08, BOE_NOT_SELECTED, 51, "no OrderQty"),
+    OF_MEMBER(modify_order, 51, 0x04, BOE_NOT_SELECTED, 51, "neither Price nor OrdType"),
+    OF_MEMBER(modify_order, 51, 0x14, BOE_WRONG_TOTAL, 64, "OrdType in the place of Price"),
+    OF_MEMBER(modify_order, 2, 0x3F, BOE_WRONG_TOTAL, 65, "a length more by one"),
+    OF_MEMBER(modify_order, 2, 48, BOE_WRONG_TOTAL, 50, "no count byte"),
+    OF_MEMBER(modify_order, 2, 49, BOE_WRONG_TOTAL, 51, "no bitfield of one"),
+    OF_MEMBER(purge_orders, 11, 3, BOE_TOO_MANY_BITFIELDS, 11, "the count"),
+    OF_MEMBER(purge_orders, 11, 0, BOE_NOT_SELECTED, 11, "no bitfields"),
+    OF_MEMBER(purge_orders, 12, 0x17, BOE_UNLISTED_BIT, 12, "the only bitfield"),
+    OF_MEMBER(purge_orders, 12, 0x11, BOE_NOT_SELECTED, 12, "no MassCancelInst"),
+    OF_MEMBER(purge_orders, 11, 2, BOE_WRONG_TOTAL, 58, "RiskGroupIDCnt as a bitfield"),
+    OF_MEMBER(purge_orders, 13, 1, BOE_WRONG_TOTAL, 58, "a RiskGroupID less"),
+    OF_MEMBER(purge_orders, 13, 11, BOE_WRONG_TOTAL, 58, "eleven, which are not there"),
+    OF_MEMBER(purge_orders, 2, 0x29, BOE_WRONG_TOTAL, 43, "000's length"),
+    OF_MEMBER(purge_orders, 2, 9, BOE_WRONG_TOTAL, 11, "no count byte"),
+    OF_MEMBER(purge_orders, 2, 10, BOE_WRONG_TOTAL, 12, "no bitfield of one"),
+    OF_MEMBER(purge_orders, 2, 11, BOE_WRONG_TOTAL, 13, "no RiskGroupIDCnt"),
+    OF_MEMBER(purge_orders, 2, 13, BOE_WRONG_TOTAL, 15, "half a RiskGroupID"),
+    OF_MEMBER(purge_orders, 18, '0', BOE_BAD_VALUE, 18, "ClearingFirm"),
+    OF_MEMBER(purge_orders, 22, 0, BOE_BAD_VALUE, 22, "MassCancelInst"),
+    OF_MEMBER(purge_orders, 37, 'X', BOE_BAD_VALUE, 22, "MassCancelInst's last byte, after NULs"),
+    OF_MEMBER(purge_orders, 38, 0, BOE_BAD_VALUE, 38, "MassCancelID"),
+    OF_MEMBER(purge_orders, 22, 'A', BOE_CONFLICT, 0, "L without F"),
+    OF_MEMBER(purge_symbol, 2, 0x3F, BOE_INCOMPLETE, 0, "000's length"),
+    OF_MEMBER(purge_symbol, 13, 0x05, BOE_UNLISTED_BIT, 13, "the second bitfield"),
+    OF_MEMBER(purge_symbol, 12, 0x11, BOE_NOT_SELECTED, 13, "no MassCancelInst"),
+    OF_MEMBER(purge_symbol, 14, 1, BOE_WRONG_TOTAL, 63, "a RiskGroupID more"),
+    OF_MEMBER(purge_symbol, 55, '-', BOE_BAD_VALUE, 55, "Symbol"),
     OF_VENUE(acknowledgment, 18, 0, BOE_BAD_VALUE, 18, "ClOrdID"),
     OF_VENUE(acknowledgment, 79, '!', BOE_BAD_VALUE, 76, "the last field"),
     OF_VENUE(acknowledgment, 47, 16, BOE_TOO_MANY_BITFIELDS, 47, "the count"),
@@ -646,6 +1012,31 @@ static const struct damage records_damaged[] = {
     OF_MEMBER(new_order, BOE_RECORD_BITFIELDS_AT + 1, 0xC9, BOE_UNLISTED_BIT, 37, "the second bitfield"),
     OF_MEMBER(new_order, BOE_RECORD_BITFIELDS_AT + 1, 0xC0, BOE_NOT_SELECTED, 38, "no Symbol"),
     OF_MEMBER(cancel_order, BOE_CANCEL_ORDER_CLEARING_FIRM_AT, '0', BOE_BAD_VALUE, 32, "ClearingFirm"),
+    OF_MEMBER(modify_order, BOE_MODIFY_ORDER_CL_ORD_ID_AT, 0, BOE_BAD_VALUE, 10, "ClOrdID"),
+    OF_MEMBER(modify_order, BOE_MODIFY_ORDER_ORIG_CL_ORD_ID_AT + 19, 'X', BOE_BAD_VALUE, 30, "OrigClOrdID"),
+    OF_MEMBER(modify_order, BOE_RECORD_COUNT_AT, 3, BOE_TOO_MANY_BITFIELDS, 50, "the count"),
+    OF_MEMBER(modify_order, BOE_RECORD_BITFIELDS_AT, 0x0E, BOE_UNLISTED_BIT, 51, "the only bitfield"),
+    OF_MEMBER(modify_order, BOE_RECORD_BITFIELDS_AT, 0x08, BOE_NOT_SELECTED, 51, "no OrderQty"),
+    OF_MEMBER(modify_order, BOE_RECORD_BITFIELDS_AT, 0x04, BOE_NOT_SELECTED, 51, "neither Price nor OrdType"),
+    OF_MEMBER(modify_order, BOE_RECORD_BITFIELDS_AT, 0x14, BOE_NOT_SELECTED, 51, "no Price and a blank OrdType, before the 12 of Price"),
+    OF_MEMBER(modify_order, BOE_MODIFY_ORDER_ORD_TYPE_AT, '1', BOE_NOT_ZERO, 0, "OrdType, which is not selected"),
+    OF_MEMBER(purge_orders, BOE_RECORD_COUNT_AT, 3, BOE_TOO_MANY_BITFIELDS, 11, "the count"),
+    OF_MEMBER(purge_orders, BOE_RECORD_BITFIELDS_AT, 0x17, BOE_UNLISTED_BIT, 12, "the only bitfield"),
+    OF_MEMBER(purge_orders, BOE_RECORD_BITFIELDS_AT, 0x11, BOE_NOT_SELECTED, 12, "no MassCancelInst"),
+    OF_MEMBER(purge_orders, BOE_RECORD_BITFIELDS_AT, 0x14, BOE_NOT_SELECTED, 12, "F without ClearingFirm, before its 12"),
+    OF_MEMBER(purge_orders, BOE_RECORD_BITFIELDS_AT, 0x05, BOE_NOT_SELECTED, 12, "S without MassCancelID, before its 12"),
+    OF_MEMBER(purge_orders, BOE_PURGE_ORDERS_RISK_GROUP_ID_CNT_AT, 11, BOE_BAD_VALUE, 13, "RiskGroupIDCnt, behind the bitfield"),
+    OF_MEMBER(purge_orders, BOE_PURGE_ORDERS_RISK_GROUP_ID_CNT_AT, 255, BOE_BAD_VALUE, 13, "the greatest RiskGroupIDCnt"),
+    OF_MEMBER(purge_orders, BOE_PURGE_ORDERS_RISK_GROUP_ID_CNT_AT, 1, BOE_NOT_ZERO, 0, "a RiskGroupID after the last"),
+    OF_MEMBER(purge_orders, BOE_PURGE_ORDERS_RISK_GROUP_IDS_AT + 2 * BOE_RISK_GROUP_ID_LEN, 1, BOE_NOT_ZERO, 0, "a third of two"),
+    OF_MEMBER(purge_orders, BOE_RECORD_COUNT_AT - 1, 1, BOE_NOT_ZERO, 0, "the fixed part's last byte"),
+    OF_MEMBER(purge_orders, BOE_PURGE_ORDERS_MASS_CANCEL_INST_AT, 0, BOE_BAD_VALUE, 22, "MassCancelInst"),
+    OF_MEMBER(purge_orders, BOE_PURGE_ORDERS_MASS_CANCEL_INST_AT, 'A', BOE_CONFLICT, 0, "L without F"),
+    OF_MEMBER(purge_orders, BOE_PURGE_ORDERS_MASS_CANCEL_ID_AT, 0, BOE_BAD_VALUE, 38, "MassCancelID"),
+    OF_MEMBER(purge_orders, BOE_PURGE_ORDERS_MATCHING_UNIT_AT, 3, BOE_NOT_ZERO, 0, "MatchingUnit, which is not selected"),
+    OF_MEMBER(purge_symbol, BOE_PURGE_ORDERS_RISK_GROUP_ID_CNT_AT, 11, BOE_BAD_VALUE, 14, "RiskGroupIDCnt, behind two bitfields"),
+    OF_MEMBER(purge_symbol, BOE_PURGE_ORDERS_SYMBOL_AT, '-', BOE_BAD_VALUE, 55, "Symbol"),
+    OF_MEMBER(purge_symbol, BOE_PURGE_ORDERS_MATCHING_UNIT_AT, 3, BOE_NOT_ZERO, 0, "MatchingUnit beside Symbol, but not selected"),
     OF_VENUE(acknowledgment, BOE_ACKNOWLEDGMENT_CL_ORD_ID_AT, 0, BOE_BAD_VALUE, 18, "ClOrdID"),
     OF_VENUE(acknowledgment, BOE_ACKNOWLEDGMENT_ACCOUNT_AT, 0x07, BOE_BAD_VALUE, 60, "Account"),
     OF_VENUE(execution, BOE_EXECUTION_CONTRA_BROKER_AT, ' ', BOE_BAD_VALUE, 64, "ContraBroker"),
@@ -761,7 +1152,7 @@ static void most(void) {
     check(boe_frame_length(out, sizeof out) == BOE_MESSAGE_MOST_BYTES, "the longest message");
     out[2]++;
     check(boe_frame_refusal(out, sizeof out) == BOE_BAD_LENGTH, "one byte longer");
-    check(BOE_TABLE_BYTES == 4 * BOE_UNITS && BOE_REFUSALS == BOE_NO_FIRST_MARK, "units and refusals");
+    check(BOE_TABLE_BYTES == 4 * BOE_UNITS && BOE_REFUSALS == BOE_CONFLICT, "units and refusals");
     check(BOE_RECORD_FIXED_AT + BOE_RECORD_FIXED_LEN == BOE_RECORD_COUNT_AT && BOE_RECORD_COUNT_AT + 1 == BOE_RECORD_BITFIELDS_AT, "a record's fixed part");
     check(BOE_RECORD_BITFIELDS_AT + BOE_RECORD_BITFIELDS_LEN == BOE_RECORD_FIELDS_AT, "and its bitfields");
 
@@ -789,6 +1180,9 @@ void hand_made_cases(void) {
     framing();
     steps();
     messages();
+    modifies();
+    purges();
+    member_types();
     rejections();
     fates();
     logins();

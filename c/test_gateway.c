@@ -34,6 +34,8 @@ size_t record_len(uint8_t type) {
     switch (type) {
     case BOE_NEW_ORDER:
     case BOE_CANCEL_ORDER:
+    case BOE_MODIFY_ORDER:
+    case BOE_PURGE_ORDERS:
     case BOE_ACKNOWLEDGMENT:
     case BOE_EXECUTION:
     case BOE_REJECTION:

@@ -187,6 +187,8 @@ static size_t record_len(uint8_t type) {
     switch (type) {
     case BOE_NEW_ORDER:
     case BOE_CANCEL_ORDER:
+    case BOE_MODIFY_ORDER:
+    case BOE_PURGE_ORDERS:
     case BOE_ACKNOWLEDGMENT:
     case BOE_EXECUTION:
     case BOE_REJECTION:
@@ -562,12 +564,21 @@ void try_input(const uint8_t *data, size_t size) {
 
 /* ---- mending */
 
+/* A Purge Orders gets the next RiskGroupIDCnt with which its total is right, if there is one. */
+static void mend_ids(uint8_t *message, size_t n) {
+    struct boe_record unused;
+    size_t at = n < 12 ? n : 12u + message[11];
+    for (unsigned tries = 0; at < n && tries < 256; tries++, message[at]++)
+        if (BOE_NUMBER(boe_read(BOE_FROM_MEMBER, message, n, &unused, sizeof unused)) != BOE_WRONG_TOTAL) return;
+}
+
 static void mend_message(uint8_t *message, size_t n) {
     if (n < 10 || n > 2048) return;
     message[0] = message[1] = 0xBA;
     message[2] = (uint8_t)((n - 2) % 256);
     message[3] = (uint8_t)((n - 2) / 256);
     if (boe_told(message[4]) == BOE_HANDED) memset(message + 5, 0, 5); /* neither unit nor number */
+    if (message[4] == BOE_PURGE_ORDERS) mend_ids(message, n);
 }
 
 /* Marks get the date and what goes before them, messages their unit's next number; the numbers reached are left in `reached`. */

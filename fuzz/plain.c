@@ -132,7 +132,7 @@ static void write_input(const char *folder, unsigned long line, const char *form
 
 /* The type of a message or record in hex, or -- for one that neither direction has. */
 static void type_of(const char *hex, size_t at, char *type) {
-    static const char known[] = "03 08 09 13 24 25 26 29 2B 2C 37 38 39";
+    static const char known[] = "03 08 09 13 24 25 26 29 2B 2C 37 38 39 3A 47";
     memcpy(type, "--", 3);
     if (strlen(hex) < at + 2) return;
     memcpy(type, hex + at, 2);

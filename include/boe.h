@@ -44,11 +44,12 @@ enum boe_refusal {
     BOE_NOT_A_DAY = 19,         /* not a calendar day of 1970 to 2099 */
     BOE_NUMBERS_USED_UP = 20,   /* the outgoing number 4,294,967,295 is already used */
     BOE_OLD_NUMBER = 21,        /* venue: a nonzero number at or below the last one */
-    BOE_NO_FIRST_MARK = 22      /* restart on a book under 16 bytes */
+    BOE_NO_FIRST_MARK = 22,     /* restart on a book under 16 bytes */
+    BOE_CONFLICT = 23           /* Purge Orders: a lockout without F, or Symbol together with a MatchingUnit other than 0 */
 };
 
 /* The highest of these numbers. */
-#define BOE_REFUSALS 22
+#define BOE_REFUSALS 23
 
 /* What a call answers: a refusal's number in the low byte, and above it the place, 0 where there is none. 6 to 10 have a place, and no other:
  * a byte of the message, counted from its first, which is 0. None is below 10. A bad field at byte 60 is 10 + 256 * 60.
@@ -61,8 +62,13 @@ enum boe_refusal {
  *       10  the first byte of the first bad field in the order of the message, the fixed part first
  *
  * Writing tells the place in the message that would be written: a byte of a record's fixed part, or of a session message's body, stands there 4
- * bytes further on. Compare the number with the names above, and not the whole; use it alone as an index or an exit status. A caller that keeps
- * the answer in a uint8_t has the number.
+ * bytes further on, but for RiskGroupIDCnt, which stands behind the bitfields. Compare the number with the names above, and not the whole; use
+ * it alone as an index or an exit status. A caller that keeps the answer in a uint8_t has the number.
+ *
+ * 9 comes before the total's 6 where the bits alone decide, and after 10 where a selected field's value does. This late 9 is, in Modify Order, for
+ * no Price and an OrdType other than '1', market; in Purge Orders for a MassCancelInst whose first character is F and no ClearingFirm, or whose
+ * second is S or B and no MassCancelID. A field that is selected is there, blank or not. After it comes 23: for a MassCancelInst whose third
+ * character is L and whose first is not F; and for Symbol and MatchingUnit both selected, and a MatchingUnit other than 0.
  *
  * Of a message, 5 is for a unit other than 0 from the member; for a unit outside 1 to 32 in an acknowledgment or execution; and for a unit or a
  * number other than 0 in a rejection or a session message. */
@@ -161,14 +167,15 @@ struct boe_record {
 #define BOE_RECORD_NUMBER_AT 2
 
 /* A record of an order message, the first BOE_ORDER_RECORD_LEN bytes of its buffer. Order messages are those with bitfields: New Order, Cancel
- * Order, Order Acknowledgment, Order Execution, and the three rejections, Order Rejected, Cancel Rejected and User Modify Rejected. Prices are
- * signed and in ten-thousandths.
+ * Order, Modify Order, Purge Orders, Order Acknowledgment, Order Execution, and the three rejections, Order Rejected, Cancel Rejected and User
+ * Modify Rejected. Prices are signed and in ten-thousandths.
  *
  *   place  bytes
  *       0      1   type
  *       1      1   unit: 0 from the member and in a rejection, else 1 to 32
  *       2      4   number: 0 in a rejection
- *       6     90   the fixed part as on the wire, from byte 10 of the message up to its count byte; zero after it
+ *       6     90   the fixed part as on the wire, from byte 10 of the message up to its count byte; of Purge Orders also what stands between
+ *                  the bitfields and the optional fields, RiskGroupIDCnt and the RiskGroupIDs; zero after it
  *      96      1   how many bitfields
  *      97     19   the bitfields; zero after the last
  *     116    175   the optional fields in the full layout: every listed bit has a place of its field's width, whether it is selected
@@ -228,7 +235,7 @@ struct boe_record {
 #define BOE_FROM_VENUE 1
 
 /* Reads the first whole message of the bytes into a record: 0, and the record stands in its buffer, in the first 291 bytes for an order
- * message, in the first 439 for a session message; the bytes after these stay. Otherwise the buffer is as it was: 1 to 11 by the message
+ * message, in the first 439 for a session message; the bytes after these stay. Otherwise the buffer is as it was: 1 to 11 and 23 by the message
  * (4 also for a direction that is neither), and after all of these 13 for a buffer under the 291 or 439 bytes of this message's record. Bytes
  * after the message play no part. */
 uint32_t boe_read(uint8_t direction, const uint8_t *bytes, size_t len, struct boe_record *record, size_t record_len);
@@ -237,7 +244,7 @@ uint32_t boe_read(uint8_t direction, const uint8_t *bytes, size_t len, struct bo
  * Otherwise the buffer is as it was: 13 for an empty record, which has no type; 4 (also for a direction that is neither), however short the
  * record is; 13 for a record under the bytes of its own type, 291 for an order message and 439 for a session message; 5; and then in this
  * order
- *   for an order message 7, 8, 9, 10, 12;
+ *   for an order message 7, 8, 9, 10, the late 9, 23 (these two by selected fields alone), 12;
  *   for Login Request, Login Response and Logout 10, 11 (also for a byte that is not zero after the last group or pair);
  *   for a heartbeat and Replay Complete 12 (a byte of the body that is not zero);
  * and last 13 for a buffer under the message's length. Bytes past 291 in the record of an order message, and past 439 in that of a session
@@ -341,6 +348,87 @@ uint32_t boe_write(uint8_t direction, const struct boe_record *record, size_t re
 #define BOE_CANCEL_ORDER_CLEARING_FIRM_LEN 4
 #define BOE_CANCEL_ORDER_CLEARING_FIRM_BYTE 1
 #define BOE_CANCEL_ORDER_CLEARING_FIRM_BIT 0x01
+
+/* Modify Order (0x3A), from the member: place and width in a record; for an optional field also its bitfield byte, counted from 1, and its bit */
+#define BOE_MODIFY_ORDER 0x3A
+#define BOE_MODIFY_ORDER_CL_ORD_ID_AT 6
+#define BOE_MODIFY_ORDER_CL_ORD_ID_LEN 20
+#define BOE_MODIFY_ORDER_ORIG_CL_ORD_ID_AT 26
+#define BOE_MODIFY_ORDER_ORIG_CL_ORD_ID_LEN 20
+#define BOE_MODIFY_ORDER_CLEARING_FIRM_AT (BOE_RECORD_FIELDS_AT + 0)
+#define BOE_MODIFY_ORDER_CLEARING_FIRM_LEN 4
+#define BOE_MODIFY_ORDER_CLEARING_FIRM_BYTE 1
+#define BOE_MODIFY_ORDER_CLEARING_FIRM_BIT 0x01
+#define BOE_MODIFY_ORDER_ORDER_QTY_AT (BOE_RECORD_FIELDS_AT + 4)
+#define BOE_MODIFY_ORDER_ORDER_QTY_LEN 4
+#define BOE_MODIFY_ORDER_ORDER_QTY_BYTE 1
+#define BOE_MODIFY_ORDER_ORDER_QTY_BIT 0x04
+#define BOE_MODIFY_ORDER_PRICE_AT (BOE_RECORD_FIELDS_AT + 8)
+#define BOE_MODIFY_ORDER_PRICE_LEN 8
+#define BOE_MODIFY_ORDER_PRICE_BYTE 1
+#define BOE_MODIFY_ORDER_PRICE_BIT 0x08
+#define BOE_MODIFY_ORDER_ORD_TYPE_AT (BOE_RECORD_FIELDS_AT + 16)
+#define BOE_MODIFY_ORDER_ORD_TYPE_LEN 1
+#define BOE_MODIFY_ORDER_ORD_TYPE_BYTE 1
+#define BOE_MODIFY_ORDER_ORD_TYPE_BIT 0x10
+#define BOE_MODIFY_ORDER_CANCEL_ORIG_ON_REJECT_AT (BOE_RECORD_FIELDS_AT + 17)
+#define BOE_MODIFY_ORDER_CANCEL_ORIG_ON_REJECT_LEN 1
+#define BOE_MODIFY_ORDER_CANCEL_ORIG_ON_REJECT_BYTE 1
+#define BOE_MODIFY_ORDER_CANCEL_ORIG_ON_REJECT_BIT 0x20
+#define BOE_MODIFY_ORDER_EXEC_INST_AT (BOE_RECORD_FIELDS_AT + 18)
+#define BOE_MODIFY_ORDER_EXEC_INST_LEN 1
+#define BOE_MODIFY_ORDER_EXEC_INST_BYTE 1
+#define BOE_MODIFY_ORDER_EXEC_INST_BIT 0x40
+#define BOE_MODIFY_ORDER_SIDE_AT (BOE_RECORD_FIELDS_AT + 19)
+#define BOE_MODIFY_ORDER_SIDE_LEN 1
+#define BOE_MODIFY_ORDER_SIDE_BYTE 1
+#define BOE_MODIFY_ORDER_SIDE_BIT 0x80
+#define BOE_MODIFY_ORDER_MAX_FLOOR_AT (BOE_RECORD_FIELDS_AT + 20)
+#define BOE_MODIFY_ORDER_MAX_FLOOR_LEN 4
+#define BOE_MODIFY_ORDER_MAX_FLOOR_BYTE 2
+#define BOE_MODIFY_ORDER_MAX_FLOOR_BIT 0x01
+#define BOE_MODIFY_ORDER_STOP_PX_AT (BOE_RECORD_FIELDS_AT + 24)
+#define BOE_MODIFY_ORDER_STOP_PX_LEN 8
+#define BOE_MODIFY_ORDER_STOP_PX_BYTE 2
+#define BOE_MODIFY_ORDER_STOP_PX_BIT 0x02
+#define BOE_MODIFY_ORDER_LOCATE_BROKER_AT (BOE_RECORD_FIELDS_AT + 32)
+#define BOE_MODIFY_ORDER_LOCATE_BROKER_LEN 4
+#define BOE_MODIFY_ORDER_LOCATE_BROKER_BYTE 2
+#define BOE_MODIFY_ORDER_LOCATE_BROKER_BIT 0x80
+
+/* Purge Orders (0x47), from the member: place and width in a record; for an optional field also its bitfield byte, counted from 1, and its bit. In
+ * the message RiskGroupIDCnt, at most 10, and as many RiskGroupIDs of any value stand between the bitfields and the optional fields. The record has
+ * them in its fixed part, behind the reserved byte that the message has before its count byte: ten places, zero after the last id. */
+#define BOE_PURGE_ORDERS 0x47
+#define BOE_PURGE_ORDERS_RISK_GROUP_ID_CNT_AT 7
+#define BOE_PURGE_ORDERS_RISK_GROUP_ID_CNT_LEN 1
+#define BOE_PURGE_ORDERS_RISK_GROUP_IDS_AT 8
+#define BOE_RISK_GROUP_ID_LEN 2
+#define BOE_RISK_GROUP_IDS_MOST 10
+#define BOE_PURGE_ORDERS_CLEARING_FIRM_AT (BOE_RECORD_FIELDS_AT + 0)
+#define BOE_PURGE_ORDERS_CLEARING_FIRM_LEN 4
+#define BOE_PURGE_ORDERS_CLEARING_FIRM_BYTE 1
+#define BOE_PURGE_ORDERS_CLEARING_FIRM_BIT 0x01
+#define BOE_PURGE_ORDERS_MASS_CANCEL_INST_AT (BOE_RECORD_FIELDS_AT + 4)
+#define BOE_PURGE_ORDERS_MASS_CANCEL_INST_LEN 16
+#define BOE_PURGE_ORDERS_MASS_CANCEL_INST_BYTE 1
+#define BOE_PURGE_ORDERS_MASS_CANCEL_INST_BIT 0x04
+#define BOE_PURGE_ORDERS_MASS_CANCEL_ID_AT (BOE_RECORD_FIELDS_AT + 20)
+#define BOE_PURGE_ORDERS_MASS_CANCEL_ID_LEN 20
+#define BOE_PURGE_ORDERS_MASS_CANCEL_ID_BYTE 1
+#define BOE_PURGE_ORDERS_MASS_CANCEL_ID_BIT 0x10
+#define BOE_PURGE_ORDERS_SYMBOL_AT (BOE_RECORD_FIELDS_AT + 40)
+#define BOE_PURGE_ORDERS_SYMBOL_LEN 8
+#define BOE_PURGE_ORDERS_SYMBOL_BYTE 2
+#define BOE_PURGE_ORDERS_SYMBOL_BIT 0x01
+#define BOE_PURGE_ORDERS_SYMBOL_SFX_AT (BOE_RECORD_FIELDS_AT + 48)
+#define BOE_PURGE_ORDERS_SYMBOL_SFX_LEN 8
+#define BOE_PURGE_ORDERS_SYMBOL_SFX_BYTE 2
+#define BOE_PURGE_ORDERS_SYMBOL_SFX_BIT 0x02
+#define BOE_PURGE_ORDERS_MATCHING_UNIT_AT (BOE_RECORD_FIELDS_AT + 56)
+#define BOE_PURGE_ORDERS_MATCHING_UNIT_LEN 1
+#define BOE_PURGE_ORDERS_MATCHING_UNIT_BYTE 2
+#define BOE_PURGE_ORDERS_MATCHING_UNIT_BIT 0x80
 
 /* Order Acknowledgment (0x25), from the venue: place and width in a record; for an optional field also its bitfield byte, counted from 1, and its bit */
 #define BOE_ACKNOWLEDGMENT 0x25

@@ -168,6 +168,57 @@ pub fn cancel_rejected() -> Vec<u8> {
     ])
 }
 
+/// Table 29.
+pub fn modify() -> Vec<u8> {
+    filled(&[
+        ("BABA3E003A0064000000", 10),
+        ("414243313234", 20),
+        ("414243313233", 20),
+        ("010C", 2),
+        ("E02E0000", 4),
+        ("08E2010000000000", 8),
+    ])
+}
+
+/// Table 31: its length is fifteen less than what its counts and fields take.
+pub fn purge_by_ids() -> Vec<u8> {
+    filled(&[
+        ("BABA2900470064000000", 10),
+        ("000115", 3),
+        ("02BFBEC0BE", 5),
+        ("54455354", 4),
+        ("46534C", 16),
+        ("414243313233", 20),
+    ])
+}
+
+/// The same with the length of its bytes.
+pub fn purge_by_ids_with_its_length() -> Vec<u8> {
+    let mut message = purge_by_ids();
+    message[2] = 0x38;
+    message
+}
+
+/// Table 32: its length is two more than what its counts and fields take.
+pub fn purge_by_symbol() -> Vec<u8> {
+    filled(&[
+        ("BABA3F00470064000000", 10),
+        ("00021501", 4),
+        ("00", 1),
+        ("54455354", 4),
+        ("46534C", 16),
+        ("414243313233", 20),
+        ("4142434445", 8),
+    ])
+}
+
+/// The same with the length of its bytes.
+pub fn purge_by_symbol_with_its_length() -> Vec<u8> {
+    let mut message = purge_by_symbol();
+    message[2] = 0x3D;
+    message
+}
+
 // Session messages.
 
 /// The groups that table 11 sends and table 17 gives back.
@@ -299,6 +350,9 @@ mod tests {
             order_rejected(),
             modify_rejected(),
             cancel_rejected(),
+            modify(),
+            purge_by_ids_with_its_length(),
+            purge_by_symbol_with_its_length(),
             login(),
             options_login(),
             login_response(),
@@ -321,5 +375,8 @@ mod tests {
         assert_eq!(order_rejected().len(), 120);
         assert_eq!(modify_rejected().len(), 101);
         assert_eq!(cancel_rejected().len(), 101);
+        assert_eq!(modify().len(), 64);
+        assert_eq!(purge_by_ids().len(), 58);
+        assert_eq!(purge_by_symbol().len(), 63);
     }
 }

@@ -10,12 +10,14 @@ mod frame;
 mod judged;
 mod listing;
 pub mod made;
+mod modify;
 pub mod more;
 mod number;
 mod order;
 mod outside;
 pub mod parts;
 mod places;
+mod purge;
 mod reading;
 pub mod session;
 mod sizes;
@@ -43,6 +45,8 @@ pub fn all() -> String {
     listing::ask(&mut lines);
     places::ask(&mut lines);
     desk::ask(&mut lines);
+    modify::ask(&mut lines);
+    purge::ask(&mut lines);
     let mut output = String::new();
     for line in lines {
         output.push_str(&line);
@@ -71,7 +75,7 @@ mod tests {
     #[test]
     fn plain_text_of_a_fair_size() {
         let questions = all();
-        assert!(questions.len() < 13_000_000);
+        assert!(questions.len() < 15_500_000);
         for byte in questions.bytes() {
             assert!(byte == b'\n' || byte == b'\t' || (32..=126).contains(&byte));
         }
@@ -115,9 +119,9 @@ mod tests {
             ("year", "?"),
             ("due", "0 1 ?"),
             ("silent", "0 1 ?"),
-            ("read", "0 1 2 3 4 5 6 7 8 9 10 11 ?"),
-            ("read-into", "0 1 2 3 4 5 6 7 8 9 10 11 13 ?"),
-            ("write", "0 4 5 7 8 9 10 11 12 13 ?"),
+            ("read", "0 1 2 3 4 5 6 7 8 9 10 11 23 ?"),
+            ("read-into", "0 1 2 3 4 5 6 7 8 9 10 11 13 23 ?"),
+            ("write", "0 4 5 7 8 9 10 11 12 13 23 ?"),
             ("told", "0 1 2 ?"),
             ("open", "0 13 19 ?"),
             ("restart", "0 17 18 19 22 ?"),

@@ -23,8 +23,8 @@ pub mod write;
 
 use std::fmt;
 
-/// Document 01, "Numbers of refusal". Those of a part of the message tell its place (document 02,
-/// request 3), which counts from the message's first byte.
+/// Document 01, "Numbers of refusal", and 23 of document 02, request 1. Those of a part of the message
+/// tell its place (request 3), which counts from the message's first byte.
 #[derive(Clone, Copy, Debug, PartialEq, Eq)]
 pub enum Refusal {
     /// A byte that should be BA is another.
@@ -71,6 +71,8 @@ pub enum Refusal {
     Old,
     /// A book that is shorter than its first mark.
     Small,
+    /// Fields that do not go together.
+    Conflict,
 }
 
 impl Refusal {
@@ -98,6 +100,7 @@ impl Refusal {
             Refusal::Spent => 20,
             Refusal::Old => 21,
             Refusal::Small => 22,
+            Refusal::Conflict => 23,
         }
     }
 

@@ -97,7 +97,7 @@ const STORED: [Kind; 20] = [
     Kind::Places,
     Kind::Days(BROKEN),
 ];
-const SEED: u64 = 30;
+const SEED: u64 = 120;
 
 /// The stored scripts, each line ended by LF.
 pub fn stored() -> String {

@@ -1,6 +1,6 @@
 -- The slots of a message with its bitfields. Definitions alone. Assumes nothing.
 use Prim.Native.Nat.{ℕ, zero, suc, _+_, _/_, _%_, _^_}
-use mathlib.Core.Bool.{Bool, not, _&&_, _||_}
+use mathlib.Core.Bool.{Bool, true, cond, _&&_, _||_}
 use mathlib.Core.List.{List, [], _∷_}
 use lib.Dec.{ltb, eqb}
 use lib.ListN.{getD}
@@ -35,9 +35,24 @@ slotsFrom selected entry (suc n) k = slot (selected k) (entry k) ∷ slotsFrom s
 abbrev pub slotsOf : ℕ → ℕ → List ℕ → List Slot
 slotsOf message count bits = slotsFrom (selectedAt count bits) (entryAt message) allPlaces 0
 
--- 9: the required fields. New Order requires Symbol (byte 2, bit 1), Capacity (byte 2, bit 64), and Price or OrdType (byte 1, bits 4
--- and 16); the other messages require none
+-- 9: the fields that are required whatever the others hold. New Order requires Symbol (byte 2, bit 1), Capacity (byte 2, bit 64), and Price or
+-- OrdType (byte 1, bits 4 and 16)
+abbrev pub newOrderHas : ℕ → List ℕ → Bool
+newOrderHas count bits = selectedAt count bits 8 && (selectedAt count bits 14 && (selectedAt count bits 2 || selectedAt count bits 4))
+
+-- 02, request 1: Modify Order requires OrderQty (byte 1, bit 4) and Price (byte 1, bit 8); where OrdType (byte 1, bit 16) is selected, its value
+-- says whether Price is needed
+abbrev pub modifyOrderHas : ℕ → List ℕ → Bool
+modifyOrderHas count bits = selectedAt count bits 2 && (selectedAt count bits 3 || selectedAt count bits 4)
+
+-- 02, request 1: Purge Orders requires MassCancelInst (byte 1, bit 4)
+abbrev pub purgeOrdersHas : ℕ → List ℕ → Bool
+purgeOrdersHas count bits = selectedAt count bits 2
+
+-- the other messages require none
 unfoldable pub hasRequired : ℕ → ℕ → List ℕ → Bool
 hasRequired message count bits =
-    not (eqb message 0x38)
-    || (selectedAt count bits 8 && (selectedAt count bits 14 && (selectedAt count bits 2 || selectedAt count bits 4)))
+    cond (eqb message 0x38) (newOrderHas count bits)
+    (cond (eqb message 0x3A) (modifyOrderHas count bits)
+    (cond (eqb message 0x47) (purgeOrdersHas count bits)
+    true))

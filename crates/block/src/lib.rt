@@ -1,10 +1,11 @@
 // The optional block over any dictionary: its definitions and laws (specs/), and the moves of bytes that it needs.
 ghost use mathlib.Core.Path.{_≡_};
+ghost use mathlib.Core.Bool.{_||_};
 ghost use Prim.Native.Nat.{_+_, _-_, _≤_, _<_};
 ghost use lib.Dec.{ltb};
 ghost use lib.ListN.{length, take, getD};
 ghost use Rattle.numbers.specs.Numbers.{patched};
-ghost use Rattle.block.specs.Places.{selectedAt, hasRequired};
+ghost use Rattle.block.specs.Places.{selectedAt, newOrderHas, modifyOrderHas, hasRequired};
 ghost use Rattle.block.specs.Slots.{zeros};
 ghost use Rattle.block.specs.Walk.{pick, firstOf, worseOf};
 ghost use Rattle.block.specs.Sizes.{layoutSize};
@@ -149,7 +150,7 @@ pub fn byte_of(bits: &[u8], count: u8, byte: u8) -> u8
 }
 
 // Whether place k, of those of all bitfields, is selected.
-fn is_selected(bits: &[u8], count: u8, k: u8) -> bool
+pub fn is_selected(bits: &[u8], count: u8, k: u8) -> bool
     requires { ⌜ count ≤ length (now bits) ⌝ }
     ensures { λ r. ⌜ r ≡ selectedAt count (now (bits .entry)) k ⌝ }
 {
@@ -161,21 +162,50 @@ fn is_selected(bits: &[u8], count: u8, k: u8) -> bool
     false
 }
 
-// Whether every required field is selected.
+// Whether one of two places is selected.
+fn either_selected(bits: &[u8], count: u8, j: u8, k: u8) -> bool
+    requires { ⌜ count ≤ length (now bits) ⌝ }
+    ensures { λ r. ⌜ r ≡ (selectedAt count (now (bits .entry)) j || selectedAt count (now (bits .entry)) k) ⌝ }
+{
+    if is_selected(bits, count, j) {
+        return true;
+    }
+    is_selected(bits, count, k)
+}
+
+// Whether every required field of a New Order is selected.
+fn new_order_has(bits: &[u8], count: u8) -> bool
+    requires { ⌜ count ≤ length (now bits) ⌝ }
+    ensures { λ r. ⌜ r ≡ newOrderHas count (now (bits .entry)) ⌝ }
+{
+    if is_selected(bits, count, 8) {
+        if is_selected(bits, count, 14) {
+            return either_selected(bits, count, 2, 4);
+        }
+    }
+    false
+}
+
+// Whether OrderQty of a Modify Order is selected, and Price or OrdType.
+fn modify_order_has(bits: &[u8], count: u8) -> bool
+    requires { ⌜ count ≤ length (now bits) ⌝ }
+    ensures { λ r. ⌜ r ≡ modifyOrderHas count (now (bits .entry)) ⌝ }
+{
+    if is_selected(bits, count, 2) {
+        return either_selected(bits, count, 3, 4);
+    }
+    false
+}
+
+// Whether every field is selected that a message requires whatever its fields hold.
 pub fn has_required(message: u8, bits: &[u8], count: u8) -> bool
     requires { ⌜ count ≤ length (now bits) ⌝ }
     ensures { λ r. ⌜ r ≡ hasRequired message count (now (bits .entry)) ⌝ }
 {
-    if message != 0x38 {
-        return true;
+    match message {
+        0x38 => new_order_has(bits, count),
+        0x3A => modify_order_has(bits, count),
+        0x47 => is_selected(bits, count, 2),
+        _ => true,
     }
-    if is_selected(bits, count, 8) {
-        if is_selected(bits, count, 14) {
-            if is_selected(bits, count, 2) {
-                return true;
-            }
-            return is_selected(bits, count, 4);
-        }
-    }
-    false
 }

@@ -4,7 +4,7 @@ use mathlib.Core.Bool.{Bool, true, false, cond, _&&_}
 use mathlib.Core.List.{List, [], _∷_}
 use lib.Dec.{eqb}
 use Rattle.kinds.specs.declared.Kind.{Kind}
-use Rattle.kinds.specs.declared.Kind.the-variants.{Letters, Alphanumeric, Text, Binary, Price}
+use Rattle.kinds.specs.declared.Kind.the-variants.{Letters, Alphanumeric, Text, Binary, Price, FilledText}
 use Rattle.dictionary.specs.declared.Entry.{Entry}
 use Rattle.dictionary.specs.declared.Entry.the-variants.{Refused, Field}
 
@@ -23,6 +23,10 @@ B = Binary
 
 abbrev P : Kind
 P = Price
+
+-- T that is never blank
+abbrev F : Kind
+F = FilledText
 
 -- a line: bitfield byte, bit (1, 2, 4 to 128), width, kind
 pub data Line : Type 0 where
@@ -57,6 +61,32 @@ newOrder =
 abbrev pub cancelOrder : List Line
 cancelOrder =
     line 1 1 4 A  -- ClearingFirm
+    ∷ []
+
+-- Modify Order: the bits that 000's Table 60 marks
+abbrev pub modifyOrder : List Line
+modifyOrder =
+    line 1 1 4 A  -- ClearingFirm
+    ∷ line 1 4 4 B  -- OrderQty
+    ∷ line 1 8 8 P  -- Price
+    ∷ line 1 16 1 N  -- OrdType
+    ∷ line 1 32 1 A  -- CancelOrigOnReject
+    ∷ line 1 64 1 T  -- ExecInst
+    ∷ line 1 128 1 N  -- Side
+    ∷ line 2 1 4 B  -- MaxFloor
+    ∷ line 2 2 8 P  -- StopPx
+    ∷ line 2 128 4 A  -- LocateBroker
+    ∷ []
+
+-- Purge Orders: the bits that 000's Table 61 marks
+abbrev pub purgeOrders : List Line
+purgeOrders =
+    line 1 1 4 A  -- ClearingFirm
+    ∷ line 1 4 16 F  -- MassCancelInst
+    ∷ line 1 16 20 T  -- MassCancelID
+    ∷ line 2 1 8 N  -- Symbol
+    ∷ line 2 2 8 N  -- SymbolSfx
+    ∷ line 2 128 1 B  -- MatchingUnit
     ∷ []
 
 -- Order Acknowledgment
@@ -160,7 +190,9 @@ listOf message =
     (cond (eqb message 0x2C) executions
     (cond (eqb message 0x26) rejections
     (cond (eqb message 0x2B) cancelRejections
-    [])))))
+    (cond (eqb message 0x3A) modifyOrder
+    (cond (eqb message 0x47) purgeOrders
+    [])))))))
 
 -- the first where a test holds, else the second
 abbrev pub pick : Bool → Entry → Entry → Entry

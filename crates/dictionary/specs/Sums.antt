@@ -1,14 +1,15 @@
 -- A second count of the bit dictionary, so that code and table cannot be changed together unseen: for each message the widths and the
 -- bits of each bitfield byte, its length in all, its columns of widths and kinds, and that its lines stand in order of byte and bit.
--- The figures are counted from document 01's lists, Order Execution's narrowed by 000's Table 70, and of the rejections from 000's Tables 64, 67 and 69. All is computed. Assumes nothing.
+-- The figures are counted from document 01's lists, Order Execution's narrowed by 000's Table 70, and of the rejections from 000's Tables 64, 67 and 69,
+-- of Modify Order and Purge Orders from its Tables 60 and 61. All is computed. Assumes nothing.
 use mathlib.Core.Path.{_≡_, refl}
 use mathlib.Core.Bool.{Bool, true, cond, _&&_}
 use mathlib.Core.List.{List, [], _∷_, map}
 use Prim.Native.Nat.{ℕ, _+_, _*_, _^_}
 use lib.Dec.{eqb, ltb}
 use Rattle.kinds.specs.declared.Kind.{Kind}
-use Rattle.kinds.specs.declared.Kind.the-variants.{Letters, Alphanumeric, Text, Binary, Price}
-use Rattle.dictionary.specs.Dictionary.{Line, line, newOrder, cancelOrder, acknowledgments, executions, rejections, cancelRejections, listOf, indexOf}
+use Rattle.kinds.specs.declared.Kind.the-variants.{Letters, Alphanumeric, Text, Binary, Price, FilledText}
+use Rattle.dictionary.specs.Dictionary.{Line, line, newOrder, cancelOrder, modifyOrder, purgeOrders, acknowledgments, executions, rejections, cancelRejections, listOf, indexOf}
 
 -- the widths of a bitfield byte's lines, summed
 abbrev pub widthsIn : ℕ → List Line → ℕ
@@ -154,6 +155,44 @@ cancel-rejection-kinds = refl
 
 pub cancel-rejection-in-order : inOrder 0 cancelRejections ≡ true
 cancel-rejection-in-order = refl
+
+-- Modify Order
+pub modify-order-sums : map (λ b. widthsIn b modifyOrder) bytes ≡ 20 ∷ 16 ∷ 0 ∷ 0 ∷ 0 ∷ 0 ∷ 0 ∷ 0 ∷ 0 ∷ 0 ∷ 0 ∷ 0 ∷ 0 ∷ 0 ∷ 0 ∷ 0 ∷ 0 ∷ 0 ∷ 0 ∷ []
+modify-order-sums = refl
+
+pub modify-order-masks : map (λ b. bitsIn b modifyOrder) bytes ≡ 253 ∷ 131 ∷ 0 ∷ 0 ∷ 0 ∷ 0 ∷ 0 ∷ 0 ∷ 0 ∷ 0 ∷ 0 ∷ 0 ∷ 0 ∷ 0 ∷ 0 ∷ 0 ∷ 0 ∷ 0 ∷ 0 ∷ []
+modify-order-masks = refl
+
+pub modify-order-length : layoutLength modifyOrder ≡ 36
+modify-order-length = refl
+
+pub modify-order-widths : map lineWidth modifyOrder ≡ 4 ∷ 4 ∷ 8 ∷ 1 ∷ 1 ∷ 1 ∷ 1 ∷ 4 ∷ 8 ∷ 4 ∷ []
+modify-order-widths = refl
+
+pub modify-order-kinds : map lineKind modifyOrder ≡ Letters ∷ Binary ∷ Price ∷ Alphanumeric ∷ Letters ∷ Text ∷ Alphanumeric ∷ Binary ∷ Price ∷ Letters ∷ []
+modify-order-kinds = refl
+
+pub modify-order-in-order : inOrder 0 modifyOrder ≡ true
+modify-order-in-order = refl
+
+-- Purge Orders
+pub purge-orders-sums : map (λ b. widthsIn b purgeOrders) bytes ≡ 40 ∷ 17 ∷ 0 ∷ 0 ∷ 0 ∷ 0 ∷ 0 ∷ 0 ∷ 0 ∷ 0 ∷ 0 ∷ 0 ∷ 0 ∷ 0 ∷ 0 ∷ 0 ∷ 0 ∷ 0 ∷ 0 ∷ []
+purge-orders-sums = refl
+
+pub purge-orders-masks : map (λ b. bitsIn b purgeOrders) bytes ≡ 21 ∷ 131 ∷ 0 ∷ 0 ∷ 0 ∷ 0 ∷ 0 ∷ 0 ∷ 0 ∷ 0 ∷ 0 ∷ 0 ∷ 0 ∷ 0 ∷ 0 ∷ 0 ∷ 0 ∷ 0 ∷ 0 ∷ []
+purge-orders-masks = refl
+
+pub purge-orders-length : layoutLength purgeOrders ≡ 57
+purge-orders-length = refl
+
+pub purge-orders-widths : map lineWidth purgeOrders ≡ 4 ∷ 16 ∷ 20 ∷ 8 ∷ 8 ∷ 1 ∷ []
+purge-orders-widths = refl
+
+pub purge-orders-kinds : map lineKind purgeOrders ≡ Letters ∷ FilledText ∷ Text ∷ Alphanumeric ∷ Alphanumeric ∷ Binary ∷ []
+purge-orders-kinds = refl
+
+pub purge-orders-in-order : inOrder 0 purgeOrders ≡ true
+purge-orders-in-order = refl
 
 -- User Modify Rejected
 pub modify-rejection-none : listOf 0x29 ≡ []

@@ -74,6 +74,52 @@ fn cancel_order(byte: u8, bit: u8) -> Entry
     }
 }
 
+// A bit of Modify Order.
+fn modify_order(byte: u8, bit: u8) -> Entry
+    ensures { λ r. ⌜ r ≡ entryOf 0x3A byte bit ⌝ }
+{
+    match byte {
+        1 => match bit {
+            0 => field(4, Kind::Letters, 0), // ClearingFirm
+            2 => field(4, Kind::Binary, 4), // OrderQty
+            3 => field(8, Kind::Price, 8), // Price
+            4 => field(1, Kind::Alphanumeric, 16), // OrdType
+            5 => field(1, Kind::Letters, 17), // CancelOrigOnReject
+            6 => field(1, Kind::Text, 18), // ExecInst
+            7 => field(1, Kind::Alphanumeric, 19), // Side
+            _ => Entry::Refused,
+        },
+        2 => match bit {
+            0 => field(4, Kind::Binary, 20), // MaxFloor
+            1 => field(8, Kind::Price, 24), // StopPx
+            7 => field(4, Kind::Letters, 32), // LocateBroker
+            _ => Entry::Refused,
+        },
+        _ => Entry::Refused,
+    }
+}
+
+// A bit of Purge Orders.
+fn purge_orders(byte: u8, bit: u8) -> Entry
+    ensures { λ r. ⌜ r ≡ entryOf 0x47 byte bit ⌝ }
+{
+    match byte {
+        1 => match bit {
+            0 => field(4, Kind::Letters, 0), // ClearingFirm
+            2 => field(16, Kind::FilledText, 4), // MassCancelInst
+            4 => field(20, Kind::Text, 20), // MassCancelID
+            _ => Entry::Refused,
+        },
+        2 => match bit {
+            0 => field(8, Kind::Alphanumeric, 40), // Symbol
+            1 => field(8, Kind::Alphanumeric, 48), // SymbolSfx
+            7 => field(1, Kind::Binary, 56), // MatchingUnit
+            _ => Entry::Refused,
+        },
+        _ => Entry::Refused,
+    }
+}
+
 // A bit of Order Execution: bytes 1 to 3 of Order Acknowledgment.
 fn execution(byte: u8, bit: u8) -> Entry
     ensures { λ r. ⌜ r ≡ entryOf 0x2C byte bit ⌝ }
@@ -214,6 +260,8 @@ pub fn entry_of(message: u8, byte: u8, bit: u8) -> Entry
         0x2C => execution(byte, bit),
         0x26 => rejection(byte, bit),
         0x2B => cancel_rejection(byte, bit),
+        0x3A => modify_order(byte, bit),
+        0x47 => purge_orders(byte, bit),
         _ => Entry::Refused,
     }
 }

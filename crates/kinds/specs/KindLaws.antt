@@ -1,6 +1,6 @@
 -- What is true of the data kinds. Assumes nothing.
 use mathlib.Core.Path.{_≡_, refl}
-use mathlib.Core.Bool.{Bool, true, false, cond, not, _&&_, _||_, false≢true, and-eq-true-iff}
+use mathlib.Core.Bool.{Bool, true, false, cond, not, _&&_, false≢true, and-eq-true-iff}
 use mathlib.Core.List.{List, [], _∷_}
 use Prim.Native.Nat.{ℕ, _<_}
 use native.Mathlib.Nat.{not-suc-le-zero}
@@ -9,8 +9,8 @@ use lib.Dec.{eqb}
 use lib.ListN.{length, getD}
 use borrow.Author.Tests.{not-true, eqb-true, eq-eqb}
 use Rattle.kinds.specs.declared.Kind.{Kind}
-use Rattle.kinds.specs.declared.Kind.the-variants.{Letters, Alphanumeric, Text, Identifier, Binary, Price}
-use Rattle.kinds.specs.Kinds.{allowed, allNul, agreesText, agreesOf, agreesFilledOf, steady}
+use Rattle.kinds.specs.declared.Kind.the-variants.{Letters, Alphanumeric, Text, Identifier, Binary, Price, FilledText}
+use Rattle.kinds.specs.Kinds.{allowed, blankTaken, allNul, agreesText, agreesOf, agreesFilledOf, steady}
 
 first-holds : (t u v : Bool) → t && u ≡ true → cond t u v ≡ true
 first-holds true u v h = h
@@ -21,14 +21,19 @@ pub blank-text : (k : Kind) (bs : List ℕ) → allNul bs ≡ true → agreesTex
 blank-text k [] h = refl
 blank-text k (b ∷ bs) h = first-holds (eqb b 0) (allNul bs) _ h
 
--- a blank field agrees with every kind
-pub blank-agrees : (k : Kind) (bs : List ℕ) → allNul bs ≡ true → agreesOf k bs ≡ true
+-- a blank field agrees with every kind but the one that is never blank
+pub blank-agrees : (k : Kind) (bs : List ℕ) → allNul bs ≡ true → agreesOf k bs ≡ blankTaken k
 blank-agrees Letters bs h = blank-text Letters bs h
 blank-agrees Alphanumeric bs h = blank-text Alphanumeric bs h
 blank-agrees Text bs h = blank-text Text bs h
 blank-agrees Identifier bs h = blank-text Identifier bs h
 blank-agrees Binary bs h = refl
 blank-agrees Price bs h = refl
+blank-agrees FilledText bs h = rw h
+
+-- a field of the kind that is never blank is a text that is never blank
+pub filled-text : (bs : List ℕ) → agreesOf FilledText bs ≡ agreesFilledOf Text bs
+filled-text bs = refl
 
 -- a field that agrees and is not blank agrees
 pub filled-agrees : (k : Kind) (bs : List ℕ) → agreesFilledOf k bs ≡ true → agreesOf k bs ≡ true
@@ -66,22 +71,28 @@ first-nul (b ∷ bs) h e = rw (eq-eqb b 0 e) (by (allNul bs))
     by false = refl
 
 -- a field of one byte
-one-by : (c d : Bool) → cond c true (d && true) ≡ (c || d)
+one-by : (c d : Bool) → cond c true (d && true) ≡ cond c true d
 one-by true d = refl
 one-by false true = refl
 one-by false false = refl
 
-or-any : (c : Bool) → true ≡ (c || true)
+or-any : (c : Bool) → true ≡ cond c true true
 or-any true = refl
 or-any false = refl
 
-pub one-agrees : (k : Kind) (b : ℕ) → agreesOf k (b ∷ []) ≡ (eqb b 0 || allowed k b)
+one-filled : (c d : Bool) → (not (c && true) && cond c true (d && true)) ≡ cond c false d
+one-filled true d = refl
+one-filled false true = refl
+one-filled false false = refl
+
+pub one-agrees : (k : Kind) (b : ℕ) → agreesOf k (b ∷ []) ≡ cond (eqb b 0) (blankTaken k) (allowed k b)
 one-agrees Letters b = one-by (eqb b 0) (allowed Letters b)
 one-agrees Alphanumeric b = one-by (eqb b 0) (allowed Alphanumeric b)
 one-agrees Text b = one-by (eqb b 0) (allowed Text b)
 one-agrees Identifier b = one-by (eqb b 0) (allowed Identifier b)
 one-agrees Binary b = or-any (eqb b 0)
 one-agrees Price b = or-any (eqb b 0)
+one-agrees FilledText b = one-filled (eqb b 0) (allowed Text b)
 
 -- bytes that are one byte
 pub one-byte : (bs : List ℕ) → length bs ≡ 1 → bs ≡ getD bs 0 0 ∷ []

@@ -1,10 +1,10 @@
 -- The data kinds of fields. Definitions alone. Assumes nothing.
 use Prim.Native.Nat.{ℕ}
-use mathlib.Core.Bool.{Bool, true, cond, not, _&&_, _||_}
+use mathlib.Core.Bool.{Bool, true, false, cond, not, _&&_, _||_}
 use mathlib.Core.List.{List, [], _∷_}
 use lib.Dec.{leb, eqb}
 use Rattle.kinds.specs.declared.Kind.{Kind}
-use Rattle.kinds.specs.declared.Kind.the-variants.{Letters, Alphanumeric, Text, Identifier, Binary, Price}
+use Rattle.kinds.specs.declared.Kind.the-variants.{Letters, Alphanumeric, Text, Identifier, Binary, Price, FilledText}
 
 -- a byte from low to high, both included
 abbrev pub within : ℕ → ℕ → ℕ → Bool
@@ -43,7 +43,7 @@ abbrev pub excepted : ℕ → Bool
 excepted b = eqb b comma || eqb b semicolon || eqb b pipe || eqb b atSign || eqb b doubleQuote
 
 -- 01, Wire basics: A is letters, N letters and digits, T the bytes 32 to 126; the identifiers use the bytes 33 to 126 except these five;
--- B and P take any value.
+-- B and P take any value. 02, request 1: MassCancelInst is T, and a blank one is refused.
 abbrev pub allowed : Kind → ℕ → Bool
 allowed Letters b = letter b
 allowed Alphanumeric b = digit b || letter b
@@ -51,6 +51,17 @@ allowed Text b = within 32 126 b
 allowed Identifier b = within 33 126 b && not (excepted b)
 allowed Binary b = true
 allowed Price b = true
+allowed FilledText b = within 32 126 b
+
+-- whether a blank field agrees with a kind
+abbrev pub blankTaken : Kind → Bool
+blankTaken Letters = true
+blankTaken Alphanumeric = true
+blankTaken Text = true
+blankTaken Identifier = true
+blankTaken Binary = true
+blankTaken Price = true
+blankTaken FilledText = false
 
 -- an all-NUL field is blank
 abbrev pub allNul : List ℕ → Bool
@@ -70,6 +81,7 @@ agreesOf Text bs = agreesText Text bs
 agreesOf Identifier bs = agreesText Identifier bs
 agreesOf Binary bs = true
 agreesOf Price bs = true
+agreesOf FilledText bs = not (allNul bs) && agreesText Text bs
 
 -- never blank: some byte is not NUL, and the bytes agree with the kind
 abbrev pub agreesFilledOf : Kind → List ℕ → Bool

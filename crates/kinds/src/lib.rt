@@ -1,16 +1,16 @@
 // The data kinds of fields: whether a field's bytes agree with its kind.
 ghost use mathlib.Core.Path.{_≡_};
-ghost use mathlib.Core.Bool.{_&&_, _||_};
+ghost use mathlib.Core.Bool.{cond, _&&_};
 ghost use mathlib.Core.List.{_++_};
 ghost use Prim.Native.Nat.{_+_, _≤_, _<_};
 ghost use lib.Bits.{bitXor};
 ghost use lib.Dec.{eqb};
 ghost use lib.ListN.{length, take};
 ghost use Rattle.numbers.specs.Numbers.{bytesOf};
-ghost use Rattle.kinds.specs.Kinds.{within, letter, excepted, allowed, allNul, allAllowed, follows, agreesText, agreesOf, agreesFilledOf};
+ghost use Rattle.kinds.specs.Kinds.{within, letter, excepted, allowed, blankTaken, allNul, allAllowed, follows, agreesText, agreesOf, agreesFilledOf};
 ghost use Rattle.kinds.specs.Words.{kindOf, Low, Marks};
 
-// A field's kind: document 01's A, N, T, the characters of ClOrdID and OrigClOrdID, B and P.
+// A field's kind: document 01's A, N, T, the characters of ClOrdID and OrigClOrdID, B and P; and T that is never blank, as MassCancelInst is.
 pub enum Kind {
     Letters,
     Alphanumeric,
@@ -18,6 +18,7 @@ pub enum Kind {
     Identifier,
     Binary,
     Price,
+    FilledText,
 }
 
 // The kinds of texts whose characters are tested a word at a time: A, N and T.
@@ -87,6 +88,7 @@ fn is_allowed(kind: Kind, b: u8) -> bool
         Kind::Identifier => is_identifier(b),
         Kind::Binary => true,
         Kind::Price => true,
+        Kind::FilledText => is_within(32, 126, b),
     }
 }
 
@@ -129,12 +131,27 @@ fn is_name(s: &[u8]) -> bool
     ok
 }
 
+// Whether a blank field agrees with a kind.
+fn takes_blank(kind: Kind) -> bool
+    ensures { λ r. ⌜ r ≡ blankTaken kind ⌝ }
+{
+    match kind {
+        Kind::Letters => true,
+        Kind::Alphanumeric => true,
+        Kind::Text => true,
+        Kind::Identifier => true,
+        Kind::Binary => true,
+        Kind::Price => true,
+        Kind::FilledText => false,
+    }
+}
+
 // Whether a field of one byte agrees with its kind.
 fn agrees_one(kind: Kind, b: u8) -> bool
-    ensures { λ r. ⌜ r ≡ (eqb b 0 || allowed kind b) ⌝ }
+    ensures { λ r. ⌜ r ≡ cond (eqb b 0) (blankTaken kind) (allowed kind b) ⌝ }
 {
     if b == 0 {
-        return true;
+        return takes_blank(kind);
     }
     is_allowed(kind, b)
 }
@@ -285,6 +302,17 @@ fn text_agrees(plain: Plain, n: usize, s: &[u8]) -> bool
     any_agrees(plain, s)
 }
 
+// Whether the n bytes of a field are a text, and not blank.
+fn filled_agrees(n: usize, s: &[u8]) -> bool
+    requires { ⌜ n ≡ length (now s) ⌝ }
+    ensures { λ r. ⌜ r ≡ agreesOf Kind.FilledText (now (s .entry)) ⌝ }
+{
+    if is_blank(s) {
+        return false;
+    }
+    text_agrees(Plain::OfT, n, s)
+}
+
 // Whether the n bytes of a field agree with its kind.
 fn sized_agrees(kind: Kind, n: usize, s: &[u8]) -> bool
     requires { ⌜ n ≡ length (now s) ⌝ }
@@ -300,10 +328,11 @@ fn sized_agrees(kind: Kind, n: usize, s: &[u8]) -> bool
         Kind::Identifier => is_name(s),
         Kind::Binary => true,
         Kind::Price => true,
+        Kind::FilledText => filled_agrees(n, s),
     }
 }
 
-// Whether a field's bytes agree with its kind. A blank field does. The length is an argument below, so that a literal one is folded.
+// Whether a field's bytes agree with its kind. A blank field does, but for the kind that is never blank. The length is an argument below, so that a literal one is folded.
 pub fn agrees(kind: Kind, s: &[u8]) -> bool
     ensures { λ r. ⌜ r ≡ agreesOf kind (now (s .entry)) ⌝ }
 {

@@ -2,32 +2,33 @@
 --     a-valid-record-is-taken    every order's record of which holds what document 01 asks is taken by the writer, where there is room for its message,
 --                                and its message is taken by the reader, as the same record
 --     every-choice-is-taken      so for every type, every count of bitfields, every choice of listed bits with the required ones among them, and every
---                                good fixed part: the record with these bits and blank or zero fields
+--                                good fixed part, in Purge Orders with any RiskGroupIDs: the record with these bits and fields that are blank or zero
+--                                where they may be
 -- That there are such choices of each type: SomeChoice.antt.
 -- Assumes nothing.
 use mathlib.Core.Path.{_≡_, refl, sym, ap, ap₂, _∙_, subst}
-use mathlib.Core.Bool.{Bool, true, false, not, _&&_, _||_}
+use mathlib.Core.Bool.{Bool, true, false, cond, _&&_, _||_}
 use mathlib.Core.List.{List, [], _∷_, _++_, append-nil}
-use Prim.Native.Nat.{ℕ, zero, suc, _+_, _-_, _/_, _%_, _≤_, _<_}
+use Prim.Native.Nat.{ℕ, zero, suc, _+_, _*_, _-_, _/_, _%_, _≤_, _<_}
 use native.Mathlib.Omega.{arith}
 use lib.Dec.{leb, ltb, eqb}
 use lib.ListN.{length, getD, take, drop, length-drop, List·getD-eq-default}
-use lib.Seq.{length-take-le, getD-take, getD-drop, take-take}
+use lib.Seq.{length-take-le, getD-take, getD-drop, drop-drop, take-take}
 use borrow.Author.Tests.{eq-eqb, eqb-true, le-leb, ltb-true, ltb-false}
 use Rattle.kinds.specs.Kinds.{allNul, agreesOf}
-use Rattle.kinds.specs.KindLaws.{blank-agrees}
 use Rattle.numbers.specs.Numbers.{numberAt, bytesOf, patched}
 use Rattle.wire.specs.HeaderLaws.{Bytes}
-use Rattle.block.specs.Slots.{zeros, takes, sum, agreeHeld, zeroElsewhere}
-use Rattle.block.specs.SlotLaws.{length-zeros, takes-below, both-true}
-use Rattle.block.specs.Places.{selectedAt, entryAt, slotsFrom, slotsOf, hasRequired}
+use Rattle.block.specs.Slots.{takes, sum, agreeHeld, zeroElsewhere}
+use Rattle.block.specs.SlotLaws.{takes-below, both-true}
+use Rattle.block.specs.Places.{selectedAt, entryAt, slotsFrom, slotsOf, newOrderHas, modifyOrderHas, purgeOrdersHas, hasRequired}
 use Rattle.block.specs.FieldPlaces.{widthsBefore, AllAgree, Unselected}
-use Rattle.block.specs.FieldPlaceLaws.{takes-all, widths-same, nul-part, nul-rest, no-bad-slot, selected-agree, zero-where-unset}
+use Rattle.block.specs.FieldPlaceLaws.{takes-all, widths-same, nul-rest, no-bad-slot, selected-agree, zero-where-unset}
 use Rattle.block.specs.Dictionaries.{before-none, dictionary-placed, widths-fit, field-fits}
-use Rattle.block.specs.Sizes.{fixedSize, mostBitfields, allPlaces, layoutSize, bitsPlace, recordSize}
+use Rattle.block.specs.Sizes.{fixedSize, fixedEnd, mostBitfields, allPlaces, layoutSize, bitsPlace, recordSize}
 use Rattle.orders.specs.Shapes.{ofMember, sequenced, unsequenced, ofVenue, countAt, unitGood, fixedGood}
-use Rattle.orders.specs.Orders.{writeSlots, sizeOf}
-use Rattle.orders.specs.OrderLaws.{either, count-bounds, most-bound, Fit, is-written}
+use Rattle.orders.specs.Middle.{riskGroups, middleSize, middleGood}
+use Rattle.orders.specs.Orders.{writeSlots, writeRest, sizeOf}
+use Rattle.orders.specs.OrderLaws.{either, count-bounds, most-bound, in-purge-orders, middle-fits, Fit, is-written}
 use Rattle.orders.specs.declared.Record.{Record}
 use Rattle.orders.specs.RoundTrip.{Sound}
 use Rattle.order_records.specs.Records.{recordBytes, recordAt}
@@ -37,20 +38,24 @@ use Rattle.messages.specs.MessageLaws.{order-size, own-write}
 use Rattle.messages.specs.RoundTrip.{read-again}
 use Rattle.messages.specs.OrderPlaces.{isOrder, countIn, layoutIn, orderMost, setInRecord}
 use Rattle.messages.specs.FieldPlace.{set-same, selected-small, not-session}
-use Rattle.messages.specs.ByteLaws.{bytes-front, bytes-append, zero-byte, bytes-zeros, number-bytes}
+use Rattle.messages.specs.ByteLaws.{bytes-front, bytes-append, number-bytes}
 use Rattle.messages.specs.Taken.{TakenBothWays}
-use Rattle.messages.specs.ValidOrders.{orderOf, UnitFits, Required, Valid, messageSize, GoodFixed, GoodBits, chosenRecord}
+use Rattle.messages.specs.ValidOrders.{orderOf, UnitFits, Required, NeedsMet, betweenIn, Valid, messageSize, betweenOf, GoodFixed, GoodBits, chosenFields, chosenRecord}
+use Rattle.messages.specs.ChosenFields.{not-late, fields-long, fields-bytes, fields-needs, fields-zero, fields-agree}
 
 -- ---- the types
 
 -- what holds of each type holds of every order of a direction
-pub by-direction : (direction message : ℕ) → orderOf direction message ≡ true → (P : ℕ → ℕ → Type 0) → P 0 0x38 → P 0 0x39 → P 1 0x25 → P 1 0x2C → P 1 0x26 → P 1 0x29 → P 1 0x2B
-    → P direction message
-by-direction direction message o P a b c d e f g =
-    either (eqb direction 0 && (eqb message 0x38 || eqb message 0x39))
+pub by-direction : (direction message : ℕ) → orderOf direction message ≡ true → (P : ℕ → ℕ → Type 0) → P 0 0x38 → P 0 0x39 → P 0 0x3A → P 0 0x47 → P 1 0x25 → P 1 0x2C → P 1 0x26 → P 1 0x29
+    → P 1 0x2B → P direction message
+by-direction direction message o P a b h i c d e f g =
+    either (eqb direction 0 && (eqb message 0x38 || (eqb message 0x39 || (eqb message 0x3A || eqb message 0x47))))
     (λ q.
     let p = both-true (eqb direction 0) _ q in
-    either (eqb message 0x38) (at 0 0x38 a (p .0)) (at 0 0x39 b (p .0)) (p .1))
+    either (eqb message 0x38) (at 0 0x38 a (p .0))
+    (either (eqb message 0x39) (at 0 0x39 b (p .0))
+    (either (eqb message 0x3A) (at 0 0x3A h (p .0))
+    (at 0 0x47 i (p .0)))) (p .1))
     (λ q.
     let p = both-true (eqb direction 1) _ q in
     either (eqb message 0x25) (at 1 0x25 c (p .0))
@@ -74,6 +79,7 @@ known-type : (direction message : ℕ) → orderOf direction message ≡ true �
 unfolding carries unitGood
 known-type direction message o =
     by-direction direction message o Known (member 0x38 refl refl refl refl (λ u n. refl)) (member 0x39 refl refl refl refl (λ u n. refl))
+    (member 0x3A refl refl refl refl (λ u n. refl)) (member 0x47 refl refl refl refl (λ u n. refl))
     (counted 0x25 refl refl refl refl (λ u n. refl)) (counted 0x2C refl refl refl refl (λ u n. refl))
     (aside 0x26 refl refl refl refl (λ u n. refl)) (aside 0x29 refl refl refl refl (λ u n. refl)) (aside 0x2B refl refl refl refl (λ u n. refl))
   where
@@ -123,11 +129,14 @@ part-of-front w (suc p) (suc n) (x ∷ l) h = part-of-front w p n l (omega arith
 
 required-set : (message count : ℕ) (bits : List ℕ) → Required message (selectedAt count bits) → hasRequired message count bits ≡ true
 unfolding hasRequired
-required-set message count bits q = by (eqb message 0x38) refl
+required-set message count bits q = by (eqb message 0x38) (eqb message 0x3A) (eqb message 0x47) refl refl refl
   where
-    by : (b : Bool) → eqb message 0x38 ≡ b → (not b || (selectedAt count bits 8 && (selectedAt count bits 14 && (selectedAt count bits 2 || selectedAt count bits 4)))) ≡ true
-    by false e = refl
-    by true e = let o = eqb-true message 0x38 e in rw (q .symbol o, q .capacity o, q .price-or-type o)
+    by : (a b c : Bool) → eqb message 0x38 ≡ a → eqb message 0x3A ≡ b → eqb message 0x47 ≡ c
+        → cond a (newOrderHas count bits) (cond b (modifyOrderHas count bits) (cond c (purgeOrdersHas count bits) true)) ≡ true
+    by true b c e f g = let o = eqb-true message 0x38 e in rw (q .symbol o, q .capacity o, q .price-or-type o)
+    by false true c e f g = let o = eqb-true message 0x3A f in rw (q .quantity o, q .new-price-or-type o)
+    by false false true e f g = q .instruction (eqb-true message 0x47 g)
+    by false false false e f g = refl
 
 -- ---- A VALID RECORD
 
@@ -156,14 +165,66 @@ module _ (direction : ℕ) (r : List ℕ) (long : recordSize ≤ length r) (v : 
       takes-all (selectedAt (getD r countIn 0) (take mostBitfields (drop (countIn + 1) r))) (entryAt (getD r 0 0)) allPlaces
       ∙ sym (widths-same (setInRecord r) (selectedAt (getD r countIn 0) (take mostBitfields (drop (countIn + 1) r))) (entryAt (getD r 0 0)) same-set allPlaces)
 
+  -- what the record holds between is the middle that the writer goes by, and it is good
+  held-rest : List ℕ
+  held-rest = drop (countAt (getD r 0 0) - 10) (take fixedSize (drop 6 r))
+
+  groups-held : getD r 0 0 ≡ 0x47 → riskGroups held-rest ≡ getD r 7 0
+  unfolding held-rest
+  groups-held e =
+      let n : countAt (getD r 0 0) - 10 + 0 ≡ 1 = omega (arith, in-purge-orders (getD r 0 0) e) in
+      getD-drop (countAt (getD r 0 0) - 10) (take fixedSize (drop 6 r)) 0 0
+      ∙ ap (λ (i : ℕ). getD (take fixedSize (drop 6 r)) i 0) n
+      ∙ getD-take fixedSize (drop 6 r) 1 0 (omega arith)
+      ∙ getD-drop 6 r 1 0
+
+  middle-held : (count : ℕ) (bits : List ℕ) → middleSize (getD r 0 0) count bits held-rest ≡ betweenIn r
+  unfolding middleSize betweenIn
+  middle-held count bits = by (eqb (getD r 0 0) 0x47) refl
+    where
+      by : (b : Bool) → eqb (getD r 0 0) 0x47 ≡ b → cond b (1 + 2 * riskGroups held-rest) 0 ≡ cond b (1 + 2 * getD r 7 0) 0
+      by true e = ap (λ (n : ℕ). 1 + 2 * n) (groups-held (eqb-true (getD r 0 0) 0x47 e))
+      by false e = refl
+
+  good-held : (count : ℕ) (bits : List ℕ) → middleGood (getD r 0 0) count bits held-rest ≡ true
+  unfolding middleGood
+  good-held count bits = by (eqb (getD r 0 0) 0x47) refl
+    where
+      by : (b : Bool) → eqb (getD r 0 0) 0x47 ≡ b → cond b (leb (riskGroups held-rest) 10) true ≡ true
+      by true e = let o = eqb-true (getD r 0 0) 0x47 e in ap (λ (n : ℕ). leb n 10) (groups-held o) ∙ le-leb (getD r 7 0) 10 (v .groups o)
+      by false e = refl
+
+  between-small : countAt (getD r 0 0) + betweenIn r ≤ fixedEnd
+  between-small = omega (arith, middle-fits (getD r 0 0) 0 [] held-rest (good-held 0 []), middle-held 0 [])
+
+  unused-zero : allNul (drop (betweenIn r) held-rest) ≡ true
+  unfolding held-rest
+  unused-zero =
+      let low = count-bounds (getD r 0 0) .low in
+      ap allNul (drop-drop (betweenIn r) (countAt (getD r 0 0) - 10) (take fixedSize (drop 6 r)))
+      ∙ zero-from fixedSize 6 (countAt (getD r 0 0) - 10 + betweenIn r) r (omega (arith, long)) (λ i l m. v .zero-after-fixed i (omega (arith, low, l)) (omega (arith, m)))
+
+  -- the late rules are met in the layout that the writer goes by
+  needs-held : NeedsMet (getD r 0 0) (selectedAt (getD r countIn 0) (take mostBitfields (drop (countIn + 1) r))) (take layoutSize (drop layoutIn r))
+  needs-held =
+      let at : (i : ℕ) → i < layoutSize → getD (take layoutSize (drop layoutIn r)) i 0 ≡ getD (drop layoutIn r) i 0 = λ i h. getD-take layoutSize (drop layoutIn r) i 0 h in
+      record {
+        market-price = λ o h. at 16 (omega arith) ∙ v .needs .market-price o (same-set 3 ∙ h);
+        firm = λ o h. sym (same-set 0) ∙ v .needs .firm o (sym (at 4 (omega arith)) ∙ h);
+        one-answer = λ o h. sym (same-set 4) ∙ v .needs .one-answer o (sym (at 5 (omega arith)) ∙ h);
+        both-answers = λ o h. sym (same-set 4) ∙ v .needs .both-answers o (sym (at 5 (omega arith)) ∙ h);
+        lockout = λ o h. at 4 (omega arith) ∙ v .needs .lockout o (sym (at 6 (omega arith)) ∙ h);
+        symbol-alone = λ o h k. at 56 (omega arith) ∙ v .needs .symbol-alone o (same-set 8 ∙ h) (same-set 15 ∙ k);
+      }
+
   -- a message with bitfields has no more bytes than the longest
   pub no-longer : messageSize r ≤ orderMost
   no-longer =
       let ss = slotsOf (getD r 0 0) (getD r countIn 0) (take mostBitfields (drop (countIn + 1) r)) in
-      omega (arith, sizes, few, takes-below ss, widths-fit (getD r 0 0) (getD r countIn 0) (take mostBitfields (drop (countIn + 1) r)), count-bounds (getD r 0 0) .high)
+      omega (arith, sizes, few, takes-below ss, widths-fit (getD r 0 0) (getD r countIn 0) (take mostBitfields (drop (countIn + 1) r)), between-small)
 
   fits : (room : ℕ) → messageSize r ≤ room → Fit (recordAt r) room
-  unfolding recordAt writeSlots sizeOf
+  unfolding recordAt writeSlots writeRest sizeOf held-rest
   fits room roomy =
       let message = getD r 0 0 in
       let set = selectedAt (getD r countIn 0) (take mostBitfields (drop (countIn + 1) r)) in
@@ -179,15 +240,20 @@ module _ (direction : ℕ) (r : List ℕ) (long : recordSize ≤ length r) (v : 
               symbol = λ o. sym (same-set 8) ∙ v .required .symbol o;
               capacity = λ o. sym (same-set 14) ∙ v .required .capacity o;
               price-or-type = λ o. ap₂ (λ (a b : Bool). a || b) (sym (same-set 2)) (sym (same-set 4)) ∙ v .required .price-or-type o;
+              quantity = λ o. sym (same-set 2) ∙ v .required .quantity o;
+              new-price-or-type = λ o. ap₂ (λ (a b : Bool). a || b) (sym (same-set 3)) (sym (same-set 4)) ∙ v .required .new-price-or-type o;
+              instruction = λ o. sym (same-set 2) ∙ v .required .instruction o;
             });
         fixed = v .fixed;
+        middle = good-held (getD r countIn 0) (take mostBitfields (drop (countIn + 1) r));
+        late = not-late message (getD r countIn 0) (take mostBitfields (drop (countIn + 1) r)) slots needs-held;
         agree = ap (λ (n : ℕ). agreeHeld (slotsFrom set (entryAt message) allPlaces 0) (drop n slots)) (sym start) ∙ selected-agree set (entryAt message) layoutSize (dictionary-placed message) slots slots-agree allPlaces 0 (omega arith);
-        zero-fixed = zero-from fixedSize 6 (countAt message - 10) r (omega arith) (λ i l m. v .zero-after-fixed i (omega (arith, count-bounds message .low)) (omega arith));
+        zero-fixed = ap (λ (n : ℕ). allNul (drop n held-rest)) (middle-held (getD r countIn 0) (take mostBitfields (drop (countIn + 1) r))) ∙ unused-zero;
         zero-bits = zero-from mostBitfields (countIn + 1) (getD r countIn 0) r (omega arith) (λ i l m. v .zero-after-bits i l m);
         zero-slots =
             ap (λ (n : ℕ). zeroElsewhere (slotsFrom set (entryAt message) allPlaces 0) (drop n slots)) (sym start)
             ∙ zero-where-unset set (entryAt message) layoutSize (dictionary-placed message) slots (λ j e. selected-small (getD r countIn 0) (take mostBitfields (drop (countIn + 1) r)) j e few) slots-zero allPlaces 0 refl;
-        has-room = omega (arith, sizes);
+        has-room = omega (arith, sizes, roomy, middle-held (getD r countIn 0) (take mostBitfields (drop (countIn + 1) r)));
       }
 
   own-fits : (room : ℕ) → messageSize r ≤ room → ownWrite r room ≡ 0
@@ -213,11 +279,11 @@ a-valid-record-is-taken direction r out bytes long v room =
 
 -- types and units are bytes
 type-byte : (direction message : ℕ) → orderOf direction message ≡ true → message < 256
-type-byte direction message o = by-direction direction message o (λ (d x : ℕ). x < 256) (omega arith) (omega arith) (omega arith) (omega arith) (omega arith) (omega arith) (omega arith)
+type-byte direction message o = by-direction direction message o (λ (d x : ℕ). x < 256) (omega arith) (omega arith) (omega arith) (omega arith) (omega arith) (omega arith) (omega arith) (omega arith) (omega arith)
 
 unit-byte : (direction message unit number : ℕ) → orderOf direction message ≡ true → UnitFits message unit number → unit < 256
 unit-byte direction message unit number o =
-    by-direction direction message o (λ (d x : ℕ). UnitFits x unit number → unit < 256) (λ f. none (f .of-member refl)) (λ f. none (f .of-member refl)) (λ f. some (f .at-most refl)) (λ f. some (f .at-most refl))
+    by-direction direction message o (λ (d x : ℕ). UnitFits x unit number → unit < 256) (λ f. none (f .of-member refl)) (λ f. none (f .of-member refl)) (λ f. none (f .of-member refl)) (λ f. none (f .of-member refl)) (λ f. some (f .at-most refl)) (λ f. some (f .at-most refl))
     (λ f. none (f .no-unit refl)) (λ f. none (f .no-unit refl)) (λ f. none (f .no-unit refl))
   where
     none : unit ≡ 0 → unit < 256
@@ -229,11 +295,11 @@ unit-byte direction message unit number o =
 module _ (direction message unit number : ℕ) (fixed : List ℕ) (count : ℕ) (bits : List ℕ)
     (type : orderOf direction message ≡ true) (unit-fits : UnitFits message unit number) (any : number < 4294967296) (f : GoodFixed message fixed) (b : GoodBits message count bits) where
   the-record : Record
-  the-record = record { message = message; unit = unit; number = number; fixed = fixed; count = count; bits = bits; slots = zeros layoutSize }
+  the-record = record { message = message; unit = unit; number = number; fixed = fixed; count = count; bits = bits; slots = chosenFields message count bits }
 
   sound : Sound the-record
   unfolding the-record
-  sound = record { fixed-length = f .whole; bits-length = b .whole; slots-length = length-zeros layoutSize; number-range = any }
+  sound = record { fixed-length = f .whole; bits-length = b .whole; slots-length = fields-long message count bits; number-range = any }
 
   stored : List ℕ
   stored = chosenRecord message unit number fixed count bits
@@ -252,10 +318,10 @@ module _ (direction message unit number : ℕ) (fixed : List ℕ) (count : ℕ) 
   stored-bytes : Bytes stored
   unfolding stored chosenRecord recordBytes
   stored-bytes =
-      bytes-append (message ∷ unit ∷ bytesOf 4 number) (fixed ++ (count ∷ (bits ++ zeros layoutSize)))
+      bytes-append (message ∷ unit ∷ bytesOf 4 number) (fixed ++ (count ∷ (bits ++ chosenFields message count bits)))
       (bytes-front message (unit ∷ bytesOf 4 number) (type-byte direction message type) (bytes-front unit (bytesOf 4 number) (unit-byte direction message unit number type unit-fits) (number-bytes 4 number)))
-      (bytes-append fixed (count ∷ (bits ++ zeros layoutSize)) (f .bytes)
-      (bytes-front count (bits ++ zeros layoutSize) (omega (arith, few-bits)) (bytes-append bits (zeros layoutSize) (b .bytes) (bytes-zeros layoutSize))))
+      (bytes-append fixed (count ∷ (bits ++ chosenFields message count bits)) (f .bytes)
+      (bytes-front count (bits ++ chosenFields message count bits) (omega (arith, few-bits)) (bytes-append bits (chosenFields message count bits) (b .bytes) (fields-bytes message count bits))))
 
   type-is : getD stored 0 0 ≡ message
   unfolding recordAt the-record
@@ -281,7 +347,7 @@ module _ (direction message unit number : ℕ) (fixed : List ℕ) (count : ℕ) 
   unfolding recordAt the-record
   bits-are = ap (λ (x : Record). x .bits) held
 
-  slots-are : take layoutSize (drop layoutIn stored) ≡ zeros layoutSize
+  slots-are : take layoutSize (drop layoutIn stored) ≡ chosenFields message count bits
   unfolding recordAt the-record
   slots-are = ap (λ (x : Record). x .slots) held
 
@@ -292,13 +358,34 @@ module _ (direction message unit number : ℕ) (fixed : List ℕ) (count : ℕ) 
   set-is : (k : ℕ) → setInRecord stored k ≡ selectedAt count bits k
   set-is = set-same countIn count stored bits count-is (λ j h. in-part mostBitfields (countIn + 1) j bits bits-are (omega (arith, few-bits)))
 
-  layout-zero : (i : ℕ) → i < layoutSize → getD stored (layoutIn + i) 0 ≡ 0
-  layout-zero i h = in-part layoutSize layoutIn i (zeros layoutSize) slots-are h ∙ zero-byte layoutSize i
+  layout-at : (i : ℕ) → i < layoutSize → getD stored (layoutIn + i) 0 ≡ getD (chosenFields message count bits) i 0
+  layout-at i h = in-part layoutSize layoutIn i (chosenFields message count bits) slots-are h
 
-  layout-blank : (w p : ℕ) → p + w ≤ layoutSize → allNul (take w (drop p (drop layoutIn stored))) ≡ true
-  layout-blank w p h = nul-part w p (drop layoutIn stored) (λ i l m. getD-drop layoutIn stored i 0 ∙ layout-zero i (omega arith))
+  -- a field's bytes are those of the chosen fields
+  layout-part : (w p : ℕ) → p + w ≤ layoutSize → take w (drop p (drop layoutIn stored)) ≡ take w (drop p (chosenFields message count bits))
+  layout-part w p h = sym (part-of-front w p layoutSize (drop layoutIn stored) h) ∙ ap (λ (l : List ℕ). take w (drop p l)) slots-are
 
-  after-fixed : (i : ℕ) → countAt message ≤ i + 4 → i < countIn → getD stored i 0 ≡ 0
+  layout-byte : (i : ℕ) → i < layoutSize → getD (drop layoutIn stored) i 0 ≡ getD (chosenFields message count bits) i 0
+  layout-byte i h = getD-drop layoutIn stored i 0 ∙ layout-at i h
+
+  between-is : betweenIn stored ≡ betweenOf message fixed
+  unfolding betweenIn betweenOf
+  between-is = ap₂ (λ (x n : ℕ). cond (eqb x 0x47) (1 + 2 * n) 0) type-is (in-part fixedSize 6 1 fixed fixed-is (omega arith))
+
+  needs-met : NeedsMet (getD stored 0 0) (setInRecord stored) (drop layoutIn stored)
+  needs-met =
+      let n = fields-needs message count bits (b .required) in
+      let at : (i : ℕ) → i < layoutSize → getD (drop layoutIn stored) i 0 ≡ getD (chosenFields message count bits) i 0 = layout-byte in
+      record {
+        market-price = λ o h. at 16 (omega arith) ∙ n .market-price (sym type-is ∙ o) (sym (set-is 3) ∙ h);
+        firm = λ o h. set-is 0 ∙ n .firm (sym type-is ∙ o) (sym (at 4 (omega arith)) ∙ h);
+        one-answer = λ o h. set-is 4 ∙ n .one-answer (sym type-is ∙ o) (sym (at 5 (omega arith)) ∙ h);
+        both-answers = λ o h. set-is 4 ∙ n .both-answers (sym type-is ∙ o) (sym (at 5 (omega arith)) ∙ h);
+        lockout = λ o h. at 4 (omega arith) ∙ n .lockout (sym type-is ∙ o) (sym (at 6 (omega arith)) ∙ h);
+        symbol-alone = λ o h k. at 56 (omega arith) ∙ n .symbol-alone (sym type-is ∙ o) (sym (set-is 8) ∙ h) (sym (set-is 15) ∙ k);
+      }
+
+  after-fixed : (i : ℕ) → countAt message + betweenOf message fixed ≤ i + 4 → i < countIn → getD stored i 0 ≡ 0
   after-fixed i l h =
       let e : 6 + (i - 6) ≡ i = omega (arith, count-bounds message .low) in
       ap (λ (n : ℕ). getD stored n 0) (sym e) ∙ in-part fixedSize 6 (i - 6) fixed fixed-is (omega arith) ∙ f .ends (i - 6) (omega arith)
@@ -320,11 +407,19 @@ module _ (direction message unit number : ℕ) (fixed : List ℕ) (count : ℕ) 
       symbol = λ o. set-is 8 ∙ b .required .symbol (sym type-is ∙ o);
       capacity = λ o. set-is 14 ∙ b .required .capacity (sym type-is ∙ o);
       price-or-type = λ o. ap₂ (λ (x y : Bool). x || y) (set-is 2) (set-is 4) ∙ b .required .price-or-type (sym type-is ∙ o);
+      quantity = λ o. set-is 2 ∙ b .required .quantity (sym type-is ∙ o);
+      new-price-or-type = λ o. ap₂ (λ (x y : Bool). x || y) (set-is 3) (set-is 4) ∙ b .required .new-price-or-type (sym type-is ∙ o);
+      instruction = λ o. set-is 2 ∙ b .required .instruction (sym type-is ∙ o);
     };
-    agree = λ k w p kind e q. blank-agrees kind (take w (drop p (drop layoutIn stored))) (layout-blank w p (field-fits (getD stored 0 0) (k / 8 + 1) (k % 8) q));
-    zero-after-fixed = λ i l h. after-fixed i (rw type-is at l) h;
+    groups = λ o. rw (in-part fixedSize 6 1 fixed fixed-is (omega arith)) (f .groups (sym type-is ∙ o));
+    agree = λ k w p kind e q.
+        let here = ap (λ (x : ℕ). entryAt x k) type-is in
+        ap (agreesOf kind) (layout-part w p (field-fits (getD stored 0 0) (k / 8 + 1) (k % 8) q))
+        ∙ fields-agree message count bits (known-type direction message type .is-order) few-bits k w p kind (sym (set-is k) ∙ e) (q ∙ here);
+    needs = needs-met;
+    zero-after-fixed = λ i l h. after-fixed i (rw (type-is, between-is) at l) h;
     zero-after-bits = λ i l h. after-bits i (rw count-is at l) h;
-    zero-elsewhere = λ i h u. layout-zero i h;
+    zero-elsewhere = λ i h u. layout-at i h ∙ fields-zero message count bits (b .required) i (λ k w p kind e q. u k w p kind (set-is k ∙ e) (q ∙ ap (λ (x : ℕ). entryAt x k) (sym type-is)));
   }
 
   -- EVERY CHOICE IS TAKEN, into any output buffer that has room for the longest

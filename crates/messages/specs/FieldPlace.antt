@@ -2,16 +2,16 @@
 -- listed bit among those chosen.
 --     a-field-is-read-at-its-place       of any bytes that the reader accepts
 --     a-field-is-written-at-its-place    of the output buffer, where the writer takes a record
--- In both the field is the `width` bytes from the count's place, 1, the count and the summed widths of all earlier set bits on; and these are the
--- bytes of its place in the record's buffer. Assumes nothing.
+-- In both the field is the `width` bytes from the count's place, 1, the count, what stands between bitfields and fields, and the summed widths of all
+-- earlier set bits on; and these are the bytes of its place in the record's buffer. Assumes nothing.
 use mathlib.Core.Path.{_≡_, refl, sym, ap, ap₂, _∙_, subst}
-use mathlib.Core.Bool.{Bool, true, false, _&&_}
+use mathlib.Core.Bool.{Bool, true, false, cond, _&&_}
 use mathlib.Core.List.{List, [], _∷_, _++_, append-assoc, append-nil}
-use Prim.Native.Nat.{ℕ, _+_, _-_, _/_, _%_, _≤_, _<_}
+use Prim.Native.Nat.{ℕ, _+_, _*_, _-_, _/_, _%_, _≤_, _<_}
 use native.Mathlib.Omega.{arith}
 use lib.Dec.{ltb, eqb}
 use lib.ListN.{length, getD, take, drop, length-drop, take-append-drop}
-use lib.Seq.{length-take-le, getD-take, getD-drop, drop-drop, take-append-le, drop-append-le}
+use lib.Seq.{length-take-le, getD-take, getD-drop, drop-at, drop-drop, take-append-le, drop-append-le}
 use borrow.Author.Tests.{ltb-true, eqb-true}
 use Rattle.kinds.specs.declared.Kind.{Kind}
 use Rattle.dictionary.specs.declared.Entry.the-variants.{Field}
@@ -28,8 +28,9 @@ use Rattle.block.specs.FieldPlaceLaws.{widths-same, field-held, field-sent, fie
 use Rattle.block.specs.Dictionaries.{widths-fit}
 use Rattle.block.specs.Sizes.{allPlaces, layoutSize, recordSize, mostBitfields}
 use Rattle.orders.specs.Shapes.{countAt}
-use Rattle.orders.specs.Orders.{writeSlots, sizeOf, orderBytes, writeRefusal}
-use Rattle.orders.specs.OrderLaws.{count-bounds, most-bound, fit, either}
+use Rattle.orders.specs.Middle.{middleSize}
+use Rattle.orders.specs.Orders.{writeSlots, writeRest, writeMiddle, sizeOf, orderBytes, writeRefusal}
+use Rattle.orders.specs.OrderLaws.{count-bounds, most-bound, middle-fits, middle-kept, fit, either}
 use Rattle.orders.specs.RoundTrip.{parts-count, parts-bits, parts-rest, Sound, bytes-length, framed-after, framed-as-written}
 use Rattle.orders.specs.RoundTrip as orderTrip
 use Rattle.orders.specs.Orders as orders
@@ -39,7 +40,7 @@ use Rattle.order_records.specs.RecordTrip.{record-again, at-sound, bytes-again}
 use Rattle.messages.specs.Messages.{isSession, ownRefusal, recordOf, readCall, readRecord, ownWrite, messageOf, writeCall, writeOut}
 use Rattle.messages.specs.MessageLaws.{order-size}
 use Rattle.messages.specs.RoundTrip.{Accepted, accepted, taken, given, record-stored, message-stored}
-use Rattle.messages.specs.OrderPlaces.{isOrder, countIn, layoutIn, setIn, setInMessage, setInRecord, fieldAt, Stands}
+use Rattle.messages.specs.OrderPlaces.{isOrder, countIn, layoutIn, setIn, setInMessage, setInRecord, between, fieldAt, Stands}
 
 -- ---- the bits that are set
 
@@ -82,15 +83,30 @@ module _ (r : Record) (room : ℕ) (ok : Sound r) (z : writeRefusal r room ≡ 0
   unfolding optional
   optional-long = gathered-length (slotsOf (r .message) (r .count) (r .bits)) (r .slots) (omega (arith, widths-fit (r .message) (r .count) (r .bits), ok .slots-length))
 
-  as-parts : m ≡ headerBytes (sizeOf r - 2) (r .message) (r .unit) (r .number) ++ (take (countAt (r .message) - 10) (r .fixed) ++ (r .count ∷ (take (r .count) (r .bits) ++ (optional ++ t))))
-  unfolding orderBytes writeSlots optional
+  -- the middle that the record holds, and that it is all there
+  middle : List ℕ
+  middle = take (writeMiddle r) (writeRest r)
+
+  middle-within : writeMiddle r ≤ length (writeRest r)
+  unfolding writeRest
+  middle-within =
+      let d : length (drop (countAt (r .message) - 10) (r .fixed)) ≡ length (r .fixed) - (countAt (r .message) - 10) = length-drop (countAt (r .message) - 10) (r .fixed) in
+      omega (arith, d, middle-fits (r .message) (r .count) (r .bits) (writeRest r) (fit r room z .middle), ok .fixed-length, low)
+
+  middle-long : length middle ≡ writeMiddle r
+  unfolding middle
+  middle-long = length-take-le (writeMiddle r) (writeRest r) middle-within
+
+  as-parts : m ≡ headerBytes (sizeOf r - 2) (r .message) (r .unit) (r .number) ++ (take (countAt (r .message) - 10) (r .fixed) ++ (r .count ∷ (take (r .count) (r .bits) ++ (middle ++ (optional ++ t)))))
+  unfolding orderBytes writeSlots optional middle
   as-parts =
       let h = headerBytes (sizeOf r - 2) (r .message) (r .unit) (r .number) in
       let f = take (countAt (r .message) - 10) (r .fixed) in
       let s = take (r .count) (r .bits) in
+      let g = middle ++ optional in
       is-message
-      ∙ append-assoc h (f ++ (r .count ∷ (s ++ optional))) t
-      ∙ ap (λ (x : List ℕ). h ++ x) (append-assoc f (r .count ∷ (s ++ optional)) t ∙ ap (λ (x : List ℕ). f ++ (r .count ∷ x)) (append-assoc s optional t))
+      ∙ append-assoc h (f ++ (r .count ∷ (s ++ g))) t
+      ∙ ap (λ (x : List ℕ). h ++ x) (append-assoc f (r .count ∷ (s ++ g)) t ∙ ap (λ (x : List ℕ). f ++ (r .count ∷ x)) (append-assoc s g t ∙ ap (λ (x : List ℕ). s ++ x) (append-assoc middle optional t)))
 
   type-is : typeOf m ≡ r .message
   type-is = ap (λ (l : List ℕ). typeOf l) as-parts
@@ -98,17 +114,33 @@ module _ (r : Record) (room : ℕ) (ok : Sound r) (z : writeRefusal r room ≡ 0
   count-there : getD m (countAt (r .message)) 0 ≡ r .count
   count-there =
       ap (λ (l : List ℕ). getD l (countAt (r .message)) 0) as-parts
-      ∙ parts-count (headerBytes (sizeOf r - 2) (r .message) (r .unit) (r .number)) (take (countAt (r .message) - 10) (r .fixed)) (r .count) (take (r .count) (r .bits)) (optional ++ t) (countAt (r .message)) refl fixed-long bits-long low
+      ∙ parts-count (headerBytes (sizeOf r - 2) (r .message) (r .unit) (r .number)) (take (countAt (r .message) - 10) (r .fixed)) (r .count) (take (r .count) (r .bits)) (middle ++ (optional ++ t)) (countAt (r .message)) refl fixed-long bits-long low
 
   bits-there : take (r .count) (drop (countAt (r .message) + 1) m) ≡ take (r .count) (r .bits)
   bits-there =
       ap (λ (l : List ℕ). take (r .count) (drop (countAt (r .message) + 1) l)) as-parts
-      ∙ parts-bits (headerBytes (sizeOf r - 2) (r .message) (r .unit) (r .number)) (take (countAt (r .message) - 10) (r .fixed)) (r .count) (take (r .count) (r .bits)) (optional ++ t) (countAt (r .message)) refl fixed-long bits-long low
+      ∙ parts-bits (headerBytes (sizeOf r - 2) (r .message) (r .unit) (r .number)) (take (countAt (r .message) - 10) (r .fixed)) (r .count) (take (r .count) (r .bits)) (middle ++ (optional ++ t)) (countAt (r .message)) refl fixed-long bits-long low
 
-  fields-there : drop (countAt (r .message) + 1 + r .count) m ≡ optional ++ t
-  fields-there =
+  rest-there : drop (countAt (r .message) + 1 + r .count) m ≡ middle ++ (optional ++ t)
+  rest-there =
       ap (λ (l : List ℕ). drop (countAt (r .message) + 1 + r .count) l) as-parts
-      ∙ parts-rest (headerBytes (sizeOf r - 2) (r .message) (r .unit) (r .number)) (take (countAt (r .message) - 10) (r .fixed)) (r .count) (take (r .count) (r .bits)) (optional ++ t) (countAt (r .message)) refl fixed-long bits-long low
+      ∙ parts-rest (headerBytes (sizeOf r - 2) (r .message) (r .unit) (r .number)) (take (countAt (r .message) - 10) (r .fixed)) (r .count) (take (r .count) (r .bits)) (middle ++ (optional ++ t)) (countAt (r .message)) refl fixed-long bits-long low
+
+  -- what stands between bitfields and fields is the middle
+  between-is : between m ≡ writeMiddle r
+  unfolding between middleSize middle
+  between-is =
+      let here : countAt (r .message) + 1 + r .count ≡ countAt (r .message) + 1 + r .count + 0 = omega arith in
+      ap (λ (x : ℕ). cond (eqb x 0x47) (1 + 2 * getD m (countAt x + 1 + getD m (countAt x) 0) 0) 0) type-is
+      ∙ ap (λ (c : ℕ). cond (eqb (r .message) 0x47) (1 + 2 * getD m (countAt (r .message) + 1 + c) 0) 0) count-there
+      ∙ ap (λ (x : ℕ). cond (eqb (r .message) 0x47) (1 + 2 * x) 0) (ap (λ (i : ℕ). getD m i 0) here ∙ sym (getD-drop (countAt (r .message) + 1 + r .count) m 0 0) ∙ ap (λ (l : List ℕ). getD l 0 0) rest-there)
+      ∙ middle-kept (r .message) (r .count) (r .bits) (writeRest r) (optional ++ t) middle-within
+
+  fields-there : drop (countAt (r .message) + 1 + r .count + writeMiddle r) m ≡ optional ++ t
+  fields-there =
+      sym (drop-drop (writeMiddle r) (countAt (r .message) + 1 + r .count) m)
+      ∙ ap (drop (writeMiddle r)) rest-there
+      ∙ drop-at middle (optional ++ t) (writeMiddle r) middle-long
 
   set-there : (k : ℕ) → setIn (countAt (r .message)) m k ≡ selectedAt (r .count) (r .bits) k
   set-there =
@@ -142,7 +174,7 @@ module _ (r : Record) (room : ℕ) (ok : Sound r) (z : writeRefusal r room ≡ 0
       ∙ sym (getD-take mostBitfields (drop (countIn + 1) b) j 0 (omega (arith, h, few)))
       ∙ ap (λ (l : List ℕ). getD l j 0) bits-held)
 
-  total-is : totalOf m ≡ countAt (r .message) + 1 + r .count + sum takes (slotsOf (r .message) (r .count) (r .bits))
+  total-is : totalOf m ≡ countAt (r .message) + 1 + r .count + (writeMiddle r + sum takes (slotsOf (r .message) (r .count) (r .bits)))
   unfolding sizeOf writeSlots
   total-is =
       ap (λ (l : List ℕ). totalOf l) is-message
@@ -150,11 +182,12 @@ module _ (r : Record) (room : ℕ) (ok : Sound r) (z : writeRefusal r room ≡ 0
       ∙ ap length (framed-as-written r room ok z t)
       ∙ bytes-length r room ok z
 
-  starts : (k : ℕ) → fieldAt m k ≡ countAt (r .message) + 1 + r .count + widthsBefore (selectedAt (r .count) (r .bits)) (entryAt (r .message)) k
+  starts : (k : ℕ) → fieldAt m k ≡ countAt (r .message) + 1 + r .count + writeMiddle r + widthsBefore (selectedAt (r .count) (r .bits)) (entryAt (r .message)) k
   unfolding fieldAt
   starts k =
-      ap (λ (x : ℕ). countAt x + 1 + getD m (countAt x) 0 + widthsBefore (setIn (countAt x) m) (entryAt x) k) type-is
-      ∙ ap₂ (λ (c n : ℕ). countAt (r .message) + 1 + c + n) count-there (widths-same (setIn (countAt (r .message)) m) (selectedAt (r .count) (r .bits)) (entryAt (r .message)) set-there k)
+      ap (λ (x : ℕ). countAt x + 1 + getD m (countAt x) 0 + between m + widthsBefore (setIn (countAt x) m) (entryAt x) k) type-is
+      ∙ ap (λ (b : ℕ). countAt (r .message) + 1 + getD m (countAt (r .message)) 0 + b + widthsBefore (setIn (countAt (r .message)) m) (entryAt (r .message)) k) between-is
+      ∙ ap₂ (λ (c n : ℕ). countAt (r .message) + 1 + c + writeMiddle r + n) count-there (widths-same (setIn (countAt (r .message)) m) (selectedAt (r .count) (r .bits)) (entryAt (r .message)) set-there k)
 
   module _ (k : ℕ) (chosen : selectedAt (r .count) (r .bits) k ≡ true) {w p : ℕ} {kind : Kind} (listed : Field w kind p ≡ entryAt (r .message) k) where
     small : k < allPlaces
@@ -181,7 +214,7 @@ module _ (r : Record) (room : ℕ) (ok : Sound r) (z : writeRefusal r room ≡ 0
         let g : length optional ≡ sum takes (slotsOf (r .message) (r .count) (r .bits)) = optional-long in
         let d : length (drop n optional) ≡ length optional - n = length-drop n optional in
         let q : drop (fieldAt m k) m ≡ drop n optional ++ t =
-        ap (λ (i : ℕ). drop i m) (starts k) ∙ sym (drop-drop n (countAt (r .message) + 1 + r .count) m) ∙ ap (drop n) fields-there ∙ drop-append-le n optional t (omega arith) in
+        ap (λ (i : ℕ). drop i m) (starts k) ∙ sym (drop-drop n (countAt (r .message) + 1 + r .count + writeMiddle r) m) ∙ ap (drop n) fields-there ∙ drop-append-le n optional t (omega arith) in
         ap (take w) q
         ∙ take-append-le w (drop n optional) t (omega arith)
         ∙ field-stands (r .message) (r .count) (r .bits) k small chosen listed (r .slots) (omega (arith, ok .slots-length))
@@ -198,22 +231,24 @@ module _ (r : Record) (room : ℕ) (ok : Sound r) (z : writeRefusal r room ≡ 0
 -- ---- the types
 
 -- what holds of each type holds of every order
-pub by-type : (message : ℕ) → isOrder message ≡ true → (P : ℕ → Type 0) → P 0x38 → P 0x39 → P 0x25 → P 0x2C → P 0x26 → P 0x29 → P 0x2B → P message
-by-type message o P a b c d e f g =
+pub by-type : (message : ℕ) → isOrder message ≡ true → (P : ℕ → Type 0) → P 0x38 → P 0x39 → P 0x3A → P 0x47 → P 0x25 → P 0x2C → P 0x26 → P 0x29 → P 0x2B → P message
+by-type message o P a b h i c d e f g =
     either (eqb message 0x38) (at 0x38 a)
     (either (eqb message 0x39) (at 0x39 b)
+    (either (eqb message 0x3A) (at 0x3A h)
+    (either (eqb message 0x47) (at 0x47 i)
     (either (eqb message 0x25) (at 0x25 c)
     (either (eqb message 0x2C) (at 0x2C d)
     (either (eqb message 0x26) (at 0x26 e)
     (either (eqb message 0x29) (at 0x29 f)
-    (at 0x2B g)))))) o
+    (at 0x2B g)))))))) o
   where
     at : (x : ℕ) → P x → eqb message x ≡ true → P message
     at x h e = subst P (sym (eqb-true message x e)) h
 
 -- an order is no session message
 pub not-session : (message : ℕ) → isOrder message ≡ true → isSession message ≡ false
-not-session message o = by-type message o (λ (x : ℕ). isSession x ≡ false) refl refl refl refl refl refl refl
+not-session message o = by-type message o (λ (x : ℕ). isSession x ≡ false) refl refl refl refl refl refl refl refl refl
 
 -- ---- READING
 

@@ -7,6 +7,7 @@ pub mod OrderPlaces
 pub mod FieldPlace
 pub mod Taken
 pub mod ValidOrders
+pub mod ChosenFields
 pub mod EveryChoice
 pub mod SomeChoice
 pub mod EverySession

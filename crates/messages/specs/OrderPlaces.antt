@@ -1,8 +1,8 @@
 -- Where the parts of an order stand: in its message, and in its record. Definitions alone. Assumes nothing.
 use mathlib.Core.Path.{_≡_}
-use mathlib.Core.Bool.{Bool, true, _&&_, _||_}
+use mathlib.Core.Bool.{Bool, true, cond, _&&_, _||_}
 use mathlib.Core.List.{List}
-use Prim.Native.Nat.{ℕ, _+_, _/_, _%_, _≤_}
+use Prim.Native.Nat.{ℕ, _+_, _*_, _/_, _%_, _≤_}
 use lib.Dec.{ltb, eqb}
 use lib.ListN.{getD, take, drop}
 use Rattle.wire.specs.Header.{typeOf, totalOf}
@@ -11,10 +11,10 @@ use Rattle.block.specs.FieldPlaces.{widthsBefore}
 use Rattle.block.specs.Sizes.{fixedEnd, mostBitfields, layoutSize, countPlace, slotsPlace, recordSize}
 use Rattle.orders.specs.Shapes.{countAt}
 
--- the types that have bitfields: New Order, Cancel Order, Order Acknowledgment, Order Execution, Order Rejected, User Modify Rejected, Cancel Rejected
+-- the types that have bitfields: New Order, Cancel Order, Modify Order, Purge Orders, Order Acknowledgment, Order Execution, Order Rejected, User Modify Rejected, Cancel Rejected
 abbrev pub isOrder : ℕ → Bool
 isOrder message =
-    eqb message 0x38 || (eqb message 0x39 || (eqb message 0x25 || (eqb message 0x2C || (eqb message 0x26 || (eqb message 0x29 || eqb message 0x2B)))))
+    eqb message 0x38 || (eqb message 0x39 || (eqb message 0x3A || (eqb message 0x47 || (eqb message 0x25 || (eqb message 0x2C || (eqb message 0x26 || (eqb message 0x29 || eqb message 0x2B)))))))
 
 -- where a record has its count of bitfields, the bitfields after it; and where its full layout begins
 abbrev pub countIn : ℕ
@@ -39,10 +39,19 @@ setInMessage m = setIn (countAt (typeOf m)) m
 abbrev pub setInRecord : List ℕ → ℕ → Bool
 setInRecord r = setIn countIn r
 
+-- where the bitfields of a message end
+abbrev pub bitsEnd : List ℕ → ℕ
+bitsEnd m = countAt (typeOf m) + 1 + getD m (countAt (typeOf m)) 0
+
+-- 000, Purge Orders: there RiskGroupIDCnt stands, and after it so many RiskGroupIDs of two bytes; the other messages have nothing between their
+-- bitfields and their fields
+unfoldable pub between : List ℕ → ℕ
+between m = cond (eqb (typeOf m) 0x47) (1 + 2 * getD m (bitsEnd m) 0) 0
+
 -- 01: an optional field starts at the end of the bitfields plus the summed widths of all earlier set bits. So the field of place k begins at the
--- count's place, 1, the count, and those widths
+-- count's place, 1, the count, what stands between, and those widths
 unfoldable pub fieldAt : List ℕ → ℕ → ℕ
-fieldAt m k = countAt (typeOf m) + 1 + getD m (countAt (typeOf m)) 0 + widthsBefore (setInMessage m) (entryAt (typeOf m)) k
+fieldAt m k = bitsEnd m + between m + widthsBefore (setInMessage m) (entryAt (typeOf m)) k
 
 -- an optional field of place k, which has w bytes, in a message m and, at place p of the layout, in a record r: it is selected in both, it lies
 -- within the message and within the record, and its bytes are the same

@@ -18,7 +18,7 @@ use Rattle.block.specs.Places.{selectedAt, entryAt, slotsFrom, slotsOf}
 use Rattle.block.specs.FieldPlaces.{AllListed}
 use Rattle.block.specs.Sizes.{fixedSize, fixedEnd, mostBitfields, allPlaces}
 use Rattle.orders.specs.Shapes.{countAt, mostOf, fixedGood}
-use Rattle.messages.specs.ByteLaws.{bytes-front, bytes-append, bytes-zeros, below, bytes-below, ends-at}
+use Rattle.messages.specs.ByteLaws.{bytes-front, bytes-append, zero-byte, bytes-zeros, below, bytes-below, ends-at}
 use Rattle.messages.specs.OrderPlaces.{orderMost}
 use Rattle.messages.specs.Taken.{TakenBothWays}
 use Rattle.messages.specs.ValidOrders.{orderOf, UnitFits, GoodFixed, GoodBits, chosenRecord, sampleFixed, allBits}
@@ -37,34 +37,53 @@ a-fixed-part-is-good direction message o =
       whole = refl;
       bytes = bytes-append (65 ∷ zeros 19) (49 ∷ 1 ∷ zeros (fixedSize - 22)) (bytes-front 65 (zeros 19) (omega arith) (bytes-zeros 19)) (bytes-front 49 (1 ∷ zeros (fixedSize - 22)) (omega arith) (bytes-front 1 (zeros (fixedSize - 22)) (omega arith) (bytes-zeros (fixedSize - 22))));
       good = refl;
+      groups = λ o. absurd (omega (arith, o));
       ends = λ i h. ends-at 25 (fixedSize - 25) (65 ∷ zeros 19 ++ (49 ∷ 1 ∷ zeros (fixedSize - 22))) refl i (omega arith);
     })
     (record {
       whole = refl;
       bytes = bytes-front 65 (zeros (fixedSize - 1)) (omega arith) (bytes-zeros (fixedSize - 1));
       good = refl;
+      groups = λ o. absurd (omega (arith, o));
       ends = λ i h. ends-at 20 (fixedSize - 20) (65 ∷ zeros (fixedSize - 1)) refl i (omega arith);
+    })
+    (record {
+      whole = refl;
+      bytes = bytes-append (65 ∷ zeros 19) (65 ∷ zeros (fixedSize - 21)) (bytes-front 65 (zeros 19) (omega arith) (bytes-zeros 19)) (bytes-front 65 (zeros (fixedSize - 21)) (omega arith) (bytes-zeros (fixedSize - 21)));
+      good = refl;
+      groups = λ o. absurd (omega (arith, o));
+      ends = λ i h. ends-at 40 (fixedSize - 40) (65 ∷ zeros 19 ++ (65 ∷ zeros (fixedSize - 21))) refl i (omega arith);
+    })
+    (record {
+      whole = refl;
+      bytes = bytes-zeros fixedSize;
+      good = refl;
+      groups = λ o. omega arith;
+      ends = λ i h. zero-byte fixedSize i;
     })
     (record {
       whole = refl;
       bytes = venue-bytes;
       good = refl;
+      groups = λ o. absurd (omega (arith, o));
       ends = λ i h. ends-at 37 (fixedSize - 37) (zeros 8 ++ (65 ∷ zeros (fixedSize - 9))) refl i (omega arith);
     })
     (record {
       whole = refl;
       bytes = venue-bytes;
       good = refl;
+      groups = λ o. absurd (omega (arith, o));
       ends = λ i h. ends-at 59 (fixedSize - 59) (zeros 8 ++ (65 ∷ zeros (fixedSize - 9))) refl i (omega arith);
     })
-    (rejection 0x26 refl refl refl) (rejection 0x29 refl refl refl) (rejection 0x2B refl refl refl)
+    (rejection 0x26 refl refl refl (λ o. omega (arith, o))) (rejection 0x29 refl refl refl (λ o. omega (arith, o))) (rejection 0x2B refl refl refl (λ o. omega (arith, o)))
   where
     -- a rejection: its fixed part is the longest
-    rejection : (x : ℕ) → sampleFixed x ≡ zeros 8 ++ (65 ∷ zeros (fixedSize - 9)) → fixedGood x (sampleFixed x) ≡ true → countAt x ≡ fixedEnd → GoodFixed x (sampleFixed x)
-    rejection x e g n = record {
+    rejection : (x : ℕ) → sampleFixed x ≡ zeros 8 ++ (65 ∷ zeros (fixedSize - 9)) → fixedGood x (sampleFixed x) ≡ true → countAt x ≡ fixedEnd → (x ≡ 0x47 → ⊥) → GoodFixed x (sampleFixed x)
+    rejection x e g n o = record {
       whole = ap length e;
       bytes = subst Bytes (sym e) venue-bytes;
       good = g;
+      groups = λ q. absurd (o q);
       ends = λ i h. ap (λ (l : List ℕ). getD l i 0) e ∙ ends-at fixedSize 0 (zeros 8 ++ (65 ∷ zeros (fixedSize - 9))) refl i (omega (arith, n, h));
     }
 
@@ -91,6 +110,10 @@ all-listed message count bits few z k e q =
     let p : 0 + k ≡ k = omega arith in
     none-bad-listed (selectedAt count bits) (entryAt message) allPlaces 0 z k (selected-small count bits k e few) (ap (selectedAt count bits) p ∙ e) (ap (entryAt message) p ∙ q)
 
+-- a type that requires no field
+abbrev Plain : ℕ → Type 0
+Plain x = (x ≡ 0x38 → ⊥) × (x ≡ 0x3A → ⊥) × (x ≡ 0x47 → ⊥)
+
 -- ALL LISTED BITS at once are a choice, of each type
 pub all-listed-bits-are-a-choice : (direction message : ℕ) → orderOf direction message ≡ true → GoodBits message (mostOf message) (allBits message)
 unfolding mostOf selectedAt entryAt entryOf slotsFrom
@@ -102,17 +125,33 @@ all-listed-bits-are-a-choice direction message o =
       few = omega arith;
       ends = ends-at 10 (mostBitfields - 10) (allBits 0x38) refl;
       listed = all-listed 0x38 10 (allBits 0x38) (omega arith) refl;
-      required = record { symbol = λ q. refl; capacity = λ q. refl; price-or-type = λ q. refl };
+      required = record { symbol = λ q. refl; capacity = λ q. refl; price-or-type = λ q. refl; quantity = λ q. absurd (omega (arith, q)); new-price-or-type = λ q. absurd (omega (arith, q)); instruction = λ q. absurd (omega (arith, q)) };
     })
-    (without 0x39 2 refl (λ q. omega (arith, q)) (omega arith) refl refl (ends-at 2 (mostBitfields - 2) (allBits 0x39) refl) refl)
-    (without 0x25 15 refl (λ q. omega (arith, q)) (omega arith) refl refl (ends-at 15 (mostBitfields - 15) (allBits 0x25) refl) refl)
-    (without 0x2C 15 refl (λ q. omega (arith, q)) (omega arith) refl refl (ends-at 15 (mostBitfields - 15) (allBits 0x2C) refl) refl)
-    (without 0x26 19 refl (λ q. omega (arith, q)) (omega arith) refl refl (ends-at 19 (mostBitfields - 19) (allBits 0x26) refl) refl)
-    (without 0x29 19 refl (λ q. omega (arith, q)) (omega arith) refl refl (ends-at 19 (mostBitfields - 19) (allBits 0x29) refl) refl)
-    (without 0x2B 19 refl (λ q. omega (arith, q)) (omega arith) refl refl (ends-at 19 (mostBitfields - 19) (allBits 0x2B) refl) refl)
+    (without 0x39 2 refl (λ q. omega (arith, q), λ q. omega (arith, q), λ q. omega (arith, q)) (omega arith) refl refl (ends-at 2 (mostBitfields - 2) (allBits 0x39) refl) refl)
+    (record {
+      whole = refl;
+      bytes = bytes-below (allBits 0x3A) refl;
+      few = omega arith;
+      ends = ends-at 2 (mostBitfields - 2) (allBits 0x3A) refl;
+      listed = all-listed 0x3A 2 (allBits 0x3A) (omega arith) refl;
+      required = record { symbol = λ q. absurd (omega (arith, q)); capacity = λ q. absurd (omega (arith, q)); price-or-type = λ q. absurd (omega (arith, q)); quantity = λ q. refl; new-price-or-type = λ q. refl; instruction = λ q. absurd (omega (arith, q)) };
+    })
+    (record {
+      whole = refl;
+      bytes = bytes-below (allBits 0x47) refl;
+      few = omega arith;
+      ends = ends-at 2 (mostBitfields - 2) (allBits 0x47) refl;
+      listed = all-listed 0x47 2 (allBits 0x47) (omega arith) refl;
+      required = record { symbol = λ q. absurd (omega (arith, q)); capacity = λ q. absurd (omega (arith, q)); price-or-type = λ q. absurd (omega (arith, q)); quantity = λ q. absurd (omega (arith, q)); new-price-or-type = λ q. absurd (omega (arith, q)); instruction = λ q. refl };
+    })
+    (without 0x25 15 refl (λ q. omega (arith, q), λ q. omega (arith, q), λ q. omega (arith, q)) (omega arith) refl refl (ends-at 15 (mostBitfields - 15) (allBits 0x25) refl) refl)
+    (without 0x2C 15 refl (λ q. omega (arith, q), λ q. omega (arith, q), λ q. omega (arith, q)) (omega arith) refl refl (ends-at 15 (mostBitfields - 15) (allBits 0x2C) refl) refl)
+    (without 0x26 19 refl (λ q. omega (arith, q), λ q. omega (arith, q), λ q. omega (arith, q)) (omega arith) refl refl (ends-at 19 (mostBitfields - 19) (allBits 0x26) refl) refl)
+    (without 0x29 19 refl (λ q. omega (arith, q), λ q. omega (arith, q), λ q. omega (arith, q)) (omega arith) refl refl (ends-at 19 (mostBitfields - 19) (allBits 0x29) refl) refl)
+    (without 0x2B 19 refl (λ q. omega (arith, q), λ q. omega (arith, q), λ q. omega (arith, q)) (omega arith) refl refl (ends-at 19 (mostBitfields - 19) (allBits 0x2B) refl) refl)
   where
     -- a type that requires no field
-    without : (x count : ℕ) → mostOf x ≡ count → (x ≡ 0x38 → ⊥) → count ≤ mostBitfields → length (allBits x) ≡ mostBitfields → below (allBits x) ≡ true → ((i : ℕ) → count ≤ i → getD (allBits x) i 0 ≡ 0)
+    without : (x count : ℕ) → mostOf x ≡ count → Plain x → count ≤ mostBitfields → length (allBits x) ≡ mostBitfields → below (allBits x) ≡ true → ((i : ℕ) → count ≤ i → getD (allBits x) i 0 ≡ 0)
         → anyBad (slotsOf x count (allBits x)) ≡ false → GoodBits x (mostOf x) (allBits x)
     without x count e none few long small ends z =
         subst (λ (n : ℕ). GoodBits x n (allBits x)) (sym e)
@@ -122,7 +161,7 @@ all-listed-bits-are-a-choice direction message o =
           few = omega (arith, e);
           ends = ends;
           listed = all-listed x count (allBits x) few z;
-          required = record { symbol = λ q. absurd (none q); capacity = λ q. absurd (none q); price-or-type = λ q. absurd (none q) };
+          required = record { symbol = λ q. absurd (none .0 q); capacity = λ q. absurd (none .0 q); price-or-type = λ q. absurd (none .0 q); quantity = λ q. absurd (none .1 q); new-price-or-type = λ q. absurd (none .1 q); instruction = λ q. absurd (none .2 q) };
         })
 
 -- AN ORDER OF EACH TYPE IS TAKEN

@@ -17,8 +17,8 @@ use Rattle.numbers.specs.NumberLaws.{length-bytesOf, put-is-there, read-of-writ
 use Rattle.numbers.specs.PriceLaws.{bits-fit, signed-back}
 use Rattle.orders.specs.declared.Record.{Record}
 use Rattle.order_fields.specs.declared.Found.{Found}
-use Rattle.order_fields.specs.Named.{found, nowhere, pick, fixedOf, numberIn, longIn, priceIn, bytesIn, text1In, text4In, text20In, text60In}
-use Rattle.order_fields.specs.Named.{numberFixed, longFixed, priceFixed, text1Fixed, text4Fixed, text20Fixed, text60Fixed, choose, fixing, fixingOf}
+use Rattle.order_fields.specs.Named.{found, nowhere, pick, fixedOf, byteIn, shortIn, numberIn, longIn, priceIn, bytesIn, text1In, text4In, text20In, text60In}
+use Rattle.order_fields.specs.Named.{byteFixed, shortFixed, numberFixed, longFixed, priceFixed, text1Fixed, text4Fixed, text20Fixed, text60Fixed, choose, fixing, fixingOf}
 use Rattle.order_fields.specs.OtherLaws.{kept-after, kept-before}
 use Rattle.order_fields.specs.LocalLaws.{Local, got-alike}
 use Rattle.block.specs.Sizes.{fixedSize}
@@ -79,6 +79,20 @@ module _ {message at w : ℕ} {r : Record} (i : Part message at w r) where
       let g : at + length (bytesOf w v) ≤ length (r .fixed) = omega (arith, f, length-bytesOf w v) in
       ap (numberAt w at) (fixed-part (bytesOf w v) ∙ sym (put-stores (r .fixed) at (bytesOf w v) g))
       ∙ read-of-written w v at (r .fixed) h f
+
+pub byte-fixed-is-got : {message at : ℕ} {r : Record} → Part message at 1 r → (v : ℕ) → v < 256
+    → byteFixed message at (fixingOf message at (bytesOf 1 v) r) ≡ record { selected = true; value = v }
+unfolding byteIn
+byte-fixed-is-got {message} {at} {r} i v h =
+    ap (λ (f : Found). byteIn f (fixingOf message at (bytesOf 1 v) r .fixed)) (fixed-is-found i (bytesOf 1 v))
+    ∙ ap (λ (x : ℕ). record { selected = true; value = x }) (fixed-number i v h)
+
+pub short-fixed-is-got : {message at : ℕ} {r : Record} → Part message at 2 r → (v : ℕ) → v < 65536
+    → shortFixed message at (fixingOf message at (bytesOf 2 v) r) ≡ record { selected = true; value = v }
+unfolding shortIn
+short-fixed-is-got {message} {at} {r} i v h =
+    ap (λ (f : Found). shortIn f (fixingOf message at (bytesOf 2 v) r .fixed)) (fixed-is-found i (bytesOf 2 v))
+    ∙ ap (λ (x : ℕ). record { selected = true; value = x }) (fixed-number i v h)
 
 pub number-fixed-is-got : {message at : ℕ} {r : Record} → Part message at 4 r → (v : ℕ) → v < 4294967296
     → numberFixed message at (fixingOf message at (bytesOf 4 v) r) ≡ record { selected = true; value = v }

@@ -15,13 +15,13 @@ use Rattle.block.specs.Sizes.{mostBitfields}
 use Rattle.orders.specs.declared.Record.{Record}
 use Rattle.order_fields.specs.declared.Found.{Found}
 use Rattle.order_fields.specs.Named.{found, nowhere, pick, placeIn, selectedOf, optionalOf, fixedOf, bytesIn}
-use Rattle.order_fields.specs.Named.{shortOf, numberOf, longOf, priceOf, text1Of, text3Of, text4Of, text6Of, text8Of, text16Of, text64Of}
+use Rattle.order_fields.specs.Named.{byteOf, shortOf, numberOf, longOf, priceOf, text1Of, text3Of, text4Of, text6Of, text8Of, text16Of, text20Of, text64Of}
 use Rattle.order_fields.specs.Named.{choose, selecting, storing, settableOf, settingOf, fixingOf}
 use Rattle.order_fields.specs.NamedLaws.{placed, Listed}
 use Rattle.order_fields.specs.OtherLaws.{other-slot-kept}
-use Rattle.order_fields.specs.LocalLaws.{Local, got-alike, bytes-local, short-local, number-local, long-local, price-local}
-use Rattle.order_fields.specs.LocalLaws.{text1-local, text3-local, text4-local, text6-local, text8-local, text16-local, text64-local}
-use Rattle.order_fields.specs.FixedLaws.{fixing-keeps-the-rest}
+use Rattle.order_fields.specs.LocalLaws.{Local, got-alike, bytes-local, byte-local, short-local, number-local, long-local, price-local}
+use Rattle.order_fields.specs.LocalLaws.{text1-local, text3-local, text4-local, text6-local, text8-local, text16-local, text20-local, text64-local}
+use Rattle.order_fields.specs.FixedLaws.{SameElsewhere, fixing-keeps-the-rest}
 use Rattle.order_fields.specs.SelectionLaws.{UnusedZero, other-selection-kept}
 
 -- ---- an optional field is set: the other optional fields
@@ -35,7 +35,7 @@ pub record Other (message byte bit byte′ bit′ w′ p′ : ℕ) (k′ : Kind)
   pub elsewhere : byte ≡ byte′ → bit ≡ bit′ → ⊥
 
 -- of two places one comes first
-one-first : (a b : ℕ) → (a ≡ b → ⊥) → (a < b) ⊎ (b < a)
+pub one-first : (a b : ℕ) → (a ≡ b → ⊥) → (a < b) ⊎ (b < a)
 one-first a b n = by (ltb a b) refl
   where
     by : (t : Bool) → ltb a b ≡ t → (a < b) ⊎ (b < a)
@@ -76,6 +76,9 @@ module _ {message byte bit w p : ℕ} {k : Kind} {r : Record} (i : Listed messag
     other-field-kept = other-answer-kept (bytes-local w′ p′)
 
   module _ {byte′ bit′ p′ : ℕ} {k′ : Kind} where
+    pub other-byte-kept : Other message byte bit byte′ bit′ 1 p′ k′ → byteOf message byte′ bit′ (settingOf message byte bit bytes r) ≡ byteOf message byte′ bit′ r
+    other-byte-kept o = other-answer-kept o (byte-local p′)
+
     pub other-short-kept : Other message byte bit byte′ bit′ 2 p′ k′ → shortOf message byte′ bit′ (settingOf message byte bit bytes r) ≡ shortOf message byte′ bit′ r
     other-short-kept o = other-answer-kept o (short-local p′)
 
@@ -106,6 +109,9 @@ module _ {message byte bit w p : ℕ} {k : Kind} {r : Record} (i : Listed messag
     pub other-text16-kept : Other message byte bit byte′ bit′ 16 p′ k′ → text16Of message byte′ bit′ (settingOf message byte bit bytes r) ≡ text16Of message byte′ bit′ r
     other-text16-kept o = other-answer-kept o (text16-local p′)
 
+    pub other-text20-kept : Other message byte bit byte′ bit′ 20 p′ k′ → text20Of message byte′ bit′ (settingOf message byte bit bytes r) ≡ text20Of message byte′ bit′ r
+    other-text20-kept o = other-answer-kept o (text20-local p′)
+
     pub other-text64-kept : Other message byte bit byte′ bit′ 64 p′ k′ → text64Of message byte′ bit′ (settingOf message byte bit bytes r) ≡ text64Of message byte′ bit′ r
     other-text64-kept o = other-answer-kept o (text64-local p′)
 
@@ -135,12 +141,14 @@ fixed-fields-kept message byte bit bytes r message′ at get =
 
 -- ---- a field of the fixed part is set: every getter of an optional field answers the same
 
+pub same-optional-fields : {o r : Record} → SameElsewhere o r → (message byte bit width : ℕ) {A : Type 0} (get : Found → List ℕ → A)
+    → get (optionalOf message byte bit width o) (o .slots) ≡ get (optionalOf message byte bit width r) (r .slots)
+unfolding optionalOf selectedOf
+same-optional-fields s message byte bit width get = rw (s .same-message, s .same-count, s .same-bits, s .same-slots) refl
+
 pub optional-fields-kept : (message at : ℕ) (bytes : List ℕ) (r : Record) (message′ byte bit width : ℕ) {A : Type 0} (get : Found → List ℕ → A)
     → get (optionalOf message′ byte bit width (fixingOf message at bytes r)) (fixingOf message at bytes r .slots) ≡ get (optionalOf message′ byte bit width r) (r .slots)
-unfolding optionalOf selectedOf
-optional-fields-kept message at bytes r message′ byte bit width get =
-    let s = fixing-keeps-the-rest message at bytes r in
-    rw (s .same-message, s .same-count, s .same-bits, s .same-slots) refl
+optional-fields-kept message at bytes r = same-optional-fields (fixing-keeps-the-rest message at bytes r)
 
 -- and the places past the count stay zero
 pub unused-still-zero : (message at : ℕ) (bytes : List ℕ) (r : Record) → UnusedZero r → UnusedZero (fixingOf message at bytes r)

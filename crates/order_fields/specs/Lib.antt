@@ -5,3 +5,4 @@ pub mod LocalLaws
 pub mod FixedLaws
 pub mod SelectionLaws
 pub mod KeptLaws
+pub mod RiskGroupLaws

@@ -4,12 +4,12 @@ use mathlib.Core.Bool.{Bool, true, false}
 use mathlib.Core.List.{List}
 use Prim.Native.Nat.{ℕ, zero, suc, _+_, _*_, _≤_}
 use native.Mathlib.Omega.{arith}
-use lib.ListN.{take, drop}
+use lib.ListN.{getD, take, drop}
 use lib.Seq.{getD-take, getD-drop}
 use Rattle.numbers.specs.Numbers.{numberAt}
 use Rattle.numbers.specs.Prices.{signedOf}
 use Rattle.order_fields.specs.declared.Found.{Found}
-use Rattle.order_fields.specs.Named.{found, nowhere, pick, shortIn, numberIn, longIn, priceIn, bytesIn}
+use Rattle.order_fields.specs.Named.{found, nowhere, pick, byteIn, shortIn, numberIn, longIn, priceIn, bytesIn}
 use Rattle.order_fields.specs.Named.{text1In, text3In, text4In, text6In, text8In, text16In, text20In, text60In, text64In}
 
 -- what is got of a field of w bytes at p, from any two buffers that have the same bytes there
@@ -24,13 +24,13 @@ got-alike l false s t h = l .where-not s t
 
 -- ---- a number is its bytes
 
-number-of-part : (n j i : ℕ) (s : List ℕ) → numberAt n (i + j) s ≡ numberAt n j (drop i s)
+pub number-of-part : (n j i : ℕ) (s : List ℕ) → numberAt n (i + j) s ≡ numberAt n j (drop i s)
 number-of-part zero j i s = refl
 number-of-part (suc n) j i s =
     let e : i + j + 1 ≡ i + (j + 1) = omega arith in
     ap₂ (λ (x y : ℕ). x + 256 * y) (sym (getD-drop i s j 0)) (ap (λ (m : ℕ). numberAt n m s) e ∙ number-of-part n (j + 1) i s)
 
-number-of-front : (n j m : ℕ) (s : List ℕ) → j + n ≤ m → numberAt n j s ≡ numberAt n j (take m s)
+pub number-of-front : (n j m : ℕ) (s : List ℕ) → j + n ≤ m → numberAt n j s ≡ numberAt n j (take m s)
 number-of-front zero j m s h = refl
 number-of-front (suc n) j m s h =
     ap₂ (λ (x y : ℕ). x + 256 * y) (sym (getD-take m s j 0 (omega (arith, h)))) (number-of-front n (j + 1) m s (omega (arith, h)))
@@ -43,10 +43,18 @@ number-in-bytes n p s =
 pub same-number-there : (n p : ℕ) (s t : List ℕ) → take n (drop p s) ≡ take n (drop p t) → numberAt n p s ≡ numberAt n p t
 same-number-there n p s t h = number-in-bytes n p s ∙ ap (numberAt n 0) h ∙ sym (number-in-bytes n p t)
 
+-- a number of one byte is that byte
+pub one-byte : (p : ℕ) (s : List ℕ) → numberAt 1 p s ≡ getD s p 0
+one-byte p s = omega arith
+
 -- ---- each getter
 
 pub bytes-local : (w p : ℕ) → Local (bytesIn w) w p
 bytes-local w p = record { where-found = λ s t h. h; where-not = λ s t. refl }
+
+pub byte-local : (p : ℕ) → Local byteIn 1 p
+unfolding byteIn
+byte-local p = record { where-found = λ s t h. ap (λ (x : ℕ). record { selected = true; value = x }) (same-number-there 1 p s t h); where-not = λ s t. refl }
 
 pub short-local : (p : ℕ) → Local shortIn 2 p
 unfolding shortIn

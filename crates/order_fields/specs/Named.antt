@@ -1,11 +1,11 @@
 -- A record's fields, each by its place: what is read there, and the record in which it is set. Definitions alone. Assumes nothing.
-use Prim.Native.Nat.{ℕ, _+_, _-_, _^_}
+use Prim.Native.Nat.{ℕ, _+_, _-_, _*_, _^_}
 use mathlib.Core.Bool.{Bool, true, false, cond, _&&_}
 use mathlib.Core.List.{List}
-use lib.Dec.{leb, eqb}
+use lib.Dec.{leb, ltb, eqb}
 use lib.ListN.{length, getD, set, take, drop}
 use lib.IntN.{pos}
-use Rattle.numbers.specs.Numbers.{numberAt, patched}
+use Rattle.numbers.specs.Numbers.{numberAt, bytesOf, patched}
 use Rattle.numbers.specs.Prices.{priceAt}
 use Rattle.dictionary.specs.declared.Entry.{Entry}
 use Rattle.dictionary.specs.declared.Entry.the-variants.{Refused, Field}
@@ -14,6 +14,7 @@ use Rattle.block.specs.Slots.{zeros}
 use Rattle.block.specs.Places.{bitSet}
 use Rattle.orders.specs.declared.Record.{Record}
 use Rattle.order_fields.specs.declared.Found.{Found}
+use Rattle.order_fields.specs.declared.ByteField.{ByteField}
 use Rattle.order_fields.specs.declared.ShortField.{ShortField}
 use Rattle.order_fields.specs.declared.NumberField.{NumberField}
 use Rattle.order_fields.specs.declared.LongField.{LongField}
@@ -62,6 +63,10 @@ unfoldable pub fixedOf : ℕ → ℕ → Record → Found
 fixedOf message at r = pick (eqb (r .message) message) (found at) nowhere
 
 -- ---- what is read there: 0 or zeros where the field is not selected
+
+-- a number of one byte
+unfoldable pub byteIn : Found → List ℕ → ByteField
+byteIn f s = record { selected = f .selected; value = cond (f .selected) (numberAt 1 (f .at) s) 0 }
 
 -- a number of two bytes
 unfoldable pub shortIn : Found → List ℕ → ShortField
@@ -114,6 +119,9 @@ text64In f s = record { selected = f .selected; bytes = bytesIn 64 f s }
 -- ---- the optional fields, and those of the fixed part
 
 -- an optional field, by its message, bitfield byte and bit
+abbrev pub byteOf : ℕ → ℕ → ℕ → Record → ByteField
+byteOf message byte bit r = byteIn (optionalOf message byte bit 1 r) (r .slots)
+
 abbrev pub shortOf : ℕ → ℕ → ℕ → Record → ShortField
 shortOf message byte bit r = shortIn (optionalOf message byte bit 2 r) (r .slots)
 
@@ -144,10 +152,19 @@ text8Of message byte bit r = text8In (optionalOf message byte bit 8 r) (r .slots
 abbrev pub text16Of : ℕ → ℕ → ℕ → Record → Text16
 text16Of message byte bit r = text16In (optionalOf message byte bit 16 r) (r .slots)
 
+abbrev pub text20Of : ℕ → ℕ → ℕ → Record → Text20
+text20Of message byte bit r = text20In (optionalOf message byte bit 20 r) (r .slots)
+
 abbrev pub text64Of : ℕ → ℕ → ℕ → Record → Text64
 text64Of message byte bit r = text64In (optionalOf message byte bit 64 r) (r .slots)
 
 -- a field of the fixed part, by its message and its place there
+abbrev pub byteFixed : ℕ → ℕ → Record → ByteField
+byteFixed message at r = byteIn (fixedOf message at r) (r .fixed)
+
+abbrev pub shortFixed : ℕ → ℕ → Record → ShortField
+shortFixed message at r = shortIn (fixedOf message at r) (r .fixed)
+
 abbrev pub numberFixed : ℕ → ℕ → Record → NumberField
 numberFixed message at r = numberIn (fixedOf message at r) (r .fixed)
 
@@ -168,6 +185,15 @@ text20Fixed message at r = text20In (fixedOf message at r) (r .fixed)
 
 abbrev pub text60Fixed : ℕ → ℕ → Record → Text60
 text60Fixed message at r = text60In (fixedOf message at r) (r .fixed)
+
+-- 000, Purge Orders: RiskGroupIDCnt, 0 to 10, and as many RiskGroupIDs of two bytes. A record keeps them in its fixed part, after the reserved byte:
+-- whether there is an i-th, counted from 0
+abbrev pub hasRiskGroup : ℕ → Record → Bool
+hasRiskGroup i r = ltb i 10 && ltb i (byteFixed 0x47 1 r .value)
+
+-- and the i-th
+unfoldable pub riskGroupOf : ℕ → Record → ShortField
+riskGroupOf i r = shortIn (pick (hasRiskGroup i r) (fixedOf 0x47 (2 + 2 * i) r) nowhere) (r .fixed)
 
 -- ---- a record in which a field is set
 
@@ -235,3 +261,11 @@ settingOf message byte bit bytes r = setIn (settableOf message byte bit (length 
 -- a field of the fixed part set to bytes. A record of another type stays as it is
 unfoldable pub fixingOf : ℕ → ℕ → List ℕ → Record → Record
 fixingOf message at bytes r = choose (eqb (r .message) message) (fixing at bytes r) r
+
+-- the i-th RiskGroupID set, and RiskGroupIDCnt raised to have it where it was less
+abbrev pub withRiskGroup : ℕ → ℕ → Record → Record
+withRiskGroup i id r = fixingOf 0x47 1 (bytesOf 1 (larger (byteFixed 0x47 1 r .value) (i + 1))) (fixingOf 0x47 (2 + 2 * i) (bytesOf 2 id) r)
+
+-- the same where it is one of the ten. Else the record stays as it is, and so does one of another type
+unfoldable pub riskGroupSetting : ℕ → ℕ → Record → Record
+riskGroupSetting i id r = choose (ltb i 10) (withRiskGroup i id r) r

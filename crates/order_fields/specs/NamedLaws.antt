@@ -22,7 +22,7 @@ use Rattle.block.specs.Places.{bitSet}
 use Rattle.block.specs.Dictionaries.{field-fits}
 use Rattle.orders.specs.declared.Record.{Record}
 use Rattle.order_fields.specs.declared.Found.{Found}
-use Rattle.order_fields.specs.Named.{found, nowhere, pick, placeIn, selectedOf, optionalOf, shortIn, numberIn, longIn, priceIn, bytesIn, shortOf, numberOf, longOf, priceOf, withBit, larger, selecting, storing, settableOf, setIn, settingOf}
+use Rattle.order_fields.specs.Named.{found, nowhere, pick, placeIn, selectedOf, optionalOf, byteIn, shortIn, numberIn, longIn, priceIn, bytesIn, byteOf, shortOf, numberOf, longOf, priceOf, withBit, larger, selecting, storing, settableOf, setIn, settingOf}
 use Rattle.block.specs.Sizes.{layoutSize}
 
 -- ---- an entry's field, by its width
@@ -117,6 +117,13 @@ module _ {message byte bit w p : ℕ} {k : Kind} {r : Record} (i : Listed messag
       let g : p + length (bytesOf w v) ≤ length (r .slots) = omega (arith, f, l) in
       ap (numberAt w p) (set-slots (bytesOf w v) l ∙ sym (put-stores (r .slots) p (bytesOf w v) g))
       ∙ read-of-written w v p (r .slots) h f
+
+pub byte-set-is-got : {message byte bit p : ℕ} {k : Kind} {r : Record} → Listed message byte bit 1 p k r → (v : ℕ) → v < 256
+    → byteOf message byte bit (settingOf message byte bit (bytesOf 1 v) r) ≡ record { selected = true; value = v }
+unfolding byteIn
+byte-set-is-got {message} {byte} {bit} {p} {k} {r} i v h =
+    ap (λ (f : Found). byteIn f (settingOf message byte bit (bytesOf 1 v) r .slots)) (set-is-found i (bytesOf 1 v) refl)
+    ∙ ap (λ (x : ℕ). record { selected = true; value = x }) (set-number i v h)
 
 pub short-set-is-got : {message byte bit p : ℕ} {k : Kind} {r : Record} → Listed message byte bit 2 p k r → (v : ℕ) → v < 65536
     → shortOf message byte bit (settingOf message byte bit (bytesOf 2 v) r) ≡ record { selected = true; value = v }

@@ -18,7 +18,7 @@ use Rattle.block.specs.Places.{bitSet, selectedAt}
 use Rattle.block.specs.Loops.{nul-at}
 use Rattle.block.specs.Sizes.{mostBitfields}
 use Rattle.orders.specs.Shapes.{countAt}
-use Rattle.orders.specs.Orders.{countOf, bitsOf, readRefusal, recordOf, zeroUnused}
+use Rattle.orders.specs.Orders.{countOf, bitsOf, readRefusal, recordOf, writeRest, writeMiddle, zeroUnused}
 use Rattle.orders.specs.OrderLaws.{good}
 use Rattle.orders.specs.declared.Record.{Record}
 use Rattle.order_fields.specs.Named.{selectedOf, choose, withBit, larger, selecting, storing, settableOf, settingOf}
@@ -76,14 +76,14 @@ module _ (bits : List ℕ) (byte bit : ℕ) (from-one : 1 ≤ byte) (inside : by
 
 -- ---- the count: raising it selects nothing, where the bytes past it are zero
 
-larger-keeps : (a b : ℕ) → a ≤ larger a b
+pub larger-keeps : (a b : ℕ) → a ≤ larger a b
 larger-keeps a b = by (leb b a) refl
   where
     by : (t : Bool) → leb b a ≡ t → a ≤ cond t a b
     by true e = omega arith
     by false e = omega (arith, leb-false b a e)
 
-and-false : (a : Bool) → (a && false) ≡ false
+pub and-false : (a : Bool) → (a && false) ≡ false
 and-false true = refl
 and-false false = refl
 
@@ -106,7 +106,7 @@ raised count byte byte′ b h = by (leb byte′ count) refl
 abbrev pub UnusedZero : Record → Type 0
 UnusedZero r = (j : ℕ) → r .count ≤ j → getD (r .bits) j 0 ≡ 0
 
-nul-past : (s : List ℕ) (c : ℕ) → allNul (drop c s) ≡ true → (j : ℕ) → c ≤ j → getD s j 0 ≡ 0
+pub nul-past : (s : List ℕ) (c : ℕ) → allNul (drop c s) ≡ true → (j : ℕ) → c ≤ j → getD s j 0 ≡ 0
 nul-past s c h j l =
     let e : c + (j - c) ≡ j = omega (arith, l) in
     ap (λ (m : ℕ). getD s m 0) (sym e) ∙ sym (getD-drop c s (j - c) 0) ∙ nul-at (drop c s) h (j - c)
@@ -115,7 +115,7 @@ nul-past s c h j l =
 pub unused-are-zero : (r : Record) → zeroUnused r ≡ true → UnusedZero r
 unfolding zeroUnused
 unused-are-zero r h =
-    let a = both-true (allNul (drop (countAt (r .message) - 10) (r .fixed))) _ h in
+    let a = both-true (allNul (drop (writeMiddle r) (writeRest r))) _ h in
     let b = both-true (allNul (drop (r .count) (r .bits))) _ (a .1) in
     nul-past (r .bits) (r .count) (b .0)
 

@@ -5,8 +5,10 @@ pub mod acknowledgment;
 pub mod cancel_order;
 pub mod cancel_rejection;
 pub mod execution;
+pub mod modify_order;
 pub mod modify_rejection;
 pub mod new_order;
+pub mod purge_orders;
 mod reading;
 pub mod rejection;
 mod values;
@@ -27,6 +29,12 @@ use orders::Record;
 struct Found {
     selected: bool,
     at: usize,
+}
+
+// A number of one byte.
+pub struct ByteField {
+    pub selected: bool,
+    pub value: u8,
 }
 
 // A number of two bytes.
@@ -317,6 +325,15 @@ fn little8(v: u64) -> Bytes8
     Bytes8 { bytes: bytes }
 }
 
+// The record with an optional number of one byte set.
+fn set_byte(r: Record, message: u8, byte: u8, bit: u8, v: u8) -> Record
+    requires { ⌜ (1 ≤ byte) × (byte ≤ mostBitfields) × (bit < 8) ⌝ }
+    ensures { λ o. ⌜ o ≡ settingOf message byte bit (bytesOf 1 v) r ⌝ }
+{
+    let bytes: [u8; 1] = [v];
+    set_optional(r, message, byte, bit, &bytes)
+}
+
 // The record with an optional number of two bytes set.
 fn set_short(r: Record, message: u8, byte: u8, bit: u8, v: u16) -> Record
     requires { ⌜ (1 ≤ byte) × (byte ≤ mostBitfields) × (bit < 8) ⌝ }
@@ -342,6 +359,24 @@ fn set_long(r: Record, message: u8, byte: u8, bit: u8, v: u64) -> Record
 {
     let b = little8(v);
     set_optional(r, message, byte, bit, &b.bytes)
+}
+
+// The record with a number of one byte set in its fixed part.
+fn set_byte_fixed(r: Record, message: u8, at: usize, v: u8) -> Record
+    requires { ⌜ at + 1 ≤ fixedSize ⌝ }
+    ensures { λ o. ⌜ o ≡ fixingOf message at (bytesOf 1 v) r ⌝ }
+{
+    let bytes: [u8; 1] = [v];
+    set_fixed(r, message, at, &bytes)
+}
+
+// The record with a number of two bytes set in its fixed part.
+fn set_short_fixed(r: Record, message: u8, at: usize, v: u16) -> Record
+    requires { ⌜ at + 2 ≤ fixedSize ⌝ }
+    ensures { λ o. ⌜ o ≡ fixingOf message at (bytesOf 2 v) r ⌝ }
+{
+    let b = little2(v);
+    set_fixed(r, message, at, &b.bytes)
 }
 
 // The record with a number of four bytes set in its fixed part.

@@ -2,9 +2,10 @@
 ghost use mathlib.Core.Path.{_≡_};
 ghost use Prim.Native.Nat.{_+_, _≤_, _<_};
 ghost use Rattle.order_fields.specs.Named.{selectedOf, optionalOf, fixedOf};
-ghost use Rattle.order_fields.specs.Named.{shortOf, numberOf, longOf, priceOf, text1Of, text3Of, text4Of, text6Of, text8Of, text16Of, text64Of};
-ghost use Rattle.order_fields.specs.Named.{numberFixed, longFixed, priceFixed, text1Fixed, text4Fixed, text20Fixed, text60Fixed};
+ghost use Rattle.order_fields.specs.Named.{byteOf, shortOf, numberOf, longOf, priceOf, text1Of, text3Of, text4Of, text6Of, text8Of, text16Of, text20Of, text64Of};
+ghost use Rattle.order_fields.specs.Named.{byteFixed, shortFixed, numberFixed, longFixed, priceFixed, text1Fixed, text4Fixed, text20Fixed, text60Fixed};
 ghost use Rattle.block.specs.Sizes.{fixedSize, mostBitfields, layoutSize};
+use crate::ByteField;
 use crate::Found;
 use crate::LongField;
 use crate::NumberField;
@@ -65,6 +66,15 @@ fn fixed(r: Record, message: u8, at: usize) -> Found
         selected: false,
         at: 0,
     }
+}
+
+// An optional number of one byte, by its bitfield byte and bit.
+pub(crate) fn byte_of(r: Record, message: u8, byte: u8, bit: u8) -> ByteField
+    requires { ⌜ (1 ≤ byte) × (byte ≤ mostBitfields) × (bit < 8) ⌝ }
+    ensures { λ a. ⌜ a ≡ byteOf message byte bit r ⌝ }
+{
+    let slots = r.slots;
+    crate::values::byte_in(optional(r, message, byte, bit, 1), &slots)
 }
 
 // An optional number of two bytes, by its bitfield byte and bit.
@@ -157,6 +167,15 @@ pub(crate) fn text16_of(r: Record, message: u8, byte: u8, bit: u8) -> Text16
     crate::values::text16_in(optional(r, message, byte, bit, 16), &slots)
 }
 
+// An optional text of 20 bytes, by its bitfield byte and bit.
+pub(crate) fn text20_of(r: Record, message: u8, byte: u8, bit: u8) -> Text20
+    requires { ⌜ (1 ≤ byte) × (byte ≤ mostBitfields) × (bit < 8) ⌝ }
+    ensures { λ a. ⌜ a ≡ text20Of message byte bit r ⌝ }
+{
+    let slots = r.slots;
+    crate::values::text20_in(optional(r, message, byte, bit, 20), &slots)
+}
+
 // An optional text of 64 bytes, by its bitfield byte and bit.
 pub(crate) fn text64_of(r: Record, message: u8, byte: u8, bit: u8) -> Text64
     requires { ⌜ (1 ≤ byte) × (byte ≤ mostBitfields) × (bit < 8) ⌝ }
@@ -164,6 +183,24 @@ pub(crate) fn text64_of(r: Record, message: u8, byte: u8, bit: u8) -> Text64
 {
     let slots = r.slots;
     crate::values::text64_in(optional(r, message, byte, bit, 64), &slots)
+}
+
+// A number of one byte in the fixed part, by its place there.
+pub(crate) fn byte_fixed(r: Record, message: u8, at: usize) -> ByteField
+    requires { ⌜ at + 1 ≤ fixedSize ⌝ }
+    ensures { λ a. ⌜ a ≡ byteFixed message at r ⌝ }
+{
+    let part = r.fixed;
+    crate::values::byte_in(fixed(r, message, at), &part)
+}
+
+// A number of two bytes in the fixed part, by its place there.
+pub(crate) fn short_fixed(r: Record, message: u8, at: usize) -> ShortField
+    requires { ⌜ at + 2 ≤ fixedSize ⌝ }
+    ensures { λ a. ⌜ a ≡ shortFixed message at r ⌝ }
+{
+    let part = r.fixed;
+    crate::values::short_in(fixed(r, message, at), &part)
 }
 
 // A number of four bytes in the fixed part, by its place there.

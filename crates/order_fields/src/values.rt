@@ -2,7 +2,8 @@
 ghost use mathlib.Core.Path.{_≡_};
 ghost use Prim.Native.Nat.{_+_, _≤_};
 ghost use lib.ListN.{length, take, drop};
-ghost use Rattle.order_fields.specs.Named.{shortIn, numberIn, longIn, priceIn, text1In, text3In, text4In, text6In, text8In, text16In, text20In, text60In, text64In};
+ghost use Rattle.order_fields.specs.Named.{byteIn, shortIn, numberIn, longIn, priceIn, text1In, text3In, text4In, text6In, text8In, text16In, text20In, text60In, text64In};
+use crate::ByteField;
 use crate::Found;
 use crate::LongField;
 use crate::NumberField;
@@ -25,6 +26,23 @@ fn lift(s: &[u8], at: usize, to: &mut [u8])
 {
     let n = at + to.len();
     block::copy(&s[at..n], to);
+}
+
+// The number of one byte where a field stands.
+pub(crate) fn byte_in(f: Found, s: &[u8]) -> ByteField
+    ensures { λ a. ⌜ a ≡ byteIn f (now (s .entry)) ⌝ }
+{
+    let at = f.at;
+    if f.selected {
+        return ByteField {
+            selected: true,
+            value: numbers::byte_at(s, at),
+        };
+    }
+    ByteField {
+        selected: false,
+        value: 0,
+    }
 }
 
 // The number of two bytes where a field stands.

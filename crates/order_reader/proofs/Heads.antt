@@ -35,10 +35,10 @@ module _ (m : List ℕ) (message : ℕ) (e : message ≡ typeOf m) where
       ∙ ap (λ (x : ℕ). headBy (ofMember x || ofVenue x) (typeHead x (countAt x) (mostOf x) m)) (sym f)
       ∙ head-is
 
-  pub unknown-type : (message ≡ 0x38 → ⊥) → (message ≡ 0x39 → ⊥) → (message ≡ 0x25 → ⊥) → (message ≡ 0x2C → ⊥) → (message ≡ 0x26 → ⊥) → (message ≡ 0x29 → ⊥) → (message ≡ 0x2B → ⊥)
+  pub unknown-type : (message ≡ 0x38 → ⊥) → (message ≡ 0x39 → ⊥) → (message ≡ 0x25 → ⊥) → (message ≡ 0x2C → ⊥) → (message ≡ 0x26 → ⊥) → (message ≡ 0x29 → ⊥) → (message ≡ 0x2B → ⊥) → (message ≡ 0x3A → ⊥) → (message ≡ 0x47 → ⊥)
       → unknownType ≡ headRefusal m
-  unknown-type a b c d e f g =
-      let none : (ofMember message || ofVenue message) ≡ false = rw (ne-eqb message 0x38 a, ne-eqb message 0x39 b, ne-eqb message 0x25 c, ne-eqb message 0x2C d, ne-eqb message 0x26 e, ne-eqb message 0x29 f, ne-eqb message 0x2B g) in
+  unknown-type a b c d e f g h i =
+      let none : (ofMember message || ofVenue message) ≡ false = rw (ne-eqb message 0x38 a, ne-eqb message 0x39 b, ne-eqb message 0x25 c, ne-eqb message 0x2C d, ne-eqb message 0x26 e, ne-eqb message 0x29 f, ne-eqb message 0x2B g, ne-eqb message 0x3A h, ne-eqb message 0x47 i) in
       ap (λ (b : Bool). headBy b (typeHead message (countAt message) (mostOf message) m)) (sym none) ∙ head-is
 
 -- ---- those of a message of a type, by its unit and number
@@ -58,7 +58,7 @@ module _ (m : List ℕ) (message unit number at most : ℕ) (f : unit ≡ unitOf
 
 -- where the count stands, how many bitfields there are, and that they fit
 pub record GoodHead (m : List ℕ) (at count : ℕ) : Type 0 where
-  pub at-least : 30 ≤ at
+  pub at-least : 11 ≤ at
   pub at-most : at ≤ fixedEnd
   pub few : count ≤ mostBitfields
   pub fits : at + 1 + count ≤ length m
@@ -74,7 +74,7 @@ good-head m message at count z e f g =
     let most : countOf m ≤ mostOf (typeOf m) = ltb-false _ _ (p4 .0) in
     let whole : countAt (typeOf m) + 1 + countOf m ≤ length m = ltb-false _ _ (p5 .0) in
     let bound : mostOf (typeOf m) ≤ mostBitfields = most-bound (typeOf m) in
-    let low : 30 ≤ countAt (typeOf m) = count-bounds (typeOf m) .low in
+    let low : 11 ≤ countAt (typeOf m) = count-bounds (typeOf m) .low in
     let high : countAt (typeOf m) ≤ fixedEnd = count-bounds (typeOf m) .high in
     let a : at ≡ countAt (typeOf m) = f ∙ ap countAt e in
     let n : count ≡ countOf m = g ∙ ap (λ (i : ℕ). getD m i 0) a in

@@ -1,15 +1,19 @@
 // The reader of a message with bitfields: from a whole message to its record, or the refusal and its place.
 ghost use mathlib.Core.Path.{_≡_};
+ghost use mathlib.Core.Bool.{cond};
 ghost use mathlib.Core.List.{_∷_, _++_};
 ghost use Prim.Native.Nat.{_+_, _-_, _≤_};
+ghost use lib.Dec.{ltb};
 ghost use lib.ListN.{length, take, drop};
 ghost use Rattle.numbers.specs.Numbers.{patched};
 ghost use Rattle.wire.specs.Header.{typeOf, totalOf};
 ghost use Rattle.block.specs.Slots.{zeros, takes, sum};
 ghost use Rattle.block.specs.Places.{slotsOf};
 ghost use Rattle.orders.specs.Shapes.{countAt};
-ghost use Rattle.orders.specs.Orders.{headRefusal, blockRefusal, layoutOf, readRefusal};
-ghost use Rattle.order_reader.specs.Stages.{countRefusal, typeHead, valueRefusal, judgedOf, frontBytes, thereBytes, readRecord};
+ghost use Rattle.orders.specs.Middle.{middleSize};
+ghost use Rattle.orders.specs.Late.{lateRefusal};
+ghost use Rattle.orders.specs.Orders.{headRefusal, bodyRefusal, layoutOf, readRefusal};
+ghost use Rattle.order_reader.specs.Stages.{countRefusal, typeHead, valueRefusal, judgedOf, mayBeLate, keptBytes, frontBytes, thereBytes, readRecord};
 ghost use Rattle.block.specs.Sizes.{fixedEnd, fixedSize, layoutSize, recordSize, mostBitfields, slotsPlace};
 use block_judge::Judged;
 
@@ -26,6 +30,8 @@ fn head_refusal(m: &[u8], message: u8) -> u32
         0x26 => type_head(m, 0x26, 100, 19),
         0x29 => type_head(m, 0x29, 100, 19),
         0x2B => type_head(m, 0x2B, 100, 19),
+        0x3A => type_head(m, 0x3A, 50, 2),
+        0x47 => type_head(m, 0x47, 11, 2),
         _ => refusals::UNKNOWN_TYPE,
     }
 }
@@ -61,26 +67,30 @@ fn count_refusal(m: &[u8], at: usize, most: u8) -> u32
     0
 }
 
-// 10, by what is found in the fixed part and in the optional fields: the place of the first field of the fixed part that is bad, and the first bad optional
-// field, counted from 1; 0 where there is none.
-fn value_refusal(message: u8, count: u8, fixed: usize, wrong: usize) -> u32
-    requires { ⌜ (fixed ≤ 1000) × (wrong ≤ 1000) ⌝ }
-    ensures { λ r. ⌜ r ≡ valueRefusal (countAt message + count) fixed wrong ⌝ }
+// 10, by what is found in the fixed part, in the middle of `size` bytes and in the optional fields: the place of the first field of the fixed part that is
+// bad, whether the middle is good, and the first bad optional field, counted from 1; 0 where there is none.
+fn value_refusal(message: u8, count: u8, fixed: usize, good: bool, size: usize, wrong: usize) -> u32
+    requires { ⌜ (fixed ≤ 1000) × (size ≤ 1000) × (wrong ≤ 1000) ⌝ }
+    ensures { λ r. ⌜ r ≡ valueRefusal (countAt message + count) fixed good size wrong ⌝ }
 {
     if fixed != 0 {
         return refusals::told(refusals::BAD_VALUE, fixed);
     }
+    let last = orders::count_at(message) + (count as usize);
+    if !good {
+        return refusals::told(refusals::BAD_VALUE, last + 1);
+    }
     if wrong != 0 {
-        let last = orders::count_at(message) + (count as usize);
-        return refusals::told(refusals::BAD_VALUE, last + wrong);
+        return refusals::told(refusals::BAD_VALUE, last + size + wrong);
     }
     0
 }
 
-// The refusals of the optional block of a message m, once its bytes are judged: 8, 9, 6, 10. Where the count byte stands is asked where a refusal tells it.
-fn judged(m: &[u8], message: u8, bits: &[u8], count: u8, t: Judged, have: usize) -> u32
-    requires { ⌜ (length (now bits) ≡ count) × (countAt message ≤ length (now m)) × (t .bad ≤ 100) × (t .at ≡ have → t .wrong ≤ 1000) ⌝ }
-    ensures { λ r. ⌜ r ≡ judgedOf (totalOf (now (m .entry))) message count (now (bits .entry)) (drop 10 (now (m .entry))) t have ⌝ }
+// The refusals of the block of a message m, once its bytes are judged: 8, 9, 6, 10. `rest` is what follows the bitfields; the middle is its first `size`
+// bytes. Where the count byte stands is asked where a refusal tells it.
+fn judged(m: &[u8], message: u8, bits: &[u8], count: u8, t: Judged, size: usize, rest: &[u8]) -> u32
+    requires { ⌜ (length (now bits) ≡ count) × (countAt message ≤ length (now m)) × (t .bad ≤ 100) × (t .at ≤ 1000) × (size ≤ 1000) × (size + t .at ≡ length (now rest) → t .wrong ≤ 1000) ⌝ }
+    ensures { λ r. ⌜ r ≡ judgedOf (totalOf (now (m .entry))) message count (now (bits .entry)) (drop 10 (now (m .entry))) t size (now (rest .entry)) ⌝ }
 {
     if t.bad != 0 {
         let at = orders::count_at(message);
@@ -90,37 +100,105 @@ fn judged(m: &[u8], message: u8, bits: &[u8], count: u8, t: Judged, have: usize)
         let last = orders::count_at(message) + (count as usize);
         return refusals::told(refusals::NOT_SELECTED, last);
     }
-    if t.at != have {
+    if size + t.at != rest.len() {
         return wire::wrong_total(m);
     }
     value_refusal(
         message,
         count,
         orders::fixed_wrong(message, &m[10..]),
+        orders::middle_good(message, count, bits, rest),
+        size,
         t.wrong,
     )
 }
 
-// The refusal of a message m of which the bitfields and the optional bytes are lent where they stand.
-fn block_refusal(m: &[u8], message: u8, bits: &[u8], count: u8, optional: &[u8]) -> u32
-    requires { ⌜ (length (now bits) ≡ count) × (count ≤ mostBitfields) × (countAt message ≤ length (now m)) ⌝ }
-    ensures { λ r. ⌜ r ≡ blockRefusal (totalOf (now (m .entry))) message count (now (bits .entry)) (drop 10 (now (m .entry))) (now (optional .entry)) ⌝ }
+// Whether a message may still be refused once its values are good.
+fn may_be_late(message: u8, bits: &[u8], count: u8) -> bool
+    requires { ⌜ count ≤ length (now bits) ⌝ }
+    ensures { λ r. ⌜ r ≡ mayBeLate message count (now (bits .entry)) ⌝ }
+{
+    match message {
+        0x3A => !block::is_selected(bits, count, 3),
+        0x47 => true,
+        _ => false,
+    }
+}
+
+// The late refusal, by the optional fields in their full layout.
+fn stored_late(message: u8, bits: &[u8], count: u8, optional: &[u8]) -> u32
+    requires { ⌜ (length (now bits) ≡ count) × (count ≤ mostBitfields) × (sum takes (slotsOf message count (now bits)) ≡ length (now optional)) ⌝ }
+    ensures { λ r. ⌜ r ≡ lateRefusal message count (now (bits .entry)) (layoutOf message count (now (bits .entry)) (now (optional .entry))) ⌝ }
+{
+    let mut slots = [0u8; block::LAYOUT];
+    block_store::store_all(message, bits, count, optional, &mut slots);
+    orders::late_refusal(message, count, bits, &slots)
+}
+
+// The same, where the message may be late.
+fn late(message: u8, bits: &[u8], count: u8, optional: &[u8]) -> u32
+    requires { ⌜ (length (now bits) ≡ count) × (count ≤ mostBitfields) × (sum takes (slotsOf message count (now bits)) ≡ length (now optional)) ⌝ }
+    ensures { λ r. ⌜ r ≡ lateRefusal message count (now (bits .entry)) (layoutOf message count (now (bits .entry)) (now (optional .entry))) ⌝ }
+{
+    if may_be_late(message, bits, count) {
+        return stored_late(message, bits, count, optional);
+    }
+    0
+}
+
+// The refusal of a message m of which the bitfields, what follows them and the optional bytes, which follow the middle of `size` bytes, are lent where
+// they stand.
+fn parts_refusal(
+    m: &[u8],
+    message: u8,
+    bits: &[u8],
+    count: u8,
+    size: usize,
+    rest: &[u8],
+    optional: &[u8],
+) -> u32
+    requires { ⌜ (length (now bits) ≡ count) × (count ≤ mostBitfields) × (countAt message ≤ length (now m)) × (size ≡ middleSize message count (now bits) (now rest)) × (size ≤ 1000) × (now optional ≡ drop size (now rest)) ⌝ }
+    ensures { λ r. ⌜ r ≡ bodyRefusal (totalOf (now (m .entry))) message count (now (bits .entry)) (drop 10 (now (m .entry))) (now (rest .entry)) ⌝ }
 {
     let t = block_judge::judge_all(message, bits, count, optional);
-    judged(m, message, bits, count, t, optional.len())
+    let refusal = judged(m, message, bits, count, t, size, rest);
+    if refusal != 0 {
+        return refusal;
+    }
+    late(message, bits, count, optional)
+}
+
+// Where the optional bytes begin in what follows the bitfields: after the middle, or at the end where they are fewer bytes.
+fn least(size: usize, have: usize) -> usize
+    ensures { λ r. ⌜ r ≡ cond (ltb have size) have size ⌝ }
+{
+    if have < size {
+        return have;
+    }
+    size
+}
+
+// The refusal of a message m of which the bitfields and what follows them are lent where they stand.
+fn block_refusal(m: &[u8], message: u8, bits: &[u8], count: u8, rest: &[u8]) -> u32
+    requires { ⌜ (length (now bits) ≡ count) × (count ≤ mostBitfields) × (countAt message ≤ length (now m)) ⌝ }
+    ensures { λ r. ⌜ r ≡ bodyRefusal (totalOf (now (m .entry))) message count (now (bits .entry)) (drop 10 (now (m .entry))) (now (rest .entry)) ⌝ }
+{
+    let size = orders::middle_size(message, count, bits, rest);
+    let from = least(size, rest.len());
+    parts_refusal(m, message, bits, count, size, rest, &rest[from..])
 }
 
 // The refusal of a body whose count stands at a place. Nothing is copied.
 fn body_refusal(m: &[u8], message: u8, at: usize, count: u8) -> u32
-    requires { ⌜ (30 ≤ at) × (at + 1 + count ≤ length (now m)) × (count ≤ mostBitfields) × (at ≡ countAt message) ⌝ }
-    ensures { λ r. ⌜ r ≡ blockRefusal (totalOf (now (m .entry))) message count (take count (drop (at + 1) (now (m .entry)))) (drop 10 (now (m .entry))) (drop (at + 1 + count) (now (m .entry))) ⌝ }
+    requires { ⌜ (11 ≤ at) × (at + 1 + count ≤ length (now m)) × (count ≤ mostBitfields) × (at ≡ countAt message) ⌝ }
+    ensures { λ r. ⌜ r ≡ bodyRefusal (totalOf (now (m .entry))) message count (take count (drop (at + 1) (now (m .entry)))) (drop 10 (now (m .entry))) (drop (at + 1 + count) (now (m .entry))) ⌝ }
 {
     let start = at + 1;
     let end = start + (count as usize);
     block_refusal(m, message, &m[start..end], count, &m[end..])
 }
 
-// The refusal of a whole message alone, 4 to 10, or 0, and from 6 on its place: for callers that want no record.
+// The refusal of a whole message alone, 4 to 10 or 23, or 0, and from 6 to 10 its place: for callers that want no record.
 pub fn order_refusal(m: &[u8]) -> u32
     ensures { λ r. ⌜ r ≡ readRefusal (now (m .entry)) ⌝ }
 {
@@ -172,28 +250,49 @@ fn put_fixed(m: &[u8], message: u8, tail: &mut [u8])
         0x39 => put_up_to(m, 30, tail),
         0x25 => put_up_to(m, 47, tail),
         0x2C => put_up_to(m, 69, tail),
+        0x3A => put_up_to(m, 50, tail),
+        0x47 => put_up_to(m, 11, tail),
         _ => put_up_to(m, block::FIXED_END, tail),
     }
 }
 
-// The fixed part, and the count and the bitfields after it.
-fn put_body(m: &[u8], message: u8, count: u8, bits: &[u8], tail: &mut [u8])
-    requires { ⌜ (countAt message ≤ length (now m)) × (length (now bits) ≤ mostBitfields) × (fixedSize + 1 + mostBitfields ≤ length (now tail)) ⌝ }
-    ensures { λ _. ⌜ now (tail .exit) ≡ patched (now (tail .entry)) 0 ((take (countAt message - 10) (drop 10 (now (m .entry))) ++ zeros (fixedEnd - countAt message)) ++ (count ∷ (now (bits .entry) ++ zeros (mostBitfields - length (now (bits .entry)))))) ⌝ }
+// The middle, which `rest` begins with, into a lent tail, after the fixed part.
+fn put_middle(message: u8, count: u8, bits: &[u8], rest: &[u8], tail: &mut [u8])
+    requires { ⌜ (middleSize message count (now bits) (now rest) ≤ length (now rest)) × (countAt message + middleSize message count (now bits) (now rest) ≤ fixedEnd) × (fixedSize ≤ length (now tail)) ⌝ }
+    ensures { λ _. ⌜ now (tail .exit) ≡ patched (now (tail .entry)) (countAt message - 10) (take (middleSize message count (now (bits .entry)) (now (rest .entry))) (now (rest .entry))) ⌝ }
+{
+    let k = orders::middle_size(message, count, bits, rest);
+    let n = orders::count_at(message) - 10;
+    block::copy_front(rest, k, &mut tail[n..]);
+}
+
+// The fixed part and the middle of a message into the front of a lent tail, with zeros after them.
+fn put_kept(m: &[u8], message: u8, count: u8, bits: &[u8], rest: &[u8], tail: &mut [u8])
+    requires { ⌜ (countAt message ≤ length (now m)) × (middleSize message count (now bits) (now rest) ≤ length (now rest)) × (countAt message + middleSize message count (now bits) (now rest) ≤ fixedEnd) × (fixedSize ≤ length (now tail)) ⌝ }
+    ensures { λ _. ⌜ now (tail .exit) ≡ patched (now (tail .entry)) 0 (keptBytes (now (m .entry)) message count (now (bits .entry)) (now (rest .entry))) ⌝ }
 {
     put_fixed(m, message, tail);
+    put_middle(message, count, bits, rest, tail);
+}
+
+// These, and the count and the bitfields after them.
+fn put_body(m: &[u8], message: u8, count: u8, bits: &[u8], rest: &[u8], tail: &mut [u8])
+    requires { ⌜ (countAt message ≤ length (now m)) × (length (now bits) ≤ mostBitfields) × (middleSize message count (now bits) (now rest) ≤ length (now rest)) × (countAt message + middleSize message count (now bits) (now rest) ≤ fixedEnd) × (fixedSize + 1 + mostBitfields ≤ length (now tail)) ⌝ }
+    ensures { λ _. ⌜ now (tail .exit) ≡ patched (now (tail .entry)) 0 (keptBytes (now (m .entry)) message count (now (bits .entry)) (now (rest .entry)) ++ (count ∷ (now (bits .entry) ++ zeros (mostBitfields - length (now (bits .entry)))))) ⌝ }
+{
+    put_kept(m, message, count, bits, rest, tail);
     put_block(count, bits, &mut tail[block::FIXED..]);
 }
 
 // A message's record up to its layout, straight from the message.
-fn put_front(m: &[u8], message: u8, count: u8, bits: &[u8], buffer: &mut [u8])
-    requires { ⌜ (countAt message ≤ length (now m)) × (length (now bits) ≤ mostBitfields) × (slotsPlace ≤ length (now buffer)) ⌝ }
-    ensures { λ _. ⌜ now (buffer .exit) ≡ patched (now (buffer .entry)) 0 (frontBytes (now (m .entry)) message count (now (bits .entry))) ⌝ }
+fn put_front(m: &[u8], message: u8, count: u8, bits: &[u8], rest: &[u8], buffer: &mut [u8])
+    requires { ⌜ (countAt message ≤ length (now m)) × (length (now bits) ≤ mostBitfields) × (middleSize message count (now bits) (now rest) ≤ length (now rest)) × (countAt message + middleSize message count (now bits) (now rest) ≤ fixedEnd) × (slotsPlace ≤ length (now buffer)) ⌝ }
+    ensures { λ _. ⌜ now (buffer .exit) ≡ patched (now (buffer .entry)) 0 (frontBytes (now (m .entry)) message count (now (bits .entry)) (now (rest .entry))) ⌝ }
 {
     let unit = wire::header::unit_of(m);
     let number = wire::header::number_of(m);
     order_records::put_head(message, unit, number, buffer);
-    put_body(m, message, count, bits, &mut buffer[6..]);
+    put_body(m, message, count, bits, rest, &mut buffer[6..]);
 }
 
 // The optional block, whose bytes are handed on to the field reader: the full layout into the front of a lent tail.
@@ -205,25 +304,28 @@ fn put_layout(message: u8, bits: &[u8], count: u8, optional: &[u8], tail: &mut [
     block_store::store_all(message, bits, count, optional, &mut tail[0..block::LAYOUT]);
 }
 
-// A message's record, of which each part is lent where it stands.
-fn put_record(m: &[u8], message: u8, count: u8, bits: &[u8], optional: &[u8], buffer: &mut [u8])
-    requires { ⌜ (countAt message ≤ length (now m)) × (length (now bits) ≡ count) × (count ≤ mostBitfields) × (sum takes (slotsOf message count (now bits)) ≡ length (now optional)) × (recordSize ≤ length (now buffer)) ⌝ }
-    ensures { λ _. ⌜ now (buffer .exit) ≡ patched (now (buffer .entry)) 0 (thereBytes (now (m .entry)) message count (now (bits .entry)) (layoutOf message count (now (bits .entry)) (now (optional .entry)))) ⌝ }
+// The full layout of the optional bytes, which follow the middle, into the front of a lent tail.
+fn put_slots(message: u8, bits: &[u8], count: u8, rest: &[u8], tail: &mut [u8])
+    requires { ⌜ (length (now bits) ≡ count) × (count ≤ mostBitfields) × (middleSize message count (now bits) (now rest) + sum takes (slotsOf message count (now bits)) ≡ length (now rest)) × (layoutSize ≤ length (now tail)) ⌝ }
+    ensures { λ _. ⌜ now (tail .exit) ≡ patched (now (tail .entry)) 0 (layoutOf message count (now (bits .entry)) (drop (middleSize message count (now (bits .entry)) (now (rest .entry))) (now (rest .entry)))) ⌝ }
 {
-    put_front(m, message, count, bits, buffer);
-    put_layout(
-        message,
-        bits,
-        count,
-        optional,
-        &mut buffer[block::SLOTS_AT..],
-    );
+    let size = orders::middle_size(message, count, bits, rest);
+    put_layout(message, bits, count, &rest[size..], tail);
+}
+
+// A message's record, of which each part is lent where it stands.
+fn put_record(m: &[u8], message: u8, count: u8, bits: &[u8], rest: &[u8], buffer: &mut [u8])
+    requires { ⌜ (countAt message ≤ length (now m)) × (length (now bits) ≡ count) × (count ≤ mostBitfields) × (middleSize message count (now bits) (now rest) + sum takes (slotsOf message count (now bits)) ≡ length (now rest)) × (countAt message + middleSize message count (now bits) (now rest) ≤ fixedEnd) × (recordSize ≤ length (now buffer)) ⌝ }
+    ensures { λ _. ⌜ now (buffer .exit) ≡ patched (now (buffer .entry)) 0 (thereBytes (now (m .entry)) message count (now (bits .entry)) (now (rest .entry))) ⌝ }
+{
+    put_front(m, message, count, bits, rest, buffer);
+    put_slots(message, bits, count, rest, &mut buffer[block::SLOTS_AT..]);
 }
 
 // The record of a message that is not refused, whose count stands at a place.
 fn put_there(m: &[u8], message: u8, at: usize, count: u8, buffer: &mut [u8])
-    requires { ⌜ (30 ≤ at) × (at + 1 + count ≤ length (now m)) × (count ≤ mostBitfields) × (at ≡ countAt message) × (sum takes (slotsOf message count (take count (drop (at + 1) (now m)))) ≡ length (drop (at + 1 + count) (now m))) × (recordSize ≤ length (now buffer)) ⌝ }
-    ensures { λ _. ⌜ now (buffer .exit) ≡ patched (now (buffer .entry)) 0 (thereBytes (now (m .entry)) message count (take count (drop (at + 1) (now (m .entry)))) (layoutOf message count (take count (drop (at + 1) (now (m .entry)))) (drop (at + 1 + count) (now (m .entry))))) ⌝ }
+    requires { ⌜ (11 ≤ at) × (at + 1 + count ≤ length (now m)) × (count ≤ mostBitfields) × (at ≡ countAt message) × (middleSize message count (take count (drop (at + 1) (now m))) (drop (at + 1 + count) (now m)) + sum takes (slotsOf message count (take count (drop (at + 1) (now m)))) ≡ length (drop (at + 1 + count) (now m))) × (countAt message + middleSize message count (take count (drop (at + 1) (now m))) (drop (at + 1 + count) (now m)) ≤ fixedEnd) × (recordSize ≤ length (now buffer)) ⌝ }
+    ensures { λ _. ⌜ now (buffer .exit) ≡ patched (now (buffer .entry)) 0 (thereBytes (now (m .entry)) message count (take count (drop (at + 1) (now (m .entry)))) (drop (at + 1 + count) (now (m .entry)))) ⌝ }
 {
     let start = at + 1;
     let end = start + (count as usize);
@@ -231,7 +333,7 @@ fn put_there(m: &[u8], message: u8, at: usize, count: u8, buffer: &mut [u8])
 }
 
 // Reads a whole message, as framing answers it, into a buffer that has room for its record: 0, and the record's bytes stand in the front of
-// the buffer; or the refusal (4 to 10, from 6 on with its place), and the buffer is as it was.
+// the buffer; or the refusal (4 to 10, from 6 on with its place, or 23), and the buffer is as it was.
 pub fn read_order(m: &[u8], buffer: &mut [u8]) -> u32
     requires { ⌜ recordSize ≤ length (now buffer) ⌝ }
     ensures { λ r. ⌜ (r ≡ readRefusal (now (m .entry))) × (now (buffer .exit) ≡ readRecord (now (m .entry)) (now (buffer .entry))) ⌝ }

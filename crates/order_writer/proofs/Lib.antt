@@ -1,3 +1,4 @@
+pub mod Held
 pub mod Puts
 pub mod Windows
 pub mod Writing

@@ -15,8 +15,9 @@ use Rattle.block.specs.Dictionaries.{before, before-none, dictionary-placed, wi
 use Rattle.block.specs.Gives.{gave}
 use Rattle.block_write.specs.State.{giving, giveWalk}
 use Rattle.orders.specs.Shapes.{countAt}
+use Rattle.orders.specs.Middle.{middleSize}
 use Rattle.orders.specs.OrderLaws.{count-bounds}
-use Rattle.order_writer.specs.Stages.{fieldBytes, restBytes}
+use Rattle.order_writer.specs.Stages.{afterBytes, fieldBytes, restBytes}
 use Rattle.block.specs.Sizes.{allPlaces, fixedSize, layoutSize, mostBitfields}
 
 -- the selected fields given at a place
@@ -31,35 +32,45 @@ fields-given message count bits v out out′ at r lv room e =
     ∙ ap (λ (x : List ℕ). patched out at (gathered (slotsOf message count bits) x)) d
 
 -- their length
-pub fields-length : (message count : ℕ) (bits v : List ℕ) → length v ≡ layoutSize → length (gathered (slotsOf message count bits) v) ≡ sum takes (slotsOf message count bits)
-fields-length message count bits v lv = gathered-length (slotsOf message count bits) v (omega (arith, widths-fit message count bits))
+given-length : (message count : ℕ) (bits v : List ℕ) → length v ≡ layoutSize → length (gathered (slotsOf message count bits) v) ≡ sum takes (slotsOf message count bits)
+given-length message count bits v lv = gathered-length (slotsOf message count bits) v (omega (arith, widths-fit message count bits))
 
--- the bitfields copied and the selected fields given after them
-pub fields-put : (message count : ℕ) (bits v out out₁ out′ : List ℕ) (r : ℕ) → length v ≡ layoutSize → count ≤ length bits → count + sum takes (slotsOf message count bits) ≤ length out
-    → out₁ ≡ patched out 0 (take count bits) → giving r out′ ≡ giveWalk message count bits v allPlaces 0 (giving count out₁)
-    → out′ ≡ patched out 0 (take count bits ++ gathered (slotsOf message count bits) v)
-fields-put message count bits v out out₁ out′ r lv lb room p e =
-    let n : length (take count bits) ≡ count = length-take-le count bits lb in
-    let k : count ≡ 0 + length (take count bits) = omega arith in
-    let fits : 0 + length (take count bits) ≤ length out = omega arith in
-    let same : length out₁ ≡ length out = ap length p ∙ patched-length out 0 (take count bits) fits in
-    fields-given message count bits v out₁ out′ count r lv (omega (arith, same)) e
-    ∙ ap₂ (λ (o : List ℕ) (i : ℕ). patched o i (gathered (slotsOf message count bits) v)) p k
-    ∙ patched-join out 0 (take count bits) fits (gathered (slotsOf message count bits) v)
+-- a front put and the selected fields given after it
+pub fields-put : (message count : ℕ) (bits v front out out₁ out′ : List ℕ) (k r : ℕ) → length v ≡ layoutSize → length front ≡ k → k + sum takes (slotsOf message count bits) ≤ length out
+    → out₁ ≡ patched out 0 front → giving r out′ ≡ giveWalk message count bits v allPlaces 0 (giving k out₁)
+    → out′ ≡ patched out 0 (front ++ gathered (slotsOf message count bits) v)
+fields-put message count bits v front out out₁ out′ k r lv lf room p e =
+    let n : k ≡ 0 + length front = omega arith in
+    let fits : 0 + length front ≤ length out = omega arith in
+    let same : length out₁ ≡ length out = ap length p ∙ patched-length out 0 front fits in
+    fields-given message count bits v out₁ out′ k r lv (omega (arith, same)) e
+    ∙ ap₂ (λ (o : List ℕ) (i : ℕ). patched o i (gathered (slotsOf message count bits) v)) p n
+    ∙ patched-join out 0 front fits (gathered (slotsOf message count bits) v)
 
--- what the count and they are in all
-pub count-length : (message count : ℕ) (bits v : List ℕ) → length v ≡ layoutSize → count ≤ length bits → length (fieldBytes message count bits v) ≡ count + sum takes (slotsOf message count bits)
-unfolding fieldBytes
-count-length message count bits v lv lb =
-    length-append (take count bits) (gathered (slotsOf message count bits) v)
-    ∙ ap₂ (λ (x y : ℕ). x + y) (length-take-le count bits lb) (fields-length message count bits v lv)
+module _ (message count : ℕ) (bits held v : List ℕ) (lv : length v ≡ layoutSize) (lm : middleSize message count bits held ≤ length held) where
+  -- the middle and the selected fields, in all
+  pub after-length : length (afterBytes message count bits held v) ≡ middleSize message count bits held + sum takes (slotsOf message count bits)
+  unfolding afterBytes
+  after-length =
+      length-append (take (middleSize message count bits held) held) (gathered (slotsOf message count bits) v)
+      ∙ ap₂ (λ (x y : ℕ). x + y) (length-take-le (middleSize message count bits held) held lm) (given-length message count bits v lv)
+
+  -- with the bitfields before them
+  pub fields-length : count ≤ length bits → length (fieldBytes message count bits held v) ≡ count + (middleSize message count bits held + sum takes (slotsOf message count bits))
+  unfolding fieldBytes
+  fields-length lb =
+      length-append (take count bits) (afterBytes message count bits held v)
+      ∙ ap₂ (λ (x y : ℕ). x + y) (length-take-le count bits lb) after-length
 
 -- all that follows the header, in all
 pub rest-length : (message count : ℕ) (fixed bits v : List ℕ) → length fixed ≡ fixedSize → length v ≡ layoutSize → length bits ≡ mostBitfields → count ≤ mostBitfields
-    → length (restBytes message count fixed bits v) ≡ countAt message - 10 + (1 + (count + sum takes (slotsOf message count bits)))
+    → middleSize message count bits (drop (countAt message - 10) fixed) ≤ length (drop (countAt message - 10) fixed)
+    → length (restBytes message count fixed bits v)
+    ≡ countAt message - 10 + (1 + (count + (middleSize message count bits (drop (countAt message - 10) fixed) + sum takes (slotsOf message count bits))))
 unfolding restBytes
-rest-length message count fixed bits v lf lv lb lc =
+rest-length message count fixed bits v lf lv lb lc lm =
     let h = count-bounds message .high in
-    let n = count-length message count bits v lv (omega arith) in
-    length-append (take (countAt message - 10) fixed) (count ∷ fieldBytes message count bits v)
+    let held = drop (countAt message - 10) fixed in
+    let n = fields-length message count bits held v lv lm (omega arith) in
+    length-append (take (countAt message - 10) fixed) (count ∷ fieldBytes message count bits held v)
     ∙ ap₂ (λ (x y : ℕ). x + y) (length-take-le (countAt message - 10) fixed (omega arith)) (omega (arith, n))

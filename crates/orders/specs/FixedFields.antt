@@ -22,6 +22,13 @@ newOrderFields f =
 abbrev pub cancelOrderFields : List ℕ → List Tested
 cancelOrderFields f = tested 10 (agreesFilledOf Identifier (take 20 f)) ∷ []
 
+-- Modify Order: ClOrdID at 10, OrigClOrdID at 30
+abbrev pub modifyOrderFields : List ℕ → List Tested
+modifyOrderFields f =
+    tested 10 (agreesFilledOf Identifier (take 20 f))
+    ∷ tested 30 (agreesFilledOf Identifier (take 20 (drop 20 f)))
+    ∷ []
+
 -- Order Acknowledgment: ClOrdID at 18
 abbrev pub acknowledgmentFields : List ℕ → List Tested
 acknowledgmentFields f = tested 18 (agreesFilledOf Identifier (take 20 (drop 8 f))) ∷ []
@@ -43,14 +50,16 @@ rejectionFields f =
     ∷ tested 39 (agreesOf Text (take 60 (drop 29 f)))
     ∷ []
 
--- those of a message of the type
+-- those of a message of the type; Purge Orders has none
 unfoldable pub fixedFields : ℕ → List ℕ → List Tested
 fixedFields message f =
     cond (eqb message 0x38) (newOrderFields f)
     (cond (eqb message 0x39) (cancelOrderFields f)
     (cond (eqb message 0x25) (acknowledgmentFields f)
     (cond (eqb message 0x2C) (executionFields f)
-    (rejectionFields f))))
+    (cond (eqb message 0x3A) (modifyOrderFields f)
+    (cond (eqb message 0x47) []
+    (rejectionFields f))))))
 
 -- 10: the place of the first that is bad; 0 where none is
 unfoldable pub fixedWrong : ℕ → List ℕ → ℕ

@@ -2,6 +2,10 @@ pub mod Shapes
 pub mod Rests
 pub mod FixedFields
 pub mod FixedFieldLaws
+pub mod Middle
+pub mod Late
 pub mod Orders
+pub mod LateSums
 pub mod OrderLaws
+pub mod LateOrder
 pub mod RoundTrip

@@ -20,8 +20,10 @@ use Rattle.block.specs.SlotLaws.{length-zeros, zeros-are-nul, zeros-after, take
 use Rattle.block.specs.Places.{slotsOf, hasRequired}
 use Rattle.block.specs.Dictionaries.{widths-fit}
 use Rattle.orders.specs.Shapes.{ofMember, ofVenue, countAt, unitGood, fixedGood}
-use Rattle.orders.specs.Orders.{countOf, bitsOf, optionalOf, fixedOf, layoutOf, readRefusal, recordOf, writeSlots, sizeOf, orderBytes, writeRefusal}
-use Rattle.orders.specs.OrderLaws.{count-bounds, most-bound, good, is-read, fit, is-written}
+use Rattle.orders.specs.Middle.{middleSize, middleGood}
+use Rattle.orders.specs.Late.{lateRefusal}
+use Rattle.orders.specs.Orders.{countOf, bitsOf, restOf, middleOf, optionalOf, fixedOf, layoutOf, readRefusal, recordOf, writeSlots, writeRest, writeMiddle, sizeOf, orderBytes, writeRefusal}
+use Rattle.orders.specs.OrderLaws.{count-bounds, most-bound, middle-fits, middle-kept, good-kept, good, is-read, fit, is-written}
 use Rattle.orders.specs.declared.Record.{Record}
 use Rattle.block.specs.Sizes.{fixedEnd, fixedSize, layoutSize, mostBitfields}
 
@@ -94,15 +96,17 @@ module _ (m : List ℕ) (bytes : Bytes m) (w : Whole m) (exact : length m ≡ to
   unfolding totalOf
   long = omega (arith, w .least, exact)
 
-  optional-length : length (optionalOf m) + (countAt (typeOf m) + 1 + countOf m) ≡ length m
-  unfolding optionalOf
-  optional-length =
+  rest-length : length (restOf m) + (countAt (typeOf m) + 1 + countOf m) ≡ length m
+  unfolding restOf
+  rest-length =
       let n : length (drop (countAt (typeOf m) + 1 + countOf m) m) ≡ length m - (countAt (typeOf m) + 1 + countOf m) = length-drop (countAt (typeOf m) + 1 + countOf m) m in
       omega (arith, good m z .there)
 
-  pub size-again : sizeOf (recordOf m) ≡ length m
-  unfolding sizeOf recordOf writeSlots
-  size-again = omega (arith, optional-length, good m z .total)
+  optional-length : length (optionalOf m) + middleOf m ≡ length (restOf m)
+  unfolding optionalOf
+  optional-length =
+      let n : length (drop (middleOf m) (restOf m)) ≡ length (restOf m) - middleOf m = length-drop (middleOf m) (restOf m) in
+      omega (arith, n, good m z .middle-there)
 
   front-bits : length (take (countOf m) (drop (countAt (typeOf m) + 1) m)) ≡ countOf m
   front-bits =
@@ -118,9 +122,44 @@ module _ (m : List ℕ) (bytes : Bytes m) (w : Whole m) (exact : length m ≡ to
   unfolding bitsOf
   bits-again = take-at (take (countOf m) (drop (countAt (typeOf m) + 1) m)) (zeros (mostBitfields - countOf m)) (countOf m) front-bits
 
+  -- what a record's fixed part holds after the message's: the middle, and zeros
+  after-fixed : List ℕ
+  after-fixed = take (middleOf m) (restOf m) ++ zeros (fixedEnd - countAt (typeOf m) - middleOf m)
+
   fixed-again : take (countAt (typeOf m) - 10) (fixedOf m) ≡ take (countAt (typeOf m) - 10) (drop 10 m)
   unfolding fixedOf
-  fixed-again = take-at (take (countAt (typeOf m) - 10) (drop 10 m)) (zeros (fixedEnd - countAt (typeOf m))) (countAt (typeOf m) - 10) front-fixed
+  fixed-again = take-at (take (countAt (typeOf m) - 10) (drop 10 m)) (take (middleOf m) (restOf m) ++ zeros (fixedEnd - countAt (typeOf m) - middleOf m)) (countAt (typeOf m) - 10) front-fixed
+
+  rest-again : writeRest (recordOf m) ≡ after-fixed
+  unfolding writeRest recordOf fixedOf after-fixed
+  rest-again = drop-at (take (countAt (typeOf m) - 10) (drop 10 m)) (take (middleOf m) (restOf m) ++ zeros (fixedEnd - countAt (typeOf m) - middleOf m)) (countAt (typeOf m) - 10) front-fixed
+
+  middle-again : writeMiddle (recordOf m) ≡ middleOf m
+  unfolding recordOf after-fixed
+  middle-again =
+      ap (middleSize (typeOf m) (countOf m) (bitsOf m)) rest-again
+      ∙ middle-kept (typeOf m) (countOf m) (bitsOf m) (restOf m) (zeros (fixedEnd - countAt (typeOf m) - middleOf m)) (good m z .middle-there)
+
+  middle-long : length (take (middleOf m) (restOf m)) ≡ middleOf m
+  middle-long = length-take-le (middleOf m) (restOf m) (good m z .middle-there)
+
+  held-again : take (writeMiddle (recordOf m)) (writeRest (recordOf m)) ≡ take (middleOf m) (restOf m)
+  unfolding after-fixed
+  held-again =
+      ap₂ (λ (n : ℕ) (l : List ℕ). take n l) middle-again rest-again
+      ∙ take-at (take (middleOf m) (restOf m)) (zeros (fixedEnd - countAt (typeOf m) - middleOf m)) (middleOf m) middle-long
+
+  unused-again : drop (writeMiddle (recordOf m)) (writeRest (recordOf m)) ≡ zeros (fixedEnd - countAt (typeOf m) - middleOf m)
+  unfolding after-fixed
+  unused-again =
+      ap₂ (λ (n : ℕ) (l : List ℕ). drop n l) middle-again rest-again
+      ∙ drop-at (take (middleOf m) (restOf m)) (zeros (fixedEnd - countAt (typeOf m) - middleOf m)) (middleOf m) middle-long
+
+  pub size-again : sizeOf (recordOf m) ≡ length m
+  unfolding sizeOf writeSlots recordOf
+  size-again =
+      ap (λ (n : ℕ). countAt (typeOf m) + 1 + countOf m + (n + sum takes (slotsOf (typeOf m) (countOf m) (bitsOf m)))) middle-again
+      ∙ omega (arith, rest-length, optional-length, good m z .total)
 
   head-again : headerBytes (sizeOf (recordOf m) - 2) (typeOf m) (unitOf m) (numberOf m) ≡ take 10 m
   unfolding totalOf
@@ -128,22 +167,23 @@ module _ (m : List ℕ) (bytes : Bytes m) (w : Whole m) (exact : length m ≡ to
       let n : sizeOf (recordOf m) - 2 ≡ lengthOf m = omega (arith, size-again, exact) in
       ap (λ (l : ℕ). headerBytes l (typeOf m) (unitOf m) (numberOf m)) n ∙ header-again m long bytes (w .ba0) (w .ba1)
 
-  optional-is : optionalOf m ≡ drop (countAt (typeOf m) + 1 + countOf m) m
-  unfolding optionalOf
-  optional-is = refl
+  -- the middle and the optional bytes are all that follows the bitfields
+  rest-is : take (middleOf m) (restOf m) ++ optionalOf m ≡ drop (countAt (typeOf m) + 1 + countOf m) m
+  unfolding optionalOf restOf
+  rest-is = take-append-drop (middleOf m) (restOf m)
 
   -- WRITTEN AGAIN: the record of a message that is read has the message's bytes
   pub written-again : orderBytes (recordOf m) ≡ m
   unfolding orderBytes recordOf writeSlots
   written-again =
       let b = count-bounds (typeOf m) in
-      ap₂ (λ (p f : List ℕ). p ++ (f ++ (countOf m ∷ (take (countOf m) (bitsOf m) ++ gathered (slotsOf (typeOf m) (countOf m) (bitsOf m)) (layoutOf (typeOf m) (countOf m) (bitsOf m) (optionalOf m)))))) head-again fixed-again
-      ∙ ap₂ (λ (x y : List ℕ). take 10 m ++ (take (countAt (typeOf m) - 10) (drop 10 m) ++ (countOf m ∷ (x ++ y)))) bits-again (gathered-again ∙ optional-is)
+      ap₂ (λ (p f : List ℕ). p ++ (f ++ (countOf m ∷ (take (countOf m) (bitsOf m) ++ (take (writeMiddle (recordOf m)) (writeRest (recordOf m)) ++ gathered (slotsOf (typeOf m) (countOf m) (bitsOf m)) (layoutOf (typeOf m) (countOf m) (bitsOf m) (optionalOf m))))))) head-again fixed-again
+      ∙ ap₂ (λ (x y : List ℕ). take 10 m ++ (take (countAt (typeOf m) - 10) (drop 10 m) ++ (countOf m ∷ (x ++ y)))) bits-again (ap₂ (λ (x y : List ℕ). x ++ y) held-again gathered-again ∙ rest-is)
       ∙ five m (countAt (typeOf m)) (countOf m) (omega (arith, b .low)) (omega (arith, good m z .there)) refl
 
   -- and the writer takes it
   pub taken-again : (room : ℕ) → length m ≤ room → writeRefusal (recordOf m) room ≡ 0
-  unfolding recordOf writeSlots fixedOf bitsOf layoutOf
+  unfolding recordOf writeSlots bitsOf layoutOf after-fixed
   taken-again room h =
       let y = good m z in
       is-written (recordOf m) room
@@ -154,8 +194,10 @@ module _ (m : List ℕ) (bytes : Bytes m) (w : Whole m) (exact : length m ≡ to
         listed = y .listed;
         required = y .required;
         fixed = y .fixed;
+        middle = ap (middleGood (typeOf m) (countOf m) (bitsOf m)) rest-again ∙ good-kept (typeOf m) (countOf m) (bitsOf m) (restOf m) (zeros (fixedEnd - countAt (typeOf m) - middleOf m)) (y .middle-there) ∙ y .middle;
+        late = y .late;
         agree = agree-spread (slotsOf (typeOf m) (countOf m) (bitsOf m)) (optionalOf m) (zeros (layoutSize - sum width (slotsOf (typeOf m) (countOf m) (bitsOf m)))) (omega (arith, y .total)) ∙ y .agree;
-        zero-fixed = ap allNul (drop-at (take (countAt (typeOf m) - 10) (drop 10 m)) (zeros (fixedEnd - countAt (typeOf m))) (countAt (typeOf m) - 10) front-fixed) ∙ zeros-are-nul (fixedEnd - countAt (typeOf m));
+        zero-fixed = ap allNul unused-again ∙ zeros-are-nul (fixedEnd - countAt (typeOf m) - middleOf m);
         zero-bits = ap allNul (drop-at (take (countOf m) (drop (countAt (typeOf m) + 1) m)) (zeros (mostBitfields - countOf m)) (countOf m) front-bits) ∙ zeros-are-nul (mostBitfields - countOf m);
         zero-slots = spread-zero (slotsOf (typeOf m) (countOf m) (bitsOf m)) (optionalOf m) (layoutSize - sum width (slotsOf (typeOf m) (countOf m) (bitsOf m))) (omega (arith, y .total));
         has-room = omega (arith, size-again, h);
@@ -177,10 +219,16 @@ read-sound m bytes z =
     let g = good m z in
     let b = count-bounds (typeOf m) in
     let ss = slotsOf (typeOf m) (countOf m) (bitsOf m) in
-    let p = padded (countAt (typeOf m) - 10) 10 fixedSize m (omega (arith, g .there, b .low)) (omega (arith, b .high)) in
-    let e : fixedSize - (countAt (typeOf m) - 10) ≡ fixedEnd - countAt (typeOf m) = omega (arith, b .low) in
+    let k = middle-fits (typeOf m) (countOf m) (bitsOf m) (restOf m) (g .middle) in
+    let part : List ℕ = take (countAt (typeOf m) - 10) (drop 10 m) in
+    let after : List ℕ = take (middleOf m) (restOf m) ++ zeros (fixedEnd - countAt (typeOf m) - middleOf m) in
     record {
-      fixed-length = ap (λ (n : ℕ). length (take (countAt (typeOf m) - 10) (drop 10 m) ++ zeros n)) (sym e) ∙ p;
+      fixed-length =
+          let d : length (drop 10 m) ≡ length m - 10 = length-drop 10 m in
+          let t : length part ≡ countAt (typeOf m) - 10 = length-take-le (countAt (typeOf m) - 10) (drop 10 m) (omega (arith, d, g .there)) in
+          let h : length (take (middleOf m) (restOf m)) ≡ middleOf m = length-take-le (middleOf m) (restOf m) (g .middle-there) in
+          let y : length after ≡ length (take (middleOf m) (restOf m)) + length (zeros (fixedEnd - countAt (typeOf m) - middleOf m)) = length-append (take (middleOf m) (restOf m)) (zeros (fixedEnd - countAt (typeOf m) - middleOf m)) in
+          length-append part after ∙ omega (arith, t, h, y, length-zeros (fixedEnd - countAt (typeOf m) - middleOf m), k, b .low);
       bits-length = padded (countOf m) (countAt (typeOf m) + 1) mostBitfields m (omega (arith, g .there)) (omega (arith, g .count, most-bound (typeOf m)));
       slots-length =
           let n = spread-length ss (optionalOf m) (omega (arith, g .total)) in
@@ -214,38 +262,79 @@ module _ (r : Record) (room : ℕ) (ok : Sound r) (z : writeRefusal r room ≡ 0
   given-length : length (gathered (writeSlots r) (r .slots)) ≡ sum takes (writeSlots r)
   given-length = gathered-length (writeSlots r) (r .slots) slots-fit
 
+  middle-small : countAt (r .message) + writeMiddle r ≤ fixedEnd
+  middle-small = middle-fits (r .message) (r .count) (r .bits) (writeRest r) (fit r room z .middle)
+
+  held-length : length (writeRest r) ≡ fixedEnd - countAt (r .message)
+  unfolding writeRest
+  held-length = length-drop (countAt (r .message) - 10) (r .fixed) ∙ omega (arith, ok .fixed-length, count-low, count-bounds (r .message) .high)
+
+  middle-within : writeMiddle r ≤ length (writeRest r)
+  middle-within = omega (arith, middle-small, held-length)
+
+  kept-middle : length (take (writeMiddle r) (writeRest r)) ≡ writeMiddle r
+  kept-middle = length-take-le (writeMiddle r) (writeRest r) middle-within
+
+  -- what follows the bitfields
+  given-rest : List ℕ
+  given-rest = take (writeMiddle r) (writeRest r) ++ gathered (writeSlots r) (r .slots)
+
+  rest-long : length given-rest ≡ writeMiddle r + sum takes (writeSlots r)
+  unfolding given-rest
+  rest-long = length-append (take (writeMiddle r) (writeRest r)) (gathered (writeSlots r) (r .slots)) ∙ ap₂ (λ (x y : ℕ). x + y) kept-middle given-length
+
   pub bytes-length : length (orderBytes r) ≡ sizeOf r
-  unfolding orderBytes sizeOf
+  unfolding orderBytes sizeOf given-rest
   bytes-length =
-      parts-length (headerBytes (sizeOf r - 2) (r .message) (r .unit) (r .number)) (take (countAt (r .message) - 10) (r .fixed)) (r .count) (take (r .count) (r .bits)) (gathered (writeSlots r) (r .slots)) (countAt (r .message)) refl kept-fixed kept-bits count-low
-      ∙ ap (λ (n : ℕ). countAt (r .message) + 1 + r .count + n) given-length
+      parts-length (headerBytes (sizeOf r - 2) (r .message) (r .unit) (r .number)) (take (countAt (r .message) - 10) (r .fixed)) (r .count) (take (r .count) (r .bits)) given-rest (countAt (r .message)) refl kept-fixed kept-bits count-low
+      ∙ ap (λ (n : ℕ). countAt (r .message) + 1 + r .count + n) rest-long
 
   count-is : countOf (orderBytes r) ≡ r .count
-  unfolding orderBytes
-  count-is = parts-count (headerBytes (sizeOf r - 2) (r .message) (r .unit) (r .number)) (take (countAt (r .message) - 10) (r .fixed)) (r .count) (take (r .count) (r .bits)) (gathered (writeSlots r) (r .slots)) (countAt (r .message)) refl kept-fixed kept-bits count-low
-
-  fixed-is : fixedOf (orderBytes r) ≡ r .fixed
-  unfolding orderBytes fixedOf
-  fixed-is =
-      let n : fixedSize - (countAt (r .message) - 10) ≡ fixedEnd - countAt (r .message) = omega (arith, count-low, count-bounds (r .message) .high) in
-      ap (λ (l : List ℕ). l ++ zeros (fixedEnd - countAt (r .message)))
-      (parts-fixed (headerBytes (sizeOf r - 2) (r .message) (r .unit) (r .number)) (take (countAt (r .message) - 10) (r .fixed)) (r .count) (take (r .count) (r .bits)) (gathered (writeSlots r) (r .slots)) (countAt (r .message)) refl kept-fixed kept-bits count-low)
-      ∙ ap (λ (i : ℕ). take (countAt (r .message) - 10) (r .fixed) ++ zeros i) (sym n)
-      ∙ zeros-after (countAt (r .message) - 10) fixedSize (r .fixed) (ok .fixed-length) (fit r room z .zero-fixed)
+  unfolding orderBytes given-rest
+  count-is = parts-count (headerBytes (sizeOf r - 2) (r .message) (r .unit) (r .number)) (take (countAt (r .message) - 10) (r .fixed)) (r .count) (take (r .count) (r .bits)) given-rest (countAt (r .message)) refl kept-fixed kept-bits count-low
 
   bits-are : bitsOf (orderBytes r) ≡ r .bits
-  unfolding orderBytes bitsOf
+  unfolding orderBytes bitsOf given-rest
   bits-are =
       ap (λ (c : ℕ). take c (drop (countAt (r .message) + 1) (orderBytes r)) ++ zeros (mostBitfields - c)) count-is
       ∙ ap (λ (l : List ℕ). l ++ zeros (mostBitfields - r .count))
-      (parts-bits (headerBytes (sizeOf r - 2) (r .message) (r .unit) (r .number)) (take (countAt (r .message) - 10) (r .fixed)) (r .count) (take (r .count) (r .bits)) (gathered (writeSlots r) (r .slots)) (countAt (r .message)) refl kept-fixed kept-bits count-low)
+      (parts-bits (headerBytes (sizeOf r - 2) (r .message) (r .unit) (r .number)) (take (countAt (r .message) - 10) (r .fixed)) (r .count) (take (r .count) (r .bits)) given-rest (countAt (r .message)) refl kept-fixed kept-bits count-low)
       ∙ zeros-after (r .count) mostBitfields (r .bits) (ok .bits-length) (fit r room z .zero-bits)
 
-  optional-are : optionalOf (orderBytes r) ≡ gathered (writeSlots r) (r .slots)
-  unfolding orderBytes optionalOf
-  optional-are =
+  rest-are : restOf (orderBytes r) ≡ given-rest
+  unfolding orderBytes restOf given-rest
+  rest-are =
       ap (λ (c : ℕ). drop (countAt (r .message) + 1 + c) (orderBytes r)) count-is
-      ∙ parts-rest (headerBytes (sizeOf r - 2) (r .message) (r .unit) (r .number)) (take (countAt (r .message) - 10) (r .fixed)) (r .count) (take (r .count) (r .bits)) (gathered (writeSlots r) (r .slots)) (countAt (r .message)) refl kept-fixed kept-bits count-low
+      ∙ parts-rest (headerBytes (sizeOf r - 2) (r .message) (r .unit) (r .number)) (take (countAt (r .message) - 10) (r .fixed)) (r .count) (take (r .count) (r .bits)) given-rest (countAt (r .message)) refl kept-fixed kept-bits count-low
+
+  middle-is : middleOf (orderBytes r) ≡ writeMiddle r
+  unfolding orderBytes given-rest
+  middle-is =
+      ap (λ (c : ℕ). middleSize (r .message) c (bitsOf (orderBytes r)) (restOf (orderBytes r))) count-is
+      ∙ ap₂ (λ (b s : List ℕ). middleSize (r .message) (r .count) b s) bits-are rest-are
+      ∙ middle-kept (r .message) (r .count) (r .bits) (writeRest r) (gathered (writeSlots r) (r .slots)) middle-within
+
+  middle-are : take (middleOf (orderBytes r)) (restOf (orderBytes r)) ≡ take (writeMiddle r) (writeRest r)
+  unfolding given-rest
+  middle-are =
+      ap₂ (λ (n : ℕ) (l : List ℕ). take n l) middle-is rest-are
+      ∙ take-at (take (writeMiddle r) (writeRest r)) (gathered (writeSlots r) (r .slots)) (writeMiddle r) kept-middle
+
+  optional-are : optionalOf (orderBytes r) ≡ gathered (writeSlots r) (r .slots)
+  unfolding optionalOf given-rest
+  optional-are =
+      ap₂ (λ (n : ℕ) (l : List ℕ). drop n l) middle-is rest-are
+      ∙ drop-at (take (writeMiddle r) (writeRest r)) (gathered (writeSlots r) (r .slots)) (writeMiddle r) kept-middle
+
+  fixed-is : fixedOf (orderBytes r) ≡ r .fixed
+  unfolding orderBytes fixedOf writeRest given-rest
+  fixed-is =
+      ap₂ (λ (f l : List ℕ). f ++ (l ++ zeros (fixedEnd - countAt (r .message) - middleOf (orderBytes r))))
+      (parts-fixed (headerBytes (sizeOf r - 2) (r .message) (r .unit) (r .number)) (take (countAt (r .message) - 10) (r .fixed)) (r .count) (take (r .count) (r .bits)) given-rest (countAt (r .message)) refl kept-fixed kept-bits count-low)
+      middle-are
+      ∙ ap (λ (n : ℕ). take (countAt (r .message) - 10) (r .fixed) ++ (take (writeMiddle r) (writeRest r) ++ zeros (fixedEnd - countAt (r .message) - n))) middle-is
+      ∙ ap (λ (l : List ℕ). take (countAt (r .message) - 10) (r .fixed) ++ l) (zeros-after (writeMiddle r) (fixedEnd - countAt (r .message)) (writeRest r) held-length (fit r room z .zero-fixed))
+      ∙ take-append-drop (countAt (r .message) - 10) (r .fixed)
 
   type-is : typeOf (orderBytes r) ≡ r .message
   unfolding orderBytes
@@ -287,6 +376,19 @@ module _ (r : Record) (room : ℕ) (ok : Sound r) (z : writeRefusal r room ≡ 0
   unfolding sizeOf
   size-there = omega arith
 
+  middle-good : middleGood (typeOf (orderBytes r)) (countOf (orderBytes r)) (bitsOf (orderBytes r)) (restOf (orderBytes r)) ≡ middleGood (r .message) (r .count) (r .bits) (writeRest r)
+  unfolding given-rest
+  middle-good =
+      ap₂ (λ (t c : ℕ). middleGood t c (bitsOf (orderBytes r)) (restOf (orderBytes r))) type-is count-is
+      ∙ ap₂ (λ (b s : List ℕ). middleGood (r .message) (r .count) b s) bits-are rest-are
+      ∙ good-kept (r .message) (r .count) (r .bits) (writeRest r) (gathered (writeSlots r) (r .slots)) middle-within
+
+  late-is : lateRefusal (typeOf (orderBytes r)) (countOf (orderBytes r)) (bitsOf (orderBytes r)) (layoutOf (typeOf (orderBytes r)) (countOf (orderBytes r)) (bitsOf (orderBytes r)) (optionalOf (orderBytes r))) ≡ lateRefusal (r .message) (r .count) (r .bits) (r .slots)
+  late-is =
+      ap (lateRefusal (typeOf (orderBytes r)) (countOf (orderBytes r)) (bitsOf (orderBytes r))) layout-is
+      ∙ ap₂ (λ (t c : ℕ). lateRefusal t c (bitsOf (orderBytes r)) (r .slots)) type-is count-is
+      ∙ ap (λ (b : List ℕ). lateRefusal (r .message) (r .count) b (r .slots)) bits-are
+
   -- and it is read
   pub read-accepts : readRefusal (orderBytes r) ≡ 0
   read-accepts =
@@ -299,8 +401,11 @@ module _ (r : Record) (room : ℕ) (ok : Sound r) (z : writeRefusal r room ≡ 0
         there = rw (count-is, type-is, bytes-length) size-there;
         listed = ap anyBad slots-are ∙ f .listed;
         required = ap (λ (t : ℕ). hasRequired t (countOf (orderBytes r)) (bitsOf (orderBytes r))) type-is ∙ ap₂ (hasRequired (r .message)) count-is bits-are ∙ f .required;
+        middle-there = rw (middle-is, rest-are, rest-long) (omega arith);
         total = ap (sum takes) slots-are ∙ sym (ap length optional-are ∙ given-length);
         fixed = ap₂ fixedGood type-is fixed-is ∙ f .fixed;
+        middle = middle-good ∙ f .middle;
+        late = late-is ∙ f .late;
         agree = ap₂ agreeSent slots-are optional-are ∙ ap (agreeSent (writeSlots r)) (sym (append-nil (gathered (writeSlots r) (r .slots)))) ∙ agree-gathered (writeSlots r) (r .slots) [] slots-fit ∙ f .agree;
       })
 
@@ -309,7 +414,7 @@ module _ (r : Record) (room : ℕ) (ok : Sound r) (z : writeRefusal r room ≡ 0
   unfolding sizeOf
   small =
       let n : sum takes (writeSlots r) ≤ layoutSize = omega (arith, takes-below (writeSlots r), slots-fit, ok .slots-length) in
-      omega (arith, count-bounds (r .message) .high, count-small)
+      omega (arith, n, middle-small, count-small)
 
   total-is : (t : List ℕ) → totalOf (orderBytes r ++ t) ≡ sizeOf r
   unfolding orderBytes

@@ -1,6 +1,6 @@
 -- The messages with bitfields: their fixed parts. Definitions alone. Assumes nothing.
 use Prim.Native.Nat.{ℕ}
-use mathlib.Core.Bool.{Bool, cond, _&&_, _||_}
+use mathlib.Core.Bool.{Bool, true, cond, _&&_, _||_}
 use mathlib.Core.List.{List}
 use lib.Dec.{leb, eqb}
 use lib.ListN.{take, drop}
@@ -8,9 +8,9 @@ use Rattle.kinds.specs.declared.Kind.the-variants.{Alphanumeric, Text, Identifi
 use Rattle.kinds.specs.Kinds.{agreesOf, agreesFilledOf}
 use Rattle.numbers.specs.Numbers.{numberAt}
 
--- New Order and Cancel Order from the member
+-- New Order, Cancel Order, Modify Order and Purge Orders from the member
 abbrev pub ofMember : ℕ → Bool
-ofMember message = eqb message 0x38 || eqb message 0x39
+ofMember message = eqb message 0x38 || (eqb message 0x39 || (eqb message 0x3A || eqb message 0x47))
 
 -- 000, List of Message Types: Order Acknowledgment and Order Execution from the venue are sequenced
 abbrev pub sequenced : ℕ → Bool
@@ -24,18 +24,21 @@ unsequenced message = eqb message 0x26 || (eqb message 0x29 || eqb message 0x2B)
 abbrev pub ofVenue : ℕ → Bool
 ofVenue message = sequenced message || unsequenced message
 
--- where the count of bitfields stands: New Order 35, Cancel Order 30, Order Acknowledgment 47, Order Execution 69, the rejections 100
+-- where the count of bitfields stands: New Order 35, Cancel Order 30, Order Acknowledgment 47, Order Execution 69, Modify Order 50, Purge Orders 11,
+-- the rejections 100
 unfoldable pub countAt : ℕ → ℕ
 countAt message =
     cond (eqb message 0x38) 35
     (cond (eqb message 0x39) 30
     (cond (eqb message 0x25) 47
     (cond (eqb message 0x2C) 69
-    100)))
+    (cond (eqb message 0x3A) 50
+    (cond (eqb message 0x47) 11
+    100)))))
 
--- the most bitfields: 10, 2, 15 and 15, and 19 as the tables of the rejections print
+-- the most bitfields: New Order 10, the other messages of the member 2, the sequenced ones of the venue 15, and 19 as the tables of the rejections print
 unfoldable pub mostOf : ℕ → ℕ
-mostOf message = cond (eqb message 0x38) 10 (cond (eqb message 0x39) 2 (cond (sequenced message) 15 19))
+mostOf message = cond (eqb message 0x38) 10 (cond (ofMember message) 2 (cond (sequenced message) 15 19))
 
 -- members' messages carry unit 0 and any number; 02, request 2: an unsequenced one from the venue carries unit 0 and number 0, a sequenced one a unit
 -- 1 to 32 and any number
@@ -56,6 +59,10 @@ newOrderGood f =
 -- Cancel Order: OrigClOrdID (20), never blank
 abbrev pub cancelOrderGood : List ℕ → Bool
 cancelOrderGood f = agreesFilledOf Identifier (take 20 f)
+
+-- Modify Order: ClOrdID (20) and OrigClOrdID (20), never blank
+abbrev pub modifyOrderGood : List ℕ → Bool
+modifyOrderGood f = agreesFilledOf Identifier (take 20 f) && agreesFilledOf Identifier (take 20 (drop 20 f))
 
 -- Order Acknowledgment: TransactionTime (8); ClOrdID (20), never blank; OrderID (8); a reserved byte
 abbrev pub acknowledgmentGood : List ℕ → Bool
@@ -78,11 +85,13 @@ rejectionGood f =
     && (agreesOf Text (take 1 (drop 28 f))
     && agreesOf Text (take 60 (drop 29 f)))
 
--- 10: the values of the fixed part of a message of the type
+-- 10: the values of the fixed part of a message of the type. That of Purge Orders is a reserved byte
 unfoldable pub fixedGood : ℕ → List ℕ → Bool
 fixedGood message f =
     cond (eqb message 0x38) (newOrderGood f)
     (cond (eqb message 0x39) (cancelOrderGood f)
     (cond (eqb message 0x25) (acknowledgmentGood f)
     (cond (eqb message 0x2C) (executionGood f)
-    (rejectionGood f))))
+    (cond (eqb message 0x3A) (modifyOrderGood f)
+    (cond (eqb message 0x47) true
+    (rejectionGood f))))))

@@ -1,13 +1,17 @@
-// Messages with bitfields, as records: New Order and Cancel Order from the member; Order Acknowledgment, Order Execution, Order Rejected, Cancel
+// Messages with bitfields, as records: New Order, Cancel Order, Modify Order and Purge Orders from the member; Order Acknowledgment, Order Execution, Order Rejected, Cancel
 // Rejected and User Modify Rejected from the venue.
 ghost use mathlib.Core.Path.{_≡_};
-ghost use mathlib.Core.Bool.{_&&_, _||_};
+ghost use mathlib.Core.Bool.{not, _&&_, _||_};
 ghost use lib.Dec.{eqb};
 ghost use Prim.Native.Nat.{_+_, _≤_};
-ghost use lib.ListN.{length};
+ghost use lib.ListN.{length, getD};
+ghost use Rattle.block.specs.Places.{selectedAt};
+ghost use Rattle.block.specs.Sizes.{layoutSize};
 ghost use Rattle.orders.specs.Shapes.{ofMember, sequenced, unsequenced, ofVenue, countAt, mostOf, unitGood};
 ghost use Rattle.orders.specs.FixedFields.{fixedWrong};
-ghost use Rattle.orders.specs.Rests.{nameAt, newOrderRest, executionRest, rejectionRest};
+ghost use Rattle.orders.specs.Rests.{nameAt, newOrderRest, modifyOrderRest, executionRest, rejectionRest};
+ghost use Rattle.orders.specs.Middle.{middleSize, middleGood};
+ghost use Rattle.orders.specs.Late.{charF, charS, charB, charL, modifyOrderLacks, lacks, conflicts, lateRefusal};
 ghost use Rattle.orders.specs.Orders.{blank};
 use kinds::Kind;
 use table::Unit;
@@ -29,7 +33,10 @@ pub fn of_member(message: u8) -> bool
     ensures { λ r. ⌜ r ≡ ofMember message ⌝ }
 {
     match message {
-        0x38 | 0x39 => true,
+        0x38 => true,
+        0x39 => true,
+        0x3A => true,
+        0x47 => true,
         _ => false,
     }
 }
@@ -85,6 +92,8 @@ pub fn count_at(message: u8) -> usize
         0x39 => 30,
         0x25 => 47,
         0x2C => 69,
+        0x3A => 50,
+        0x47 => 11,
         _ => 100,
     }
 }
@@ -98,6 +107,8 @@ pub fn most_of(message: u8) -> u8
         0x39 => 2,
         0x25 => 15,
         0x2C => 15,
+        0x3A => 2,
+        0x47 => 2,
         _ => 19,
     }
 }
@@ -132,6 +143,7 @@ fn name_at(message: u8) -> usize
     match message {
         0x38 => 0,
         0x39 => 0,
+        0x3A => 0,
         _ => 8,
     }
 }
@@ -150,6 +162,17 @@ fn new_order_rest(f: &[u8]) -> usize
     }
     if 999999 < quantity {
         return 31;
+    }
+    0
+}
+
+// Modify Order, after ClOrdID: OrigClOrdID. 0, or its place where it is not an identifier.
+fn modify_order_rest(f: &[u8]) -> usize
+    requires { ⌜ 40 ≤ length (now f) ⌝ }
+    ensures { λ r. ⌜ r ≡ modifyOrderRest (now (f .entry)) ⌝ }
+{
+    if !kinds::identifies(&f[20..40]) {
+        return 30;
     }
     0
 }
@@ -186,11 +209,14 @@ fn rejection_rest(f: &[u8]) -> usize
 }
 
 // The place in the message of the first field of a fixed part whose value is against its kind or range; 0 where there is none. More bytes may follow
-// the fixed part. Every type has an identifier, never blank; Cancel Order and Order Acknowledgment have nothing else to test.
+// the fixed part. Every type but Purge Orders has an identifier, never blank; Cancel Order and Order Acknowledgment have nothing else to test.
 pub fn fixed_wrong(message: u8, f: &[u8]) -> usize
     requires { ⌜ countAt message ≤ length (now f) + 10 ⌝ }
     ensures { λ r. ⌜ r ≡ fixedWrong message (now (f .entry)) ⌝ }
 {
+    if message == 0x47 {
+        return 0;
+    }
     let at = name_at(message);
     if !kinds::identifies(&f[at..at + 20]) {
         return 10 + at;
@@ -200,8 +226,144 @@ pub fn fixed_wrong(message: u8, f: &[u8]) -> usize
         0x39 => 0,
         0x25 => 0,
         0x2C => execution_rest(f),
+        0x3A => modify_order_rest(f),
         _ => rejection_rest(f),
     }
+}
+
+// The bytes between the bitfields and the optional fields: of Purge Orders RiskGroupIDCnt and its RiskGroupIDs, by the first byte of what follows the
+// bitfields; the other messages have none.
+pub fn middle_size(message: u8, count: u8, bits: &[u8], rest: &[u8]) -> usize
+    ensures { λ r. ⌜ (r ≡ middleSize message count (now (bits .entry)) (now (rest .entry))) × (r ≤ 511) ⌝ }
+{
+    if message == 0x47 {
+        let groups = numbers::byte_at(rest, 0);
+        return 1 + 2 * (groups as usize);
+    }
+    0
+}
+
+// Whether these bytes are good: at most 10 RiskGroupIDs.
+pub fn middle_good(message: u8, count: u8, bits: &[u8], rest: &[u8]) -> bool
+    ensures { λ r. ⌜ r ≡ middleGood message count (now (bits .entry)) (now (rest .entry)) ⌝ }
+{
+    if message == 0x47 {
+        return numbers::byte_at(rest, 0) <= 10;
+    }
+    true
+}
+
+// Whether a Modify Order lacks its Price: it is not selected, and OrdType has not the market value.
+fn modify_order_lacks(count: u8, bits: &[u8], slots: &[u8]) -> bool
+    requires { ⌜ (count ≤ length (now bits)) × (length (now slots) ≡ layoutSize) ⌝ }
+    ensures { λ r. ⌜ r ≡ modifyOrderLacks count (now (bits .entry)) (now (slots .entry)) ⌝ }
+{
+    if block::is_selected(bits, count, 3) {
+        return false;
+    }
+    slots[16] != b'1'
+}
+
+// Whether a Purge Orders whose MassCancelInst begins with F has no ClearingFirm.
+fn lacks_firm(count: u8, bits: &[u8], slots: &[u8]) -> bool
+    requires { ⌜ (count ≤ length (now bits)) × (length (now slots) ≡ layoutSize) ⌝ }
+    ensures { λ r. ⌜ r ≡ (eqb (getD (now (slots .entry)) 4 0) charF && not (selectedAt count (now (bits .entry)) 0)) ⌝ }
+{
+    if slots[4] != b'F' {
+        return false;
+    }
+    !block::is_selected(bits, count, 0)
+}
+
+// Whether the second character of MassCancelInst asks for one acknowledgment of all.
+fn asks_for_one(style: u8) -> bool
+    ensures { λ r. ⌜ r ≡ (eqb style charS || eqb style charB) ⌝ }
+{
+    if style == b'S' {
+        return true;
+    }
+    style == b'B'
+}
+
+// Whether a Purge Orders that asks for it has no MassCancelID.
+fn lacks_id(count: u8, bits: &[u8], slots: &[u8]) -> bool
+    requires { ⌜ (count ≤ length (now bits)) × (length (now slots) ≡ layoutSize) ⌝ }
+    ensures { λ r. ⌜ r ≡ ((eqb (getD (now (slots .entry)) 5 0) charS || eqb (getD (now (slots .entry)) 5 0) charB) && not (selectedAt count (now (bits .entry)) 4)) ⌝ }
+{
+    if !asks_for_one(slots[5]) {
+        return false;
+    }
+    !block::is_selected(bits, count, 4)
+}
+
+// Whether a field is not selected that the value of a selected one needs.
+fn is_lacking(message: u8, count: u8, bits: &[u8], slots: &[u8]) -> bool
+    requires { ⌜ (count ≤ length (now bits)) × (length (now slots) ≡ layoutSize) ⌝ }
+    ensures { λ r. ⌜ r ≡ lacks message count (now (bits .entry)) (now (slots .entry)) ⌝ }
+{
+    match message {
+        0x3A => modify_order_lacks(count, bits, slots),
+        0x47 => {
+            if lacks_firm(count, bits, slots) {
+                return true;
+            }
+            lacks_id(count, bits, slots)
+        }
+        _ => false,
+    }
+}
+
+// Whether the third character of MassCancelInst locks out without F as its first.
+fn locks_all(slots: &[u8]) -> bool
+    requires { ⌜ length (now slots) ≡ layoutSize ⌝ }
+    ensures { λ r. ⌜ r ≡ (eqb (getD (now (slots .entry)) 6 0) charL && not (eqb (getD (now (slots .entry)) 4 0) charF)) ⌝ }
+{
+    if slots[6] != b'L' {
+        return false;
+    }
+    slots[4] != b'F'
+}
+
+// Whether Symbol is selected together with a MatchingUnit other than 0.
+fn symbol_and_unit(count: u8, bits: &[u8], slots: &[u8]) -> bool
+    requires { ⌜ (count ≤ length (now bits)) × (length (now slots) ≡ layoutSize) ⌝ }
+    ensures { λ r. ⌜ r ≡ (selectedAt count (now (bits .entry)) 8 && (selectedAt count (now (bits .entry)) 15 && not (eqb (getD (now (slots .entry)) 56 0) 0))) ⌝ }
+{
+    if !block::is_selected(bits, count, 8) {
+        return false;
+    }
+    if !block::is_selected(bits, count, 15) {
+        return false;
+    }
+    slots[56] != 0
+}
+
+// Whether the fields of a Purge Orders do not go together.
+fn is_conflicting(message: u8, count: u8, bits: &[u8], slots: &[u8]) -> bool
+    requires { ⌜ (count ≤ length (now bits)) × (length (now slots) ≡ layoutSize) ⌝ }
+    ensures { λ r. ⌜ r ≡ conflicts message count (now (bits .entry)) (now (slots .entry)) ⌝ }
+{
+    if message != 0x47 {
+        return false;
+    }
+    if locks_all(slots) {
+        return true;
+    }
+    symbol_and_unit(count, bits, slots)
+}
+
+// What is judged after 10, by the values of selected fields: 9 for one that they need, at the last bitfield byte; 23 for those that do not go together.
+pub fn late_refusal(message: u8, count: u8, bits: &[u8], slots: &[u8]) -> u32
+    requires { ⌜ (count ≤ length (now bits)) × (length (now slots) ≡ layoutSize) ⌝ }
+    ensures { λ r. ⌜ r ≡ lateRefusal message count (now (bits .entry)) (now (slots .entry)) ⌝ }
+{
+    if is_lacking(message, count, bits, slots) {
+        return refusals::told(refusals::NOT_SELECTED, count_at(message) + (count as usize));
+    }
+    if is_conflicting(message, count, bits, slots) {
+        return refusals::CONFLICT;
+    }
+    0
 }
 
 // The blank record, with which a new one begins.

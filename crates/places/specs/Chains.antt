@@ -1,4 +1,5 @@
--- The refusals as numbers alone, as they were before they had places: document 01's orders. Definitions alone. Assumes nothing.
+-- The refusals as numbers alone, as they were before they had places: document 01's orders, with what document 02's first request adds to them.
+-- Definitions alone. Assumes nothing.
 use Prim.Native.Nat.{ℕ, _+_}
 use mathlib.Core.Bool.{cond, not, _&&_, _||_}
 use mathlib.Core.List.{List}
@@ -10,7 +11,9 @@ use Rattle.wire.specs.Frame.{frameRefusal, framed}
 use Rattle.block.specs.Slots.{takes, sum, anyBad, agreeSent, agreeHeld}
 use Rattle.block.specs.Places.{slotsOf, hasRequired}
 use Rattle.orders.specs.Shapes.{ofMember, sequenced, ofVenue, countAt, mostOf, unitGood, fixedGood}
-use Rattle.orders.specs.Orders.{countOf, bitsOf, fixedOf, optionalOf, writeSlots, zeroUnused, sizeOf}
+use Rattle.orders.specs.Middle.{middleSize, middleGood}
+use Rattle.orders.specs.Late.{lacks, conflicts}
+use Rattle.orders.specs.Orders.{countOf, bitsOf, restOf, optionalOf, fixedOf, layoutOf, writeSlots, writeRest, zeroUnused, sizeOf}
 use Rattle.orders.specs.declared.Record.{Record}
 use Rattle.order_records.specs.Records.{recordAt}
 use Rattle.session_messages.specs.Sessions as sessions
@@ -30,17 +33,29 @@ headNumber m =
 
 -- then 8; 9; 6 if the total differs; 10
 unfoldable pub blockNumber : ℕ → ℕ → List ℕ → List ℕ → List ℕ → ℕ
-blockNumber message count bits fixed optional =
+blockNumber message count bits fixed rest =
     cond (anyBad (slotsOf message count bits)) 8
     (cond (not (hasRequired message count bits)) 9
-    (cond (not (eqb (sum takes (slotsOf message count bits)) (length optional))) 6
-    (cond (not (fixedGood message fixed && agreeSent (slotsOf message count bits) optional)) 10
+    (cond (not (eqb (middleSize message count bits rest + sum takes (slotsOf message count bits)) (length rest))) 6
+    (cond (not (fixedGood message fixed && (middleGood message count bits rest && agreeSent (slotsOf message count bits) (drop (middleSize message count bits rest) rest)))) 10
     0)))
 
-unfoldable pub orderNumber : List ℕ → ℕ
-orderNumber m = cond (eqb (headNumber m) 0) (blockNumber (typeOf m) (countOf m) (bitsOf m) (fixedOf m) (optionalOf m)) (headNumber m)
+-- 02, request 1: then 9 again, by the values of selected fields; 23
+unfoldable pub lateNumber : ℕ → ℕ → List ℕ → List ℕ → ℕ
+lateNumber message count bits slots =
+    cond (lacks message count bits slots) 9
+    (cond (conflicts message count bits slots) 23
+    0)
 
--- writing: 4, 5, 7, 8, 9, 10, 12, 13
+unfoldable pub orderNumber : List ℕ → ℕ
+orderNumber m =
+    cond (eqb (headNumber m) 0)
+    (cond (eqb (blockNumber (typeOf m) (countOf m) (bitsOf m) (fixedOf m) (restOf m)) 0)
+    (lateNumber (typeOf m) (countOf m) (bitsOf m) (layoutOf (typeOf m) (countOf m) (bitsOf m) (optionalOf m)))
+    (blockNumber (typeOf m) (countOf m) (bitsOf m) (fixedOf m) (restOf m)))
+    (headNumber m)
+
+-- writing: 4, 5, 7, 8, 9, 10, 9 again, 23, 12, 13
 unfoldable pub orderWriteNumber : Record → ℕ → ℕ
 orderWriteNumber r room =
     cond (not (ofMember (r .message) || ofVenue (r .message))) 4
@@ -48,10 +63,12 @@ orderWriteNumber r room =
     (cond (ltb (mostOf (r .message)) (r .count)) 7
     (cond (anyBad (writeSlots r)) 8
     (cond (not (hasRequired (r .message) (r .count) (r .bits))) 9
-    (cond (not (fixedGood (r .message) (r .fixed) && agreeHeld (writeSlots r) (r .slots))) 10
+    (cond (not (fixedGood (r .message) (r .fixed) && (middleGood (r .message) (r .count) (r .bits) (writeRest r) && agreeHeld (writeSlots r) (r .slots)))) 10
+    (cond (lacks (r .message) (r .count) (r .bits) (r .slots)) 9
+    (cond (conflicts (r .message) (r .count) (r .bits) (r .slots)) 23
     (cond (not (zeroUnused r)) 12
     (cond (ltb room (sizeOf r)) 13
-    0)))))))
+    0)))))))))
 
 -- ---- session messages
 

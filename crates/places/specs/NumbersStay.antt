@@ -1,4 +1,5 @@
--- NUMBERS STAY: the numbers of refusal and their order are as they were before the places. Assumes nothing.
+-- NUMBERS STAY: the numbers of refusal and their order are as they were before the places, with what document 02's first request adds to them.
+-- Assumes nothing.
 use mathlib.Core.Path.{_≡_, refl, sym, _∙_}
 use mathlib.Core.Bool.{Bool, true, false, true≢false, cond, not, _&&_, _||_}
 use mathlib.Core.List.{List}
@@ -15,13 +16,15 @@ use Rattle.wire.specs.Frame.{startsBad, lengthBad, cutShort, frameRefusal, fram
 use Rattle.block.specs.Slots.{takes, sum, anyBad, agreeSent, agreeHeld}
 use Rattle.block.specs.Places.{slotsOf, hasRequired}
 use Rattle.orders.specs.Shapes.{ofMember, sequenced, ofVenue, countAt, mostOf, unitGood, fixedGood}
+use Rattle.orders.specs.Middle.{middleSize, middleGood}
+use Rattle.orders.specs.Late.{lacks, conflicts, lateRefusal}
 use Rattle.orders.specs.Orders as orders
 use Rattle.orders.specs.declared.Record.{Record}
 use Rattle.order_records.specs.Records.{recordAt}
 use Rattle.session_messages.specs.Sessions as sessions
 use Rattle.messages.specs.Messages.{isSession, carries, recordSizeOf, sessionAt, ownRefusal, readRefusal, readCall, ownWrite, writeCall}
 use Rattle.book.specs.Books.{messageRefusal}
-use Rattle.places.specs.Chains.{headNumber, blockNumber, orderNumber, orderWriteNumber, sessionNumber, sessionWriteNumber, readNumber, readCallNumber, writeCallNumber, bookNumber}
+use Rattle.places.specs.Chains.{headNumber, blockNumber, lateNumber, orderNumber, orderWriteNumber, sessionNumber, sessionWriteNumber, readNumber, readCallNumber, writeCallNumber, bookNumber}
 
 -- a refusal and the number that it was: its number is that one, and it is none where that is none
 pub record Was (refusal number : ℕ) : Type 0 where
@@ -50,11 +53,18 @@ then {h} {x} {h′} {x′} p q = by (eqb h 0) (eqb h′ 0) (p .none)
     by true false e = absurd (true≢false e)
     by false true e = absurd (true≢false (sym e))
 
--- 10 in two, which was one
-ten : (a b : Bool) (p q : ℕ) {x x′ : ℕ} → Was x x′ → Was (cond (not a) (told 10 p) (cond (not b) (told 10 q) x)) (cond (not (a && b)) 10 x′)
-ten true true p q w = w
-ten true false p q w = placed 10 q (omega arith) (omega arith)
-ten false b p q w = placed 10 p (omega arith) (omega arith)
+-- 10 in three, which is one
+ten : (a b c : Bool) (p q s : ℕ) {x x′ : ℕ} → Was x x′ → Was (cond (not a) (told 10 p) (cond (not b) (told 10 q) (cond (not c) (told 10 s) x))) (cond (not (a && (b && c))) 10 x′)
+ten true true true p q s w = w
+ten true true false p q s w = placed 10 s (omega arith) (omega arith)
+ten true false c p q s w = placed 10 q (omega arith) (omega arith)
+ten false b c p q s w = placed 10 p (omega arith) (omega arith)
+
+-- the late stage of writing, before others
+late : (a b : Bool) (p : ℕ) {x x′ : ℕ} → Was x x′ → Was (cond (not (eqb (cond a (told 9 p) (cond b 23 0)) 0)) (cond a (told 9 p) (cond b 23 0)) x) (cond a 9 (cond b 23 x′))
+late true b p w = rw (told-refuses 9 p (omega arith)) (placed 9 p (omega arith) (omega arith))
+late false true p w = alone 23 (omega arith)
+late false false p w = w
 
 -- ---- messages with bitfields
 
@@ -67,29 +77,39 @@ head-was m =
     (either (ltb (mostOf (typeOf m)) (orders.countOf m)) (placed 7 _ (omega arith) (omega arith))
     (either (ltb (length m) (countAt (typeOf m) + 1 + orders.countOf m)) (placed 6 _ (omega arith) (omega arith)) (alone 0 (omega arith))))))
 
-block-was : (total message count : ℕ) (bits fixed optional : List ℕ) → Was (orders.blockRefusal total message count bits fixed optional) (blockNumber message count bits fixed optional)
+block-was : (total message count : ℕ) (bits fixed rest : List ℕ) → Was (orders.blockRefusal total message count bits fixed rest) (blockNumber message count bits fixed rest)
 unfolding orders.blockRefusal blockNumber
-block-was total message count bits fixed optional =
+block-was total message count bits fixed rest =
     either (anyBad (slotsOf message count bits)) (placed 8 _ (omega arith) (omega arith))
     (either (not (hasRequired message count bits)) (placed 9 _ (omega arith) (omega arith))
-    (either (not (eqb (sum takes (slotsOf message count bits)) (length optional))) (placed 6 _ (omega arith) (omega arith))
-    (ten (fixedGood message fixed) (agreeSent (slotsOf message count bits) optional) _ _ (alone 0 (omega arith)))))
+    (either (not (eqb (middleSize message count bits rest + sum takes (slotsOf message count bits)) (length rest))) (placed 6 _ (omega arith) (omega arith))
+    (ten (fixedGood message fixed) (middleGood message count bits rest) (agreeSent (slotsOf message count bits) (drop (middleSize message count bits rest) rest)) _ _ _ (alone 0 (omega arith)))))
+
+late-was : (message count : ℕ) (bits slots : List ℕ) → Was (lateRefusal message count bits slots) (lateNumber message count bits slots)
+unfolding lateRefusal lateNumber
+late-was message count bits slots =
+    either (lacks message count bits slots) (placed 9 _ (omega arith) (omega arith))
+    (either (conflicts message count bits slots) (alone 23 (omega arith)) (alone 0 (omega arith)))
 
 order-was : (m : List ℕ) → Was (orders.readRefusal m) (orderNumber m)
-unfolding orders.readRefusal orderNumber
-order-was m = then (head-was m) (block-was _ (typeOf m) (orders.countOf m) (orders.bitsOf m) (orders.fixedOf m) (orders.optionalOf m))
+unfolding orders.readRefusal orders.bodyRefusal orders.optionalOf orderNumber
+order-was m =
+    then (head-was m)
+    (then (block-was _ (typeOf m) (orders.countOf m) (orders.bitsOf m) (orders.fixedOf m) (orders.restOf m))
+    (late-was (typeOf m) (orders.countOf m) (orders.bitsOf m) (orders.layoutOf (typeOf m) (orders.countOf m) (orders.bitsOf m) (orders.optionalOf m))))
 
 order-write-was : (r : Record) (room : ℕ) → Was (orders.writeRefusal r room) (orderWriteNumber r room)
-unfolding orders.writeRefusal orderWriteNumber
+unfolding orders.writeRefusal orderWriteNumber lateRefusal
 order-write-was r room =
     either (not (ofMember (r .message) || ofVenue (r .message))) (alone 4 (omega arith))
     (either (not (unitGood (r .message) (r .unit) (r .number))) (alone 5 (omega arith))
     (either (ltb (mostOf (r .message)) (r .count)) (placed 7 _ (omega arith) (omega arith))
     (either (anyBad (orders.writeSlots r)) (placed 8 _ (omega arith) (omega arith))
     (either (not (hasRequired (r .message) (r .count) (r .bits))) (placed 9 _ (omega arith) (omega arith))
-    (ten (fixedGood (r .message) (r .fixed)) (agreeHeld (orders.writeSlots r) (r .slots)) _ _
+    (ten (fixedGood (r .message) (r .fixed)) (middleGood (r .message) (r .count) (r .bits) (orders.writeRest r)) (agreeHeld (orders.writeSlots r) (r .slots)) _ _ _
+    (late (lacks (r .message) (r .count) (r .bits) (r .slots)) (conflicts (r .message) (r .count) (r .bits) (r .slots)) _
     (either (not (orders.zeroUnused r)) (alone 12 (omega arith))
-    (either (ltb room (orders.sizeOf r)) (alone 13 (omega arith)) (alone 0 (omega arith)))))))))
+    (either (ltb room (orders.sizeOf r)) (alone 13 (omega arith)) (alone 0 (omega arith))))))))))
 
 -- ---- session messages
 

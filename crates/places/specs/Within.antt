@@ -8,9 +8,9 @@ use native.Mathlib.Omega.{arith}
 use lib.Dec.{eqb, ltb}
 use lib.ListN.{length, drop}
 use borrow.Author.Tests.{ltb-true, eqb-true}
-use Rattle.refusals.specs.Names.{unknownType, badUnit, tooManyBitfields, unlistedBit, notSelected, badValue, badGroup, notZero, noRoom}
+use Rattle.refusals.specs.Names.{unknownType, badUnit, tooManyBitfields, unlistedBit, notSelected, badValue, badGroup, notZero, noRoom, conflict}
 use Rattle.refusals.specs.Told.{told, numberIn, placeIn}
-use Rattle.refusals.specs.ToldLaws.{number-of-told, place-of-told, number-alone, no-place}
+use Rattle.refusals.specs.ToldLaws.{number-of-told, place-of-told, number-alone, no-place, told-refuses}
 use Rattle.kinds.specs.Kinds.{allNul}
 use Rattle.wire.specs.Header.{typeOf, totalOf}
 use Rattle.wire.specs.Frame.{startsBad, lengthBad, cutShort, frameRefusal, framed}
@@ -24,6 +24,8 @@ use Rattle.block.specs.FirstBad.{eight-names-the-first-bad-byte, held-within}
 use Rattle.orders.specs.Shapes.{ofMember, sequenced, ofVenue, countAt, mostOf, unitGood, fixedGood}
 use Rattle.orders.specs.FixedFields.{fixedWrong}
 use Rattle.orders.specs.FixedFieldLaws.{fixed-within}
+use Rattle.orders.specs.Middle.{middleGood}
+use Rattle.orders.specs.Late.{lacks, conflicts, lateRefusal}
 use Rattle.orders.specs.OrderLaws.{count-bounds}
 use Rattle.orders.specs.Orders as orders
 use Rattle.orders.specs.declared.Record.{Record}
@@ -75,13 +77,16 @@ module _ (m : List ℕ) (exact : length m ≡ totalOf m) (long : 10 ≤ length m
   order-placed r (reading.eight h byte b) =
       let l = selected-there (orders.countOf m) (orders.bitsOf m) (b .place) (b .set) in
       with-place (length m) 8 (countAt (typeOf m) + byte) (omega arith) (omega arith) (omega (arith, count-bounds (typeOf m) .low)) (omega (arith, h, l, b .told))
-  order-placed r (reading.nine h) = with-place (length m) 9 (countAt (typeOf m) + orders.countOf m) (omega arith) (omega arith) (omega (arith, count-bounds (typeOf m) .low)) (omega (arith, h))
+  order-placed r (reading.nine h k) = with-place (length m) 9 (countAt (typeOf m) + orders.countOf m) (omega arith) (omega arith) (omega (arith, count-bounds (typeOf m) .low)) (omega (arith, h))
   order-placed r (reading.ten-fixed h place f l k) = with-place (length m) 10 place (omega arith) (omega arith) l (omega (arith, h, k))
+  order-placed r (reading.ten-middle h place n) = with-place (length m) 10 place (omega arith) (omega arith) (omega (arith, n .there, count-bounds (typeOf m) .low)) (omega (arith, h, n .there))
   order-placed r (reading.ten-optional h place n) =
       let ss = slotsOf (typeOf m) (orders.countOf m) (orders.bitsOf m) in
       let s : sum takes ss ≡ sum takes (n .field .earlier) + sum takes (slot true (Field (n .field .wide) (n .field .kind) (n .field .home)) ∷ n .field .later) =
       ap (sum takes) (n .field .split) ∙ sum-append takes (n .field .earlier) (slot true (Field (n .field .wide) (n .field .kind) (n .field .home)) ∷ n .field .later) in
       with-place (length m) 10 place (omega arith) (omega arith) (omega (arith, n .there, count-bounds (typeOf m) .low)) (omega (arith, h, n .there, s))
+  order-placed r (reading.nine-late g h) = with-place (length m) 9 (countAt (typeOf m) + orders.countOf m) (omega arith) (omega arith) (omega (arith, count-bounds (typeOf m) .low)) (omega (arith, g .total))
+  order-placed r (reading.twenty-three g h k) = bare (length m) 23 (omega arith) (inr (omega arith))
 
   session-placed : (r : ℕ) → reading.SessionTells m r → Placed (length m) r
   session-placed r (reading.SessionTells.placeless n h) = bare (length m) n (omega (arith, h)) (inl h)
@@ -141,34 +146,53 @@ booked-within s = by (eqb (frameRefusal s) 0) refl (sequenced (typeOf (framed s)
 
 -- ---- whatever the record: of what writing answers, in the message that would be written
 
+-- the late 9 and 23, before others
+late-placed : (size place : ℕ) (a b : Bool) {x : ℕ} → 10 ≤ place → place ≤ size → Placed size x → Placed size (cond (not (eqb (cond a (told notSelected place) (cond b conflict 0)) 0)) (cond a (told notSelected place) (cond b conflict 0)) x)
+late-placed size place true b l m h = rw (told-refuses notSelected place (omega arith)) (with-place size 9 place (omega arith) (omega arith) l m)
+late-placed size place false true l m h = bare size 23 (omega arith) (inr (omega arith))
+late-placed size place false false l m h = h
+
 pub order-written-within : (r : Record) (room : ℕ) → Placed (orders.sizeOf r) (orders.writeRefusal r room)
-unfolding orders.writeRefusal orders.sizeOf orders.writeSlots
+unfolding orders.writeRefusal orders.sizeOf orders.writeSlots lateRefusal
 order-written-within r room =
     by (ofMember (r .message) || ofVenue (r .message)) (unitGood (r .message) (r .unit) (r .number)) (ltb (mostOf (r .message)) (r .count)) (anyBad (orders.writeSlots r)) (hasRequired (r .message) (r .count) (r .bits))
-    (fixedGood (r .message) (r .fixed)) (agreeHeld (orders.writeSlots r) (r .slots)) (orders.zeroUnused r) (ltb room (orders.sizeOf r)) refl refl
+    (fixedGood (r .message) (r .fixed)) (middleGood (r .message) (r .count) (r .bits) (orders.writeRest r)) (agreeHeld (orders.writeSlots r) (r .slots)) refl refl late
   where
     low : 10 ≤ countAt (r .message)
     low = omega (arith, count-bounds (r .message) .low)
 
-    by : (a b c d e f g h i : Bool) → anyBad (orders.writeSlots r) ≡ d → fixedGood (r .message) (r .fixed) ≡ f
+    -- 12, 13
+    unused : Placed (orders.sizeOf r) (cond (not (orders.zeroUnused r)) notZero (cond (ltb room (orders.sizeOf r)) noRoom 0))
+    unused = go (orders.zeroUnused r) (ltb room (orders.sizeOf r))
+      where
+        go : (i j : Bool) → Placed (orders.sizeOf r) (cond (not i) notZero (cond j noRoom 0))
+        go false j = bare (orders.sizeOf r) 12 (omega arith) (inr (omega arith))
+        go true true = bare (orders.sizeOf r) 13 (omega arith) (inr (omega arith))
+        go true false = bare (orders.sizeOf r) 0 (omega arith) (inl (omega arith))
+
+    -- the late 9, 23, and these
+    late : Placed (orders.sizeOf r) (cond (not (eqb (lateRefusal (r .message) (r .count) (r .bits) (r .slots)) 0)) (lateRefusal (r .message) (r .count) (r .bits) (r .slots)) (cond (not (orders.zeroUnused r)) notZero (cond (ltb room (orders.sizeOf r)) noRoom 0)))
+    late = late-placed (orders.sizeOf r) (countAt (r .message) + r .count) (lacks (r .message) (r .count) (r .bits) (r .slots)) (conflicts (r .message) (r .count) (r .bits) (r .slots)) (omega (arith, low)) (omega arith) unused
+
+    by : (a b c d e f g h : Bool) {x : ℕ} → anyBad (orders.writeSlots r) ≡ d → fixedGood (r .message) (r .fixed) ≡ f → Placed (orders.sizeOf r) x
         → Placed (orders.sizeOf r) (cond (not a) unknownType (cond (not b) badUnit (cond c (told tooManyBitfields (countAt (r .message))) (cond d (told unlistedBit (countAt (r .message) + badByte 0 (orders.writeSlots r)))
-        (cond (not e) (told notSelected (countAt (r .message) + r .count)) (cond (not f) (told badValue (fixedWrong (r .message) (r .fixed)))
-        (cond (not g) (told badValue (countAt (r .message) + r .count + wrongHeld 0 (orders.writeSlots r) (r .slots))) (cond (not h) notZero (cond i noRoom 0)))))))))
-    by false b c d e f g h i p q = bare (orders.sizeOf r) 4 (omega arith) (inl (omega arith))
-    by true false c d e f g h i p q = bare (orders.sizeOf r) 5 (omega arith) (inl (omega arith))
-    by true true true d e f g h i p q = with-place (orders.sizeOf r) 7 (countAt (r .message)) (omega arith) (omega arith) low (omega arith)
-    by true true false true e f g h i p q =
+        (cond (not e) (told notSelected (countAt (r .message) + r .count)) (cond (not f) (told badValue (fixedWrong (r .message) (r .fixed))) (cond (not g) (told badValue (countAt (r .message) + r .count + 1))
+        (cond (not h) (told badValue (countAt (r .message) + r .count + orders.writeMiddle r + wrongHeld 0 (orders.writeSlots r) (r .slots)))
+        x))))))))
+    by false b c d e f g h p q l = bare (orders.sizeOf r) 4 (omega arith) (inl (omega arith))
+    by true false c d e f g h p q l = bare (orders.sizeOf r) 5 (omega arith) (inl (omega arith))
+    by true true true d e f g h p q l = with-place (orders.sizeOf r) 7 (countAt (r .message)) (omega arith) (omega arith) low (omega arith)
+    by true true false true e f g h p q l =
         let b = eight-names-the-first-bad-byte (selectedAt (r .count) (r .bits)) (entryAt (r .message)) allPlaces 0 p in
-        let l = selected-there (r .count) (r .bits) (b .place) (b .set) in
-        with-place (orders.sizeOf r) 8 (countAt (r .message) + badByte 0 (orders.writeSlots r)) (omega arith) (omega arith) (omega (arith, low)) (omega (arith, l, b .told))
-    by true true false false false f g h i p q = with-place (orders.sizeOf r) 9 (countAt (r .message) + r .count) (omega arith) (omega arith) (omega (arith, low)) (omega arith)
-    by true true false false true false g h i p q =
+        let k = selected-there (r .count) (r .bits) (b .place) (b .set) in
+        with-place (orders.sizeOf r) 8 (countAt (r .message) + badByte 0 (orders.writeSlots r)) (omega arith) (omega arith) (omega (arith, low)) (omega (arith, k, b .told))
+    by true true false false false f g h p q l = with-place (orders.sizeOf r) 9 (countAt (r .message) + r .count) (omega arith) (omega arith) (omega (arith, low)) (omega arith)
+    by true true false false true false g h p q l =
         with-place (orders.sizeOf r) 10 (fixedWrong (r .message) (r .fixed)) (omega arith) (omega arith) (reading.fixed-from (r .message) (r .fixed) q) (omega (arith, fixed-within (r .message) (r .fixed)))
-    by true true false false true true false h i p q =
-        with-place (orders.sizeOf r) 10 (countAt (r .message) + r .count + wrongHeld 0 (orders.writeSlots r) (r .slots)) (omega arith) (omega arith) (omega (arith, low)) (omega (arith, held-within 0 (orders.writeSlots r) (r .slots)))
-    by true true false false true true true false i p q = bare (orders.sizeOf r) 12 (omega arith) (inr (omega arith))
-    by true true false false true true true true true p q = bare (orders.sizeOf r) 13 (omega arith) (inr (omega arith))
-    by true true false false true true true true false p q = bare (orders.sizeOf r) 0 (omega arith) (inl (omega arith))
+    by true true false false true true false h p q l = with-place (orders.sizeOf r) 10 (countAt (r .message) + r .count + 1) (omega arith) (omega arith) (omega (arith, low)) (omega arith)
+    by true true false false true true true false p q l =
+        with-place (orders.sizeOf r) 10 (countAt (r .message) + r .count + orders.writeMiddle r + wrongHeld 0 (orders.writeSlots r) (r .slots)) (omega arith) (omega arith) (omega (arith, low)) (omega (arith, held-within 0 (orders.writeSlots r) (r .slots)))
+    by true true false false true true true true p q l = l
 
 -- a session message's fixed part holds every place that is told
 pub session-written-within : (message unit number : ℕ) (b : List ℕ) (room : ℕ) → Placed (10 + sessions.fixedSize message) (sessions.writeRefusal message unit number b room)

@@ -17,6 +17,8 @@ use Rattle.dictionary.specs.Dictionary as dictionary
 use Rattle.block.specs.Slots.{zeros, Slot, takes, width, sum}
 use Rattle.block.specs.Places.{selectedAt, entryAt, slotsFrom, slotsOf, hasRequired}
 use Rattle.orders.specs.Shapes.{countAt, mostOf, unitGood, fixedGood}
+use Rattle.orders.specs.Middle as middles
+use Rattle.orders.specs.Late as lates
 use Rattle.orders.specs.Orders as orders
 use Rattle.session_groups.specs.Groups as groups
 use Rattle.session_messages.specs.Sessions as sessions
@@ -155,5 +157,5 @@ examples =
 
 -- every example is answered as document 01 states it
 pub examples-hold : map (λ (e : Example). e .answered) examples ≡ map (λ (e : Example). e .stated) examples
-unfolding lengthOf totalOf notBA startsBad lengthBad cutShort frameRefusal unitRefusal entryRefusal entryOf stepRefusal stepOf elapsedOf heartbeatDue framed carries readRefusal orders.readRefusal orders.headRefusal orders.blockRefusal orders.bitsOf orders.optionalOf orders.fixedOf orders.layoutOf orders.recordOf numberOf countAt mostOf unitGood fixedGood selectedAt entryAt dictionary.entryOf slotsFrom hasRequired ownRefusal recordOf sessionRecordBytes sessions.readRefusal sessions.fixedSize sessions.valuesGood sessions.flagGood sessions.listsEnd sessions.bodyEnd sessions.bodyOf groups.unitsFrom groups.pairsGood groups.bitsGood groups.groupKey groups.groupSize groups.nextSize groups.groupsFrom
+unfolding lengthOf totalOf notBA startsBad lengthBad cutShort frameRefusal unitRefusal entryRefusal entryOf stepRefusal stepOf elapsedOf heartbeatDue framed carries readRefusal orders.readRefusal orders.headRefusal orders.blockRefusal orders.bodyRefusal orders.restOf middles.middleSize middles.middleGood lates.lacks lates.conflicts lates.lateRefusal orders.bitsOf orders.optionalOf orders.fixedOf orders.layoutOf orders.recordOf numberOf countAt mostOf unitGood fixedGood selectedAt entryAt dictionary.entryOf slotsFrom hasRequired ownRefusal recordOf sessionRecordBytes sessions.readRefusal sessions.fixedSize sessions.valuesGood sessions.flagGood sessions.listsEnd sessions.bodyEnd sessions.bodyOf groups.unitsFrom groups.pairsGood groups.bitsGood groups.groupKey groups.groupSize groups.nextSize groups.groupsFrom
 examples-hold = refl

@@ -1,3 +1,4 @@
 pub mod Examples
 pub mod Places
 pub mod Rejections
+pub mod Modifies

@@ -12,6 +12,8 @@ use Rattle.block.specs.Slots.{zeros}
 use Rattle.block.specs.Places.{selectedAt, entryAt, slotsFrom, hasRequired}
 use Rattle.orders.specs.Shapes.{countAt, mostOf, unitGood, fixedGood}
 use Rattle.orders.specs.FixedFields.{fixedFields, fixedWrong}
+use Rattle.orders.specs.Middle as middles
+use Rattle.orders.specs.Late as lates
 use Rattle.orders.specs.Orders as orders
 use Rattle.order_records.specs.Records.{recordBytes, recordAt}
 use Rattle.session_groups.specs.Groups as groups
@@ -94,5 +96,5 @@ places =
 
 -- every refusal is told with its place
 pub places-hold : map (λ (e : Example). e .answered) places ≡ map (λ (e : Example). e .stated) places
-unfolding patched lengthOf totalOf numberOf notBA startsBad lengthBad cutShort frameRefusal framed carries readRefusal ownRefusal recordOf recordSizeOf ownWrite writeCall sessionRecordBytes recordBytes recordAt orders.readRefusal orders.headRefusal orders.blockRefusal orders.bitsOf orders.optionalOf orders.fixedOf orders.layoutOf orders.recordOf orders.writeSlots orders.zeroUnused orders.sizeOf orders.writeRefusal countAt mostOf unitGood fixedGood fixedFields fixedWrong selectedAt entryAt dictionary.entryOf slotsFrom hasRequired sessions.readRefusal sessions.fixedSize sessions.valuesGood valueFields valuesWrong sessions.flagGood sessions.listsEnd sessions.bodyEnd groups.unitsFrom groups.pairsGood groups.bitsGood groups.groupKey groups.groupSize groups.nextSize groups.groupsFrom
+unfolding patched lengthOf totalOf numberOf notBA startsBad lengthBad cutShort frameRefusal framed carries readRefusal ownRefusal recordOf recordSizeOf ownWrite writeCall sessionRecordBytes recordBytes recordAt orders.readRefusal orders.headRefusal orders.blockRefusal orders.bodyRefusal orders.restOf middles.middleSize middles.middleGood lates.lacks lates.conflicts lates.lateRefusal orders.bitsOf orders.optionalOf orders.fixedOf orders.layoutOf orders.recordOf orders.writeSlots orders.writeRest orders.zeroUnused orders.sizeOf orders.writeRefusal countAt mostOf unitGood fixedGood fixedFields fixedWrong selectedAt entryAt dictionary.entryOf slotsFrom hasRequired sessions.readRefusal sessions.fixedSize sessions.valuesGood valueFields valuesWrong sessions.flagGood sessions.listsEnd sessions.bodyEnd groups.unitsFrom groups.pairsGood groups.bitsGood groups.groupKey groups.groupSize groups.nextSize groups.groupsFrom
 places-hold = refl

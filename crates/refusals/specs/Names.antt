@@ -1,4 +1,4 @@
--- The numbers of refusal, each with its name: document 01's table, in its order. 0 is no refusal.
+-- The numbers of refusal, each with its name: document 01's table, in its order, and after it document 02's. 0 is no refusal.
 -- Definitions alone. Assumes nothing.
 use Prim.Native.Nat.{ℕ}
 
@@ -89,3 +89,7 @@ oldNumber = 21
 -- restart on a book under 16 bytes
 abbrev pub noFirstMark : ℕ
 noFirstMark = 22
+
+-- 02, request 1: L without F, or Symbol together with a MatchingUnit other than 0
+abbrev pub conflict : ℕ
+conflict = 23

@@ -1,4 +1,4 @@
-// The numbers of refusal, each with its name: document 01's table, in its order. 0 is no refusal. And a refusal with the byte place that it is about,
+// The numbers of refusal, each with its name: document 01's table, in its order, and after it document 02's. 0 is no refusal. And a refusal with the byte place that it is about,
 // which document 02's third request asks of 6 to 10.
 ghost use mathlib.Core.Path.{_≡_};
 ghost use Prim.Native.Nat.{_<_};
@@ -48,6 +48,8 @@ pub const NUMBERS_USED_UP: u32 = 20;
 pub const OLD_NUMBER: u32 = 21;
 // Restart on a book under 16 bytes.
 pub const NO_FIRST_MARK: u32 = 22;
+// A lockout without its firm, or a symbol together with a matching unit: document 02's first request.
+pub const CONFLICT: u32 = 23;
 
 // A refusal and its place in one number: the number in the low byte, the place above it.
 pub fn told(number: u32, place: usize) -> u32

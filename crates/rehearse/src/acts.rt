@@ -215,10 +215,11 @@ pub fn full_replay(b: Bench, book: &mut Room, log: &mut Room) -> Bench {
     bench::delivers(three, log, book)
 }
 
-// Live: what was logged meanwhile, orders whose numbers go on from the last that the venue received, and a cancel that is rejected.
+// Live: what was logged meanwhile, orders whose numbers go on from the last that the venue received, a price that is changed, and a cancel that is
+// rejected.
 pub fn live(b: Bench, book: &mut Room, log: &mut Room) -> Bench {
     say::title(
-        b"8. Live: what was logged after the login follows, our orders go on, and a cancel is rejected",
+        b"8. Live: what was logged after the login follows, our orders go on, a price is changed, and a cancel is rejected",
     );
     let caught_up = bench::delivers(b, log, book);
     let idle = bench::delivers(caught_up, log, book);
@@ -226,10 +227,19 @@ pub fn live(b: Bench, book: &mut Room, log: &mut Room) -> Bench {
     let ordered = orders_out::sends(bench::later(idle, 500), jkl);
     let known = acknowledges(ordered, 1, b"JKL012", JKL, log);
     let told = bench::delivers(known, log, book);
-    let cancels = orders_out::sends(bench::later(told, 500), written::cancel(b"JKL012"));
+    let modified = reprices(bench::later(told, 500));
+    let cancels = orders_out::sends(bench::later(modified, 500), written::cancel(b"JKL013"));
     let mut bytes = [0u8; 200];
-    written::cancel_rejected(b"JKL012", b'J', b"TOO LATE", &mut bytes);
+    written::cancel_rejected(b"JKL013", b'J', b"TOO LATE", &mut bytes);
     bench::rejects(bench::later(cancels, 10), &bytes, book)
+}
+
+// The desk changes a price; and asks for a change without one, which the session does not take.
+fn reprices(b: Bench) -> Bench {
+    let dearer = written::modify(b"JKL013", b"JKL012", 300, JKL + 500);
+    let modified = orders_out::sends(b, dearer);
+    let unpriced = written::unpriced(b"JKL014", b"JKL013", 200);
+    orders_out::sends(bench::later(modified, 100), unpriced)
 }
 
 // Messages out of order: a gap, and a repeat.

@@ -170,6 +170,7 @@ fn later_meaning(n: u32) {
         20 => writing::text(b"the order numbers are used up"),
         21 => writing::text(b"an order's number at or below the last one"),
         22 => writing::text(b"the book has no first mark"),
+        23 => writing::text(b"fields that do not go together"),
         _ => writing::text(b"no such number"),
     }
 }

@@ -128,6 +128,27 @@ fn new_order(r: Record) {
     writing::price(price.value);
 }
 
+// What a Modify Order says.
+fn modify(r: Record) {
+    writing::text(b"Modify Order of ");
+    let orig = order_fields::modify_order::orig_cl_ord_id(r);
+    let old = orig.bytes;
+    say::name(&old);
+    let id = order_fields::modify_order::cl_ord_id(r);
+    let bytes = id.bytes;
+    writing::text(b" as ");
+    say::name(&bytes);
+    let quantity = order_fields::modify_order::order_qty(r);
+    say::count(b": ", quantity.value as u64, b"");
+    let price = order_fields::modify_order::price(r);
+    if price.selected {
+        writing::text(b" at ");
+        writing::price(price.value);
+    } else {
+        writing::text(b" without a price");
+    }
+}
+
 // What a Cancel Order says.
 fn cancel(r: Record) {
     writing::text(b"Cancel Order of ");
@@ -138,10 +159,11 @@ fn cancel(r: Record) {
 
 // An order of ours, by its record.
 pub fn order(r: Record) {
-    if r.message == 0x38 {
-        new_order(r);
-    } else {
-        cancel(r);
+    let message = r.message;
+    match message {
+        0x38 => new_order(r),
+        0x3A => modify(r),
+        _ => cancel(r),
     }
 }
 

@@ -108,6 +108,26 @@ pub fn new_order(id: &[u8], side: u8, quantity: u32, price: i64) -> Record {
     order_fields::new_order::with_capacity(listed, [b'A'])
 }
 
+// A Modify Order's record with all but a price: the order gets a new identifier and this quantity.
+fn modified(id: &[u8], orig: &[u8], quantity: u32) -> Record {
+    let r = started(0x3A, 0, 0);
+    let named = order_fields::modify_order::with_cl_ord_id(r, identifier(id));
+    let meant = order_fields::modify_order::with_orig_cl_ord_id(named, identifier(orig));
+    order_fields::modify_order::with_order_qty(meant, quantity)
+}
+
+// A Modify Order's record: the order gets a new identifier, this quantity and this price.
+pub fn modify(id: &[u8], orig: &[u8], quantity: u32, price: i64) -> Record {
+    let sized = modified(id, orig, quantity);
+    order_fields::modify_order::with_price(sized, price)
+}
+
+// The same without a price, for a limit order, which needs one.
+pub fn unpriced(id: &[u8], orig: &[u8], quantity: u32) -> Record {
+    let sized = modified(id, orig, quantity);
+    order_fields::modify_order::with_ord_type(sized, [b'2'])
+}
+
 // A Cancel Order's record.
 pub fn cancel(id: &[u8]) -> Record {
     let r = started(0x39, 0, 0);

@@ -273,6 +273,7 @@ fn of_kind(letter: u8, s: &[u8], never_blank: bool) -> bool {
         b'I' => agreed(Kind::Identifier, s, never_blank),
         b'B' => agreed(Kind::Binary, s, never_blank),
         b'P' => agreed(Kind::Price, s, never_blank),
+        b'F' => agreed(Kind::FilledText, s, never_blank),
         _ => return false,
     }
     true
@@ -398,18 +399,10 @@ fn read_by(direction: u8, s: &[u8]) {
     let refusal = gateway::boe_read(direction, s, &mut out);
     if refusal != 0 {
         writing::refusal(refusal);
-    } else if is_order(out[0]) {
+    } else if orders::is_known(out[0]) {
         refused(0, &out[0..block::RECORD]);
     } else {
         refused(0, &out);
-    }
-}
-
-// Whether a type is an order message's, whose record is the first `block::RECORD` bytes.
-fn is_order(message: u8) -> bool {
-    match message {
-        0x38 | 0x39 | 0x25 | 0x2C | 0x26 | 0x29 | 0x2B => true,
-        _ => false,
     }
 }
 

@@ -12,6 +12,8 @@ use lib.ListN.{replicate}
 use Rattle.block.specs.Slots.{zeros}
 use Rattle.block.specs.Places.{selectedAt, entryAt, slotsFrom, hasRequired}
 use Rattle.orders.specs.Shapes.{countAt, mostOf, unitGood, fixedGood}
+use Rattle.orders.specs.Middle as middles
+use Rattle.orders.specs.Late as lates
 use Rattle.orders.specs.Orders as orders
 use Rattle.session_groups.specs.Groups as groups
 use Rattle.session_messages.specs.Sessions as logins
@@ -46,7 +48,7 @@ later = adds 200 (msg 2 2) (stepTo 2048 (stepTo 2048 day))
 -- room nothing is
 pub a-day : (stepSends 2048 day ∷ stepSends 2048 (stepTo 2048 day) ∷ stepSends 2048 (stepTo 2048 (stepTo 2048 day)) ∷ stepSends 2048 later ∷ stepSends 47 day ∷ [])
     ≡ (msg 1 2 ∷ []) ∷ (completeBytes ∷ []) ∷ [] ∷ (msg 2 2 ∷ []) ∷ [] ∷ []
-unfolding patched lengthOf totalOf numberOf notBA startsBad lengthBad cutShort frameRefusal framed unitRefusal entryRefusal entryOf raisedTable stepRefusal dictionary.entryOf selectedAt entryAt slotsFrom hasRequired countAt mostOf unitGood fixedGood orders.readRefusal orders.headRefusal orders.blockRefusal orders.bitsOf orders.optionalOf orders.fixedOf groups.unitsFrom groups.pairsGood groups.bitsGood groups.groupKey groups.groupSize groups.nextSize groups.groupsFrom logins.readRefusal logins.fixedSize logins.valuesGood logins.flagGood logins.responseEnd logins.listsEnd logins.bodyEnd logins.bodyOf logins.writeRefusal choiceOf unitsPart bitsPart groupCount loginRecord groupFrom requestGroup groupFlag listedFrom groupListed roomless messageRefusal nextRefusal appendRefusal appendedBy appendOf appendBuffer logOf logBuffer sendOf sendOut loginReadRefusal thresholdOf thresholdsOf responseRecord loginRefusal loginOf passing seek placeOf tellsAt bytesAt afterAt stepOf stepOut
+unfolding patched lengthOf totalOf numberOf notBA startsBad lengthBad cutShort frameRefusal framed unitRefusal entryRefusal entryOf raisedTable stepRefusal dictionary.entryOf selectedAt entryAt slotsFrom hasRequired countAt mostOf unitGood fixedGood orders.readRefusal orders.headRefusal orders.blockRefusal orders.bodyRefusal orders.restOf middles.middleSize middles.middleGood lates.lacks lates.conflicts lates.lateRefusal orders.bitsOf orders.optionalOf orders.fixedOf groups.unitsFrom groups.pairsGood groups.bitsGood groups.groupKey groups.groupSize groups.nextSize groups.groupsFrom logins.readRefusal logins.fixedSize logins.valuesGood logins.flagGood logins.responseEnd logins.listsEnd logins.bodyEnd logins.bodyOf logins.writeRefusal choiceOf unitsPart bitsPart groupCount loginRecord groupFrom requestGroup groupFlag listedFrom groupListed roomless messageRefusal nextRefusal appendRefusal appendedBy appendOf appendBuffer logOf logBuffer sendOf sendOut loginReadRefusal thresholdOf thresholdsOf responseRecord loginRefusal loginOf passing seek placeOf tellsAt bytesAt afterAt stepOf stepOut
 a-day = refl
 
 -- and what the login brings, as one list: of the log's three messages the second of unit 1, Replay Complete, the later message

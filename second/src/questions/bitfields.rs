@@ -2,6 +2,7 @@
 
 mod damage;
 mod faults;
+pub mod late;
 pub mod places;
 mod read;
 pub mod sample;

@@ -23,7 +23,7 @@ type Seen = BTreeMap<(u8, u8), usize>;
 /// A type got each of these numbers, and no other. The questions would show little if some of its
 /// answers never came.
 pub fn gets_each(seen: &Seen, type_byte: u8, numbers: &[u8]) {
-    for number in 0..=22 {
+    for number in 0..=23 {
         let count = seen.get(&(type_byte, number)).copied().unwrap_or(0);
         let good = match numbers.contains(&number) {
             true => count >= 5,
@@ -38,8 +38,9 @@ pub fn gets_each(seen: &Seen, type_byte: u8, numbers: &[u8]) {
 }
 
 /// The number of the first fault in the order, 0 where there is none.
-fn first_of(faults: u8, order: &[u8]) -> u8 {
-    order::numbers(faults, order).first().copied().unwrap_or(0)
+fn first_of(faults: u16, order: &[u8]) -> u8 {
+    let first = order::numbers(faults, order).first().copied();
+    first.map_or(0, order::told)
 }
 
 /// The bytes that a message has by its length field.
@@ -59,7 +60,7 @@ pub fn reads(asked: &Asked) -> Seen {
 }
 
 /// Reads a message with some faults: the first of them in the order is told.
-pub fn first_fault_read(direction: u8, message: &[u8], faults: u8, order: &[u8]) {
+pub fn first_fault_read(direction: u8, message: &[u8], faults: u16, order: &[u8]) {
     let answer = refusal(read::message(direction, message));
     let expected = first_of(faults, order);
     assert_eq!(answer, expected, "type {} {:08b}", message[4], faults);
@@ -101,7 +102,7 @@ pub fn writes(lines: &[String]) -> Seen {
 
 /// Writes a record with some faults: the first of them in the order is told, and the buffer changes
 /// where there is none. Of a shorter record only the type is judged, and that if it is there.
-pub fn first_fault_written(direction: u8, record: &[u8], before: &[u8], faults: u8, order: &[u8]) {
+pub fn first_fault_written(direction: u8, record: &[u8], before: &[u8], faults: u16, order: &[u8]) {
     let mut buffer = before.to_vec();
     let answer = refusal(write::record(direction, record, &mut buffer));
     let expected = first_of(faults, order);

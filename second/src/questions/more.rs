@@ -1,8 +1,8 @@
 //! Questions past the stored ones, as many as are wanted (README.md, "More questions").
 
 use super::bitfields::sample::{
-    Sample, ACKNOWLEDGMENT, CANCEL, CANCEL_REJECTED, EXECUTION, MODIFY_REJECTED, NEW_ORDER,
-    ORDER_REJECTED,
+    Sample, ACKNOWLEDGMENT, CANCEL, CANCEL_REJECTED, EXECUTION, MODIFY, MODIFY_REJECTED, NEW_ORDER,
+    ORDER_REJECTED, PURGE,
 };
 use super::parts::Parts;
 use super::session::sample::{
@@ -14,8 +14,8 @@ use crate::random::Random;
 use crate::rules::layout;
 use std::collections::VecDeque;
 
-/// How often each type of the messages with bitfields comes, in twelve.
-const TYPES: [usize; 12] = [
+/// How often each type of the messages with bitfields comes, in sixteen.
+const TYPES: [usize; 16] = [
     NEW_ORDER,
     NEW_ORDER,
     NEW_ORDER,
@@ -28,6 +28,10 @@ const TYPES: [usize; 12] = [
     ORDER_REJECTED,
     CANCEL_REJECTED,
     MODIFY_REJECTED,
+    MODIFY,
+    MODIFY,
+    PURGE,
+    PURGE,
 ];
 
 /// How often each type of the session messages comes, in twelve.
@@ -191,10 +195,10 @@ mod tests {
             }
         }
         let mut expected = BTreeSet::new();
-        for number in 0..=11 {
+        for number in (0..=11).chain([23]) {
             expected.insert(format!("read {}", number));
         }
-        for number in [0, 4, 5, 7, 8, 9, 10, 11, 12, 13] {
+        for number in [0, 4, 5, 7, 8, 9, 10, 11, 12, 13, 23] {
             expected.insert(format!("write {}", number));
         }
         for answer in [
@@ -211,7 +215,7 @@ mod tests {
             expected.insert(answer.to_string());
         }
         assert_eq!(seen, expected);
-        assert_eq!(types.len(), 13);
+        assert_eq!(types.len(), 15);
         assert!((1_600..2_200).contains(&of_books));
         assert!((3_200..4_400).contains(&of_the_session));
     }

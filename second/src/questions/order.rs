@@ -1,7 +1,16 @@
 //! Sets of faults: a bit for each number of an order of refusals, the lowest for the first.
 
+/// Stands in an order for the 9 that hangs on a value; each other fault is its own number.
+pub const LATE: u8 = 109;
+
+/// The number that is told of a fault.
+#[cfg(test)]
+pub fn told(fault: u8) -> u8 {
+    fault % 100
+}
+
 /// The numbers of the faults.
-pub fn numbers(faults: u8, order: &[u8]) -> Vec<u8> {
+pub fn numbers(faults: u16, order: &[u8]) -> Vec<u8> {
     order
         .iter()
         .enumerate()
@@ -11,9 +20,8 @@ pub fn numbers(faults: u8, order: &[u8]) -> Vec<u8> {
 }
 
 /// The sets of faults that are possible; the last of them is the one of all.
-pub fn sets(order: &[u8], possible: impl Fn(u8) -> bool) -> Vec<u8> {
-    (0..1_u16 << order.len())
-        .map(|faults| faults as u8)
+pub fn sets(order: &[u8], possible: impl Fn(u16) -> bool) -> Vec<u16> {
+    (0..1 << order.len())
         .filter(|faults| possible(*faults))
         .collect()
 }

@@ -123,6 +123,9 @@ const OUTSIDE: &[&str] = &[
     "filled i 41",
     "filled X 41",
     "filled AN 41",
+    "kind f 41",
+    "kind FT 41",
+    "filled FF 41",
     // NUMBER: its characters and how many.
     "day -1",
     "day +1",

@@ -70,8 +70,8 @@ pub fn cut(asked: &mut Asked, direction: u8, message: &[u8], ends: Range<usize>)
 pub fn orders(
     asked: &mut Asked,
     random: &mut Random,
-    sets: &[u8],
-    faulty: impl Fn(&mut Random, u8) -> (u8, Vec<u8>),
+    sets: &[u16],
+    faulty: impl Fn(&mut Random, u16) -> (u8, Vec<u8>),
 ) {
     for faults in sets {
         asked.push(faulty(random, *faults));

@@ -45,7 +45,7 @@ const ENDS: [usize; 7] = [
 ];
 
 /// Types that no direction has.
-const UNKNOWN: [u8; 8] = [0x00, 0x02, 0x27, 0x2D, 0x36, 0x3A, 0x48, 0xFF];
+const UNKNOWN: [u8; 8] = [0x00, 0x02, 0x27, 0x2D, 0x36, 0x3B, 0x48, 0xFF];
 
 pub fn ask(lines: &mut Vec<String>) {
     let mut random = Random::new(10);
@@ -148,6 +148,7 @@ mod tests {
     fn size_of(direction: u8, type_byte: u8) -> Option<usize> {
         match (direction, type_byte) {
             (MEMBER, types::NEW_ORDER | types::CANCEL_ORDER) => Some(291),
+            (MEMBER, types::MODIFY_ORDER | types::PURGE_ORDERS) => Some(291),
             (VENUE, types::ACKNOWLEDGMENT | types::EXECUTION) => Some(291),
             (VENUE, types::ORDER_REJECTED | types::CANCEL_REJECTED) => Some(291),
             (VENUE, types::MODIFY_REJECTED) => Some(291),
@@ -227,6 +228,6 @@ mod tests {
                 assert!(seen.contains(&(type_byte, size)));
             }
         }
-        assert!(seen.len() >= 13 * ENDS.len());
+        assert!(seen.len() >= 15 * ENDS.len());
     }
 }

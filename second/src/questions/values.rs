@@ -8,7 +8,7 @@ pub fn bad_bytes(kind: Kind) -> &'static [u8] {
     match kind {
         Kind::Letters => b"@[`{09 \x01\xC1\xFF",
         Kind::LettersAndDigits => b"/:@[`{ \x01\xC1\xFF",
-        Kind::Text => b"\x01\x1F\x7F\x80\xA0\xFF",
+        Kind::Text | Kind::FilledText => b"\x01\x1F\x7F\x80\xA0\xFF",
         Kind::Identifier => b" ,;|@\"\x1F\x7F\x80\xFF",
         Kind::Binary | Kind::Price => b"",
     }
@@ -19,7 +19,7 @@ pub fn end_bytes(kind: Kind) -> &'static [u8] {
     match kind {
         Kind::Letters => b"AZaz",
         Kind::LettersAndDigits => b"AZaz09",
-        Kind::Text => b" ~!}@,",
+        Kind::Text | Kind::FilledText => b" ~!}@,",
         Kind::Identifier => b"!~#+-:<?A{}",
         Kind::Binary | Kind::Price => b"\x00\x01\x7F\x80\xFE\xFF",
     }
@@ -54,6 +54,10 @@ pub fn some_value(random: &mut Random, kind: Kind, width: usize, least: usize) -
             _ => random.bytes(width),
         };
     }
+    let least = match kind {
+        Kind::FilledText => least.max(1),
+        _ => least,
+    };
     let end = match random.below(2) {
         0 => width,
         _ => random.between(least, width),

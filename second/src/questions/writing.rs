@@ -4,7 +4,7 @@ use super::parts::Parts;
 use super::reading::Asked;
 use crate::hex;
 use crate::random::Random;
-use crate::rules::read;
+use crate::rules::{read, write};
 use std::collections::BTreeSet;
 
 pub fn line(direction: u8, record: &[u8], buffer: &[u8]) -> String {
@@ -36,6 +36,16 @@ pub fn add_record<P: Parts>(
     let buffer = pattern(random, room);
     let record = P::lent(random, record);
     lines.push(line(sample.direction(), &record, &buffer));
+}
+
+/// A sample's record alone, with a buffer that its message just fits where the record is taken; else
+/// with a short one, which would be refused last.
+pub fn alone<P: Parts>(lines: &mut Vec<String>, random: &mut Random, sample: &P) {
+    let (direction, record) = (sample.direction(), sample.record());
+    let size = sample.bytes().len();
+    let taken = write::record(direction, &record, &mut vec![0; size]).is_ok();
+    let room = if taken { size } else { random.between(0, 2) };
+    lines.push(line(direction, &record, &pattern(random, room)));
 }
 
 /// The records of all messages that the questions about reading hold, each once. The buffers are

@@ -14,15 +14,18 @@ pub enum Kind {
     Price,
     /// ClOrdID and OrigClOrdID
     Identifier,
+    /// Text that is never blank: MassCancelInst
+    FilledText,
 }
 
-pub const ALL: [Kind; 6] = [
+pub const ALL: [Kind; 7] = [
     Kind::Letters,
     Kind::LettersAndDigits,
     Kind::Text,
     Kind::Binary,
     Kind::Price,
     Kind::Identifier,
+    Kind::FilledText,
 ];
 
 impl Kind {
@@ -35,6 +38,7 @@ impl Kind {
             Kind::Binary => 'B',
             Kind::Price => 'P',
             Kind::Identifier => 'I',
+            Kind::FilledText => 'F',
         }
     }
 
@@ -48,7 +52,7 @@ impl Kind {
         match self {
             Kind::Letters => byte.is_ascii_alphabetic(),
             Kind::LettersAndDigits => byte.is_ascii_alphanumeric(),
-            Kind::Text => (32..=126).contains(&byte),
+            Kind::Text | Kind::FilledText => (32..=126).contains(&byte),
             Kind::Identifier => (33..=126).contains(&byte) && !excepted(byte),
             Kind::Binary | Kind::Price => true,
         }
@@ -70,10 +74,14 @@ pub fn blank(field: &[u8]) -> bool {
     field.iter().all(|byte| *byte == 0)
 }
 
-/// Whether a field agrees with its kind, blank allowed. In a text only NULs follow the first NUL.
+/// Whether a field agrees with its kind; blank is allowed but in a filled text. In a text only NULs
+/// follow the first NUL.
 pub fn agrees(kind: Kind, field: &[u8]) -> bool {
     if kind == Kind::Binary || kind == Kind::Price {
         return true;
+    }
+    if kind == Kind::FilledText {
+        return filled(Kind::Text, field);
     }
     let end = field
         .iter()
@@ -102,6 +110,7 @@ mod tests {
         assert_eq!(taken(Kind::Letters), 52);
         assert_eq!(taken(Kind::LettersAndDigits), 62);
         assert_eq!(taken(Kind::Text), 95);
+        assert_eq!(taken(Kind::FilledText), 95);
         assert_eq!(taken(Kind::Identifier), 94 - 5);
     }
 
@@ -131,12 +140,33 @@ mod tests {
     fn blanks() {
         for kind in ALL {
             for size in 0..=20 {
-                assert!(agrees(kind, &vec![0; size]));
+                assert_eq!(agrees(kind, &vec![0; size]), kind != Kind::FilledText);
                 assert!(!filled(kind, &vec![0; size]));
             }
         }
         assert!(filled(Kind::Binary, &[0, 0, 0, 1]));
         assert!(filled(Kind::Price, &[0, 128]));
+    }
+
+    /// A filled text is a text that is never blank, by either of the two questions.
+    #[test]
+    fn filled_texts() {
+        for field in [
+            &b""[..],
+            b"\0",
+            b"\0\0",
+            b"A",
+            b" \0",
+            b"~A",
+            b"\x7F",
+            b"\0A",
+            b"A\0A",
+            b"F\0\0",
+        ] {
+            let expected = filled(Kind::Text, field);
+            assert_eq!(agrees(Kind::FilledText, field), expected);
+            assert_eq!(filled(Kind::FilledText, field), expected);
+        }
     }
 
     #[test]
@@ -146,6 +176,7 @@ mod tests {
             Kind::LettersAndDigits,
             Kind::Text,
             Kind::Identifier,
+            Kind::FilledText,
         ] {
             assert!(agrees(kind, b"AB\0\0"));
             assert!(!agrees(kind, b"A\0B\0"));
@@ -158,7 +189,7 @@ mod tests {
         for kind in ALL {
             assert_eq!(Kind::of_letter(&kind.letter().to_string()), Some(kind));
         }
-        for word in ["", "a", "AA", "C", "i"] {
+        for word in ["", "a", "AA", "C", "i", "f", "FT"] {
             assert_eq!(Kind::of_letter(word), None);
         }
     }

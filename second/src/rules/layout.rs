@@ -1,15 +1,19 @@
 //! The messages with bitfields (document 01, "The bit dictionary").
 
+mod late;
+mod middle;
 mod tables;
 #[cfg(test)]
 mod tests;
 
+pub use middle::Middle;
 pub use tables::ALL;
 
 use super::frame::HEADER;
 use super::kinds::{self, Kind};
 use super::number;
 use super::{check, Refusal};
+use late::Selected;
 
 const LEAST_QUANTITY: u64 = 1;
 const GREATEST_QUANTITY: u64 = 999_999;
@@ -58,6 +62,8 @@ pub struct Layout {
     pub listed: &'static [Listed],
     /// Of each group at least one field is selected.
     pub required: &'static [&'static [&'static str]],
+    /// Between the bitfields and the optional fields.
+    pub middle: Middle,
 }
 
 /// Where a selected field stands.
@@ -82,7 +88,7 @@ impl Listed {
 
 impl Place {
     /// 10 in an optional field.
-    pub fn check(&self, value: &[u8]) -> Result<(), Refusal> {
+    fn check(&self, value: &[u8]) -> Result<(), Refusal> {
         let good = kinds::agrees(self.field.kind, value);
         check(good, Refusal::Value(self.wire))
     }
@@ -130,9 +136,14 @@ impl Layout {
             .sum()
     }
 
-    /// The selected fields, in the order of their bits.
-    pub fn places(&self, bitfields: &[u8]) -> Vec<Place> {
-        let mut wire = self.bitfields_place() + bitfields.len();
+    /// Where the middle stands, or the first field if there is none.
+    pub fn middle_place(&self, bitfields: &[u8]) -> usize {
+        self.bitfields_place() + bitfields.len()
+    }
+
+    /// The selected fields, in the order of their bits, after a middle of so many bytes.
+    pub fn places(&self, bitfields: &[u8], middle: usize) -> Vec<Place> {
+        let mut wire = self.middle_place(bitfields) + middle;
         let mut slot = 0;
         let mut places = Vec::new();
         for field in self.listed {
@@ -145,14 +156,14 @@ impl Layout {
         places
     }
 
-    /// The bytes of a message with these bitfields.
-    pub fn total(&self, bitfields: &[u8]) -> usize {
+    /// The bytes of a message with these bitfields and such a middle.
+    pub fn total(&self, bitfields: &[u8], middle: usize) -> usize {
         let fields: usize = self
-            .places(bitfields)
+            .places(bitfields, middle)
             .iter()
             .map(|place| place.field.width)
             .sum();
-        self.bitfields_place() + bitfields.len() + fields
+        self.middle_place(bitfields) + middle + fields
     }
 
     // What reading and writing both check, each giving one number and its place in the message.
@@ -180,21 +191,47 @@ impl Layout {
         Ok(())
     }
 
-    /// 9
+    /// 9 for what is required whatever the values.
     pub fn check_required(&self, bitfields: &[u8]) -> Result<(), Refusal> {
-        let last = self.count_place() + bitfields.len();
         for group in self.required {
             let found = self
                 .listed
                 .iter()
                 .any(|field| group.contains(&field.name) && field.selected(bitfields));
-            check(found, Refusal::Missing(last))?;
+            check(found, self.missing(bitfields))?;
         }
         Ok(())
     }
 
+    /// 9: the last bitfield, or the count byte if there is none.
+    fn missing(&self, bitfields: &[u8]) -> Refusal {
+        Refusal::Missing(self.count_place() + bitfields.len())
+    }
+
+    /// What the values are refused for: 10 in the order of the message, the 9 that hangs on a value,
+    /// 23. The middle may be followed by other bytes.
+    pub fn check_values(
+        &self,
+        fixed: &[u8],
+        bitfields: &[u8],
+        middle: &[u8],
+        fields: &[(Place, &[u8])],
+    ) -> Result<(), Refusal> {
+        self.check_fixed(fixed)?;
+        let count = Refusal::Value(self.middle_place(bitfields));
+        check(self.middle.takes(middle), count)?;
+        for (place, value) in fields {
+            place.check(value)?;
+        }
+        let selected = Selected(fields);
+        let lacks = late::lacks(self.type_byte, &selected);
+        check(!lacks, self.missing(bitfields))?;
+        let conflicts = late::conflicts(self.type_byte, &selected);
+        check(!conflicts, Refusal::Conflict)
+    }
+
     /// 10 in the fixed part, which has its full width here.
-    pub fn check_fixed(&self, part: &[u8]) -> Result<(), Refusal> {
+    fn check_fixed(&self, part: &[u8]) -> Result<(), Refusal> {
         let mut place = HEADER;
         let mut rest = part;
         for field in self.fixed {

@@ -54,7 +54,18 @@ fn with_bitfields(layout: &Layout, message: &[u8]) -> Result<Record, Refusal> {
     let bitfields = &message[first..end];
     layout.check_bits(bitfields)?;
     layout.check_required(bitfields)?;
-    check(total == layout.total(bitfields), Refusal::Total(total))?;
+    let width = layout.middle.width(&message[end..]);
+    let whole = layout.total(bitfields, width);
+    check(total == whole, Refusal::Total(total))?;
+
+    let fixed = &message[HEADER..layout.count_place()];
+    let middle = &message[end..end + width];
+    let mut fields = Vec::new();
+    for place in layout.places(bitfields, width) {
+        let value = &message[place.wire..place.wire + place.field.width];
+        fields.push((place, value));
+    }
+    layout.check_values(fixed, bitfields, middle, &fields)?;
 
     let mut record = Record {
         type_byte: header.type_byte,
@@ -65,17 +76,17 @@ fn with_bitfields(layout: &Layout, message: &[u8]) -> Result<Record, Refusal> {
         bitfields: [0; BITFIELDS],
         slots: [0; SLOTS],
     };
-    let fixed = &message[HEADER..layout.count_place()];
-    layout.check_fixed(fixed)?;
-    record.fixed[..fixed.len()].copy_from_slice(fixed);
-    record.bitfields[..bitfields.len()].copy_from_slice(bitfields);
-    for place in layout.places(bitfields) {
-        let width = place.field.width;
-        let value = &message[place.wire..place.wire + width];
-        place.check(value)?;
-        record.slots[place.slot..place.slot + width].copy_from_slice(value);
+    put(&mut record.fixed, 0, fixed);
+    put(&mut record.fixed, fixed.len(), middle);
+    put(&mut record.bitfields, 0, bitfields);
+    for (place, value) in fields {
+        put(&mut record.slots, place.slot, value);
     }
     Ok(record)
+}
+
+fn put(part: &mut [u8], place: usize, bytes: &[u8]) {
+    part[place..place + bytes.len()].copy_from_slice(bytes);
 }
 
 #[cfg(test)]
@@ -99,9 +110,9 @@ mod tests {
         let example = examples::new_order();
         let layout = Layout::of(0, 0x38).unwrap();
         let bitfields = [0x04, 0xC1, 0x01];
-        assert_eq!(layout.total(&bitfields), 76);
+        assert_eq!(layout.total(&bitfields, 0), 76);
         let places: Vec<(&str, usize)> = layout
-            .places(&bitfields)
+            .places(&bitfields, 0)
             .iter()
             .map(|place| (place.field.name, place.wire))
             .collect();

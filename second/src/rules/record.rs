@@ -26,6 +26,7 @@ pub struct Record {
     pub type_byte: u8,
     pub unit: u8,
     pub number: u32,
+    /// The fixed part, then the middle.
     pub fixed: [u8; FIXED],
     pub count: u8,
     pub bitfields: [u8; BITFIELDS],

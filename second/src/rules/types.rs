@@ -9,7 +9,11 @@ pub const VENUE: u8 = 1;
 pub const LOGIN_REQUEST: u8 = 0x37;
 pub const NEW_ORDER: u8 = 0x38;
 pub const CANCEL_ORDER: u8 = 0x39;
+pub const MODIFY_ORDER: u8 = 0x3A;
+pub const PURGE_ORDERS: u8 = 0x47;
 pub const CLIENT_HEARTBEAT: u8 = 0x03;
+/// What goes out and comes in as an order.
+pub const ORDERS: [u8; 4] = [NEW_ORDER, CANCEL_ORDER, MODIFY_ORDER, PURGE_ORDERS];
 
 // From the venue.
 pub const LOGIN_RESPONSE: u8 = 0x24;

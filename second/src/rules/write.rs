@@ -49,47 +49,48 @@ fn with_bitfields(layout: &Layout, record: &Record) -> Result<Vec<u8>, Refusal> 
     layout.check_header(record.unit, record.number)?;
     layout.check_count(record.count)?;
     let count = usize::from(record.count);
-    // The places past the count are no bitfields: what stands there is judged with the unused.
+    // The places past the count are no bitfields: what stands there is judged with the unused, and so
+    // is what follows the fixed part and the middle.
     let bitfields = &record.bitfields[..count];
     layout.check_bits(bitfields)?;
     layout.check_required(bitfields)?;
 
-    let fixed = &record.fixed[..layout.fixed_width()];
-    let places = layout.places(bitfields);
-    layout.check_fixed(fixed)?;
-    for place in &places {
-        place.check(value(record, place))?;
+    let (fixed, rest) = record.fixed.split_at(layout.fixed_width());
+    let width = layout.middle.width(rest);
+    let mut fields = Vec::new();
+    for place in layout.places(bitfields, width) {
+        let value = &record.slots[place.slot..place.slot + place.field.width];
+        fields.push((place, value));
     }
-    check(unused_is_zero(layout, record, &places), Refusal::Unused)?;
+    layout.check_values(fixed, bitfields, rest, &fields)?;
+    let (middle, unused) = rest.split_at(width);
+    let zero = kinds::blank(unused)
+        && kinds::blank(&record.bitfields[count..])
+        && unselected_is_zero(record, &fields);
+    check(zero, Refusal::Unused)?;
 
     let header = Header {
         type_byte: record.type_byte,
         unit: record.unit,
         number: record.number,
     };
-    let mut rest = fixed.to_vec();
-    rest.push(record.count);
-    rest.extend(bitfields);
-    for place in &places {
-        rest.extend(value(record, place));
+    let mut body = fixed.to_vec();
+    body.push(record.count);
+    body.extend(bitfields);
+    body.extend(middle);
+    for (_, value) in &fields {
+        body.extend(*value);
     }
-    Ok(frame::put_together(&header, &rest))
+    Ok(frame::put_together(&header, &body))
 }
 
-fn value<'a>(record: &'a Record, place: &Place) -> &'a [u8] {
-    &record.slots[place.slot..place.slot + place.field.width]
-}
-
-/// Whether all places that the message does not take are zero: after the fixed part, after the
-/// bitfields, and every slot that is not selected or belongs to no field.
-fn unused_is_zero(layout: &Layout, record: &Record, places: &[Place]) -> bool {
+/// Whether every slot is zero that is not selected or belongs to no field.
+fn unselected_is_zero(record: &Record, fields: &[(Place, &[u8])]) -> bool {
     let mut slots = record.slots;
-    for place in places {
-        slots[place.slot..place.slot + place.field.width].fill(0);
+    for (place, value) in fields {
+        slots[place.slot..place.slot + value.len()].fill(0);
     }
-    kinds::blank(&record.fixed[layout.fixed_width()..])
-        && kinds::blank(&record.bitfields[usize::from(record.count)..])
-        && kinds::blank(&slots)
+    kinds::blank(&slots)
 }
 
 #[cfg(test)]

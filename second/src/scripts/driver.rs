@@ -4,7 +4,7 @@
 use crate::ask;
 use crate::bench::Bench;
 use crate::hex;
-use crate::questions::bitfields::sample::{Sample, CANCEL, NEW_ORDER};
+use crate::questions::bitfields::sample::{Sample, CANCEL, MODIFY, NEW_ORDER, PURGE};
 use crate::questions::made::{rejection, some_type};
 use crate::questions::parts::Parts;
 use crate::questions::session::sample::{self as session, LOGIN};
@@ -252,7 +252,8 @@ impl Driver {
     }
 
     pub fn some_order(&mut self) -> Sample {
-        let which = if self.one_in(3) { CANCEL } else { NEW_ORDER };
+        let all = [NEW_ORDER, NEW_ORDER, CANCEL, MODIFY, PURGE];
+        let which = all[self.random.between(0, all.len() - 1)];
         Sample::any(&mut self.random, which)
     }
 

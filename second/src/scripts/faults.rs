@@ -3,8 +3,9 @@
 use super::day;
 use super::driver::{Driver, GETS};
 use crate::hex;
+use crate::questions::bitfields::late::instruct;
 use crate::questions::bitfields::sample::{
-    identifier, unlisted_bit, Sample, ACKNOWLEDGMENT, CANCEL, EXECUTION, NEW_ORDER, REJECTED,
+    never_blank, unlisted_bit, Sample, ACKNOWLEDGMENT, EXECUTION, MODIFY, ORDERS, PURGE, REJECTED,
 };
 use crate::questions::parts::{measure, Parts};
 use crate::questions::session::faults;
@@ -57,7 +58,7 @@ fn of_framing(good: &[u8]) -> Vec<Vec<u8>> {
         changed(1, 0xAB),
         vec![0xBA, 0xBA, 7, 0],
         vec![0xBA, 0xBA, 0xFF, 7],
-        changed(4, 0x3A),
+        changed(4, 0x3B),
         changed(4, 0x02),
     ]
 }
@@ -98,14 +99,51 @@ fn faulty(good: &Sample, which: usize) -> Vec<Sample> {
     let (byte, bit) = unlisted_bit(which);
     unlisted.set_bit(byte, bit);
     let mut value = good.clone();
-    value.value(identifier(which))[3] = b'|';
+    value.spoil_never_blank(3, b'|');
     let mut blank = good.clone();
-    blank.value(identifier(which)).fill(0);
+    blank.value(never_blank(which)).fill(0);
     let mut all = vec![many, unlisted, value, blank];
     if !good.layout.required.is_empty() {
         let mut missing = good.clone();
         missing.clear();
         all.push(missing);
+    }
+    all.extend(asking(good, which));
+    all
+}
+
+/// Values that ask for a field that is not there, and fields that do not go together; of a Purge Orders
+/// also too many ids, alone and before those.
+fn asking(good: &Sample, which: usize) -> Vec<Sample> {
+    let mut all = Vec::new();
+    let mut with = |change: &dyn Fn(&mut Sample)| {
+        let mut sample = good.clone();
+        change(&mut sample);
+        all.push(sample);
+    };
+    if which == MODIFY {
+        for ord_type in [b'1', b'2', 0, b'-'] {
+            with(&|sample| {
+                sample.unselect("Price");
+                sample.select("OrdType");
+                *sample.value("OrdType") = vec![ord_type];
+            });
+        }
+    }
+    if which == PURGE {
+        for characters in [b"FMN", b"ASN", b"ABL", b"AML"] {
+            with(&|sample| instruct(sample, characters));
+        }
+        with(&|sample| {
+            sample.select("Symbol");
+            sample.select("MatchingUnit");
+        });
+        for characters in [b"AMN", b"ASL", b"AML"] {
+            with(&|sample| {
+                instruct(sample, characters);
+                sample.middle = vec![11; 23];
+            });
+        }
     }
     all
 }
@@ -253,7 +291,7 @@ fn of_kinds(driver: &mut Driver) -> Vec<Vec<u8>> {
     // One of each kind with the other's after it.
     booked[6].extend(&of_session[0]);
     of_session[0].extend(&booked[2]);
-    let orders = [NEW_ORDER, CANCEL].map(|which| Sample::least(random, which).bytes());
+    let orders = ORDERS.map(|which| Sample::least(random, which).bytes());
     let rejected = REJECTED.map(|which| Sample::any(random, which).bytes());
     let mut unknown = booked[2].clone();
     unknown[4] = 0x27;
@@ -268,9 +306,16 @@ fn of_kinds(driver: &mut Driver) -> Vec<Vec<u8>> {
 }
 
 fn orders(driver: &mut Driver) {
-    for (phase, outgoing) in [(3, 7), (3, u32::MAX), (3, u32::MAX - 1), (2, 7)] {
-        set_phase(driver, phase, outgoing);
-        for which in [NEW_ORDER, CANCEL] {
+    for (phase, outgoing) in [
+        (3, 7),
+        (3, u32::MAX),
+        (3, u32::MAX - 1),
+        (2, 7),
+        (1, 7),
+        (0, 7),
+    ] {
+        for which in ORDERS {
+            set_phase(driver, phase, outgoing);
             let good = Sample::least(&mut driver.random, which);
             let mut records: Vec<Vec<u8>> = faulty(&good, which)
                 .iter()
@@ -291,8 +336,8 @@ fn orders(driver: &mut Driver) {
             }
             records.push(good.record()[..SIZE - 1].to_vec());
             records.push(Vec::new());
-            if phase == 2 || outgoing == u32::MAX {
-                records.truncate(3);
+            if phase != 3 || outgoing == u32::MAX {
+                records.truncate(2);
             }
             for record in records {
                 let room = usize::from(driver.random.pick(&[0, 100, 100]));
@@ -339,14 +384,22 @@ fn venue(driver: &mut Driver) {
         let random = &mut driver.random;
         let mut logins = of_session(random, LOGIN);
         let mut orders = of_session(random, CLIENT_HEARTBEAT);
+        // A good one of each type, with the next number or one after it.
+        for (index, which) in ORDERS.into_iter().enumerate() {
+            let mut good = Sample::any(random, which);
+            good.number = next.saturating_add(index as u32);
+            orders.push(good.bytes());
+        }
+        let next = next.saturating_add(ORDERS.len() as u32);
         // A number that is not above the last is told after what the reader refuses.
-        for (which, number) in [(NEW_ORDER, next), (CANCEL, next - 1)] {
+        for (index, which) in ORDERS.into_iter().enumerate() {
+            let number = next - index as u32 % 2;
             orders.extend(of_message(random, which, 0, number));
         }
         if running {
             logins.truncate(6);
         } else {
-            orders.truncate(6);
+            orders = orders.into_iter().step_by(7).collect();
         }
         for bytes in logins {
             let room = if driver.one_in(3) { 0 } else { 450 };

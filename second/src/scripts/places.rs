@@ -4,7 +4,7 @@ use super::driver::{Driver, LoginLine, GETS};
 use super::faults::{set_phase, to_live};
 use crate::hex;
 use crate::questions::bitfields::places as bitfields;
-use crate::questions::bitfields::sample::{ACKNOWLEDGMENT, CANCEL, EXECUTION, NEW_ORDER, REJECTED};
+use crate::questions::bitfields::sample::{ACKNOWLEDGMENT, EXECUTION, ORDERS, REJECTED};
 use crate::questions::parts::Parts;
 use crate::questions::session::places as session;
 use crate::questions::session::sample::{
@@ -86,7 +86,7 @@ fn gets(driver: &mut Driver) {
 
 fn orders(driver: &mut Driver) {
     set_phase(driver, 3, 7);
-    for which in [NEW_ORDER, CANCEL] {
+    for which in ORDERS {
         let placed = bitfields::faulty(&mut driver.random, which);
         for (sample, _) in placed.iter().step_by(2) {
             let room = driver.random.between(0, 3);
@@ -133,7 +133,7 @@ fn venue(driver: &mut Driver) {
     driver.login();
     driver.pass();
     let received = driver.bench.venue.received;
-    for which in [NEW_ORDER, CANCEL] {
+    for which in ORDERS {
         // The last number, which would be 21, and the one after it.
         let number = received + driver.random.below(2) as u32;
         for bytes in of_messages(driver, which, 0, number) {

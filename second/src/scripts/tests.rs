@@ -40,7 +40,7 @@ fn shapes() {
         let last = &script[script.len() - 2..];
         assert_eq!((&last[0].0[..], &last[1].0[..]), ("m-book", "v-book"));
     }
-    assert!(size < 6_300_000);
+    assert!(size < 6_400_000);
 }
 
 /// Each question is answered with each number that it can give, and with no other. What comes
@@ -67,12 +67,12 @@ fn each_question_gets_each_refusal() {
         ("m-get", "0 1 2 3 4 5 6 7 8 10 11 13 14 15 16"),
         ("m-message", "0 1 2 3 4 5 6 7 8 10 13 14 15 16"),
         ("m-response", "0 1 2 3 4 5 6 10 11 16"),
-        ("m-order", "0 4 5 7 8 9 10 12 13 16 20"),
+        ("m-order", "0 4 5 7 8 9 10 12 13 16 20 23"),
         ("m-beat", "0 13 16"),
         ("v-log", "0 1 2 3 4 5 6 7 8 10 13 14 15"),
         ("v-login", "0 1 2 3 4 5 6 10 11 13 16"),
         ("v-step", "0 13 16"),
-        ("v-order", "0 1 2 3 4 5 6 7 8 9 10 16 21"),
+        ("v-order", "0 1 2 3 4 5 6 7 8 9 10 16 21 23"),
     ];
     for (call, numbers) in expected {
         let numbers: BTreeSet<u8> = numbers
@@ -287,6 +287,75 @@ fn rejections_among_others() {
     for (what, least) in [("bhb", 15), ("BHB", 15), ("hh", 2), ("bh", 30), ("hb", 30)] {
         let count: usize = all.iter().map(|desk| desk.matches(what).count()).sum();
         assert!(count >= least, "{} {}", what, count);
+    }
+}
+
+/// The type of the record or message that an order's call gets.
+fn order_of(question: &str) -> Option<(String, String)> {
+    let words: Vec<&str> = question.split(' ').collect();
+    let type_byte = match words[..] {
+        ["m-order", record, _] => record.get(..2)?,
+        ["v-order", bytes] if bytes.starts_with("BABA") => bytes.get(8..10)?,
+        _ => return None,
+    };
+    Some((words[0].to_string(), type_byte.to_string()))
+}
+
+/// Each of the four orders is offered to `m-order` in each phase and to `v-order` in a session and
+/// outside one, with every number that it gets there. The outgoing number rises with what goes out and
+/// with nothing else.
+#[test]
+fn orders() {
+    let mut seen: BTreeMap<(String, String, u8), BTreeSet<u8>> = BTreeMap::new();
+    for script in answered() {
+        let (mut phase, mut running) = (0, 0);
+        let mut outgoing = String::new();
+        for (question, answer) in script {
+            let words: Vec<&str> = answer.split(' ').collect();
+            if let Some((call, type_byte)) = order_of(&question).filter(|_| answer != "?") {
+                let number = ask::number_of(words[0]).parse().unwrap();
+                let state = if call == "m-order" { phase } else { running };
+                if call == "m-order" {
+                    assert_eq!(words[2] == outgoing, number != 0);
+                }
+                seen.entry((call, type_byte, state))
+                    .or_default()
+                    .insert(number);
+            }
+            phase = phase_of(&question, &answer).unwrap_or(phase);
+            if let Some(member) = member_of(&question, &answer) {
+                outgoing = member.split(' ').nth(1).unwrap_or_default().to_string();
+            }
+            let place = match question.split(' ').next().unwrap() {
+                "v-state" | "v-break" => 0,
+                "v-log" | "v-login" | "v-step" | "v-order" => 1,
+                _ => continue,
+            };
+            if let Some(Ok(after)) = words.get(place).map(|word| word.parse()) {
+                running = after;
+            }
+        }
+    }
+    for (type_byte, more) in [("38", "9"), ("39", ""), ("3A", "9"), ("47", "9 23")] {
+        for (call, state, expected) in [
+            ("m-order", 0, "16"),
+            ("m-order", 1, "16"),
+            ("m-order", 2, "16"),
+            ("m-order", 3, "0 5 7 8 10 12 13 20"),
+            ("v-order", 0, "16"),
+            ("v-order", 1, "0 3 5 6 7 8 10 21"),
+        ] {
+            let more = if expected == "16" { "" } else { more };
+            let expected: BTreeSet<u8> = expected
+                .split(' ')
+                .chain(more.split(' '))
+                .filter_map(|number| number.parse().ok())
+                .collect();
+            let key = (call.to_string(), type_byte.to_string(), state);
+            let found = seen.get(&key).cloned().unwrap_or_default();
+            assert!(found.is_superset(&expected), "{:?} {:?}", key, found);
+            assert!(!found.contains(&23) || type_byte == "47", "{:?}", key);
+        }
     }
 }
 

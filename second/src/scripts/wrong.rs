@@ -3,7 +3,10 @@
 use super::driver::{Driver, LoginLine, Step, GETS, SHOWN};
 use crate::examples;
 use crate::hex;
-use crate::questions::bitfields::sample::{Sample, ACKNOWLEDGMENT, CANCEL_REJECTED, EXECUTION};
+use crate::questions::bitfields::late::careless;
+use crate::questions::bitfields::sample::{
+    Sample, ACKNOWLEDGMENT, CANCEL_REJECTED, EXECUTION, MODIFY, PURGE,
+};
 use crate::questions::book::damaged;
 use crate::questions::parts::Parts;
 use crate::questions::session::sample::{
@@ -198,20 +201,31 @@ fn login(driver: &mut Driver) {
     }
 }
 
+/// A Modify Order or a Purge Orders whose values may ask for what is not there.
+fn asking(driver: &mut Driver) -> Sample {
+    let which = [MODIFY, PURGE, PURGE][driver.random.between(0, 2)];
+    let sample = Sample::any(&mut driver.random, which);
+    careless(&mut driver.random, &sample)
+}
+
 fn order(driver: &mut Driver) {
     let sample = driver.some_order();
     let size = sample.bytes().len();
-    let (record, room) = match driver.random.below(8) {
+    let (record, room) = match driver.random.below(10) {
         0 => (
             sample.record()[..driver.random.between(0, SIZE - 1)].to_vec(),
             size,
         ),
         1 => {
             let mut record = sample.record();
-            record[0] = driver.random.pick(&[0x37, 0x03, 0x25, 0x26, 0x2C, 0, 0x3A]);
+            record[0] = driver.random.pick(&[0x37, 0x03, 0x25, 0x26, 0x2C, 0, 0x3B]);
             (record, size)
         }
         2 => (sample.record(), short(driver, size)),
+        3 | 4 => {
+            let careless = asking(driver);
+            (careless.record(), careless.bytes().len())
+        }
         _ => {
             let (_, record, _) = sample.damaged_record(&mut driver.random);
             let end = record.len().min(SIZE + 5);
@@ -264,6 +278,8 @@ fn log(driver: &mut Driver) {
                 examples::login(),
                 examples::replay_complete(),
                 examples::logout_request(),
+                examples::modify(),
+                examples::purge_by_ids_with_its_length(),
                 driver.rejection().bytes(),
                 driver.rejection().bytes(),
             ];
@@ -328,7 +344,7 @@ fn step(driver: &mut Driver) {
 fn take_order(driver: &mut Driver) {
     let received = driver.bench.venue.received;
     let mut sample = driver.some_order();
-    let bytes = match driver.random.below(5) {
+    let bytes = match driver.random.below(6) {
         0 => {
             sample.number = match driver.random.below(5) {
                 0 => 0,
@@ -347,6 +363,11 @@ fn take_order(driver: &mut Driver) {
             let which = [ACKNOWLEDGMENT, EXECUTION, CANCEL_REJECTED];
             let which = which[driver.random.between(0, which.len() - 1)];
             Sample::least(&mut driver.random, which).bytes()
+        }
+        3 => {
+            let mut careless = asking(driver);
+            careless.number = received.saturating_add(1);
+            careless.bytes()
         }
         _ => {
             sample.number = received.saturating_add(1);

@@ -10,6 +10,13 @@ unfolding entryOf
 entry-of-spec =
     tie.close
     (tie.spec
-    free free free free free free
-    (λ c. cc) (λ c. cc) (λ c. cc) (λ c. cc) (λ c. cc) (λ c. cc)
+    free free free free free free free free
+    (λ c. rw (c .before .match .keys1) (c .new-order .ensures))
+    (λ c. rw (c .before .match .keys2) (c .cancel-order .ensures))
+    (λ c. rw (c .before .match .keys3) (c .acknowledgment .ensures))
+    (λ c. rw (c .before .match .keys4) (c .execution .ensures))
+    (λ c. rw (c .before .match .keys5) (c .rejection .ensures))
+    (λ c. rw (c .before .match .keys6) (c .cancel-rejection .ensures))
+    (λ c. rw (c .before .match .keys7) (c .modify-order .ensures))
+    (λ c. rw (c .before .match .keys8) (c .purge-orders .ensures))
     (λ c. search ne-eqb))

@@ -4,8 +4,11 @@ use borrow.Author.Needs.{needs}
 use Rattle.kinds.proofs.agrees_one.Statement.{statement}
 use Rattle.kinds.proofs.agrees_one.Tie as tie
 
+takes-blank-requires : tie.Need-takes-blank-requires
+takes-blank-requires c κs = search needs
+
 returns : tie.Need-returns
-returns c = rw (eq-eqb _ _ (c .if1 .taken))
+returns c = rw (eq-eqb _ _ (c .before .if1 .taken)) (c .takes-blank .ensures)
 
 is-allowed-requires : tie.Need-is-allowed-requires
 is-allowed-requires c κs = search needs
@@ -14,4 +17,4 @@ returns-2 : tie.Need-returns-2
 returns-2 c = rw (ne-eqb _ _ (c .before .if1 .left)) (c .is-allowed .ensures)
 
 pub agrees-one-spec : {M : Type 1} → statement M
-agrees-one-spec = tie.close (tie.spec returns is-allowed-requires returns-2)
+agrees-one-spec = tie.close (tie.spec takes-blank-requires returns is-allowed-requires returns-2)

@@ -51,6 +51,12 @@ enum-told-5 c = search needs
 enum-told-6 : tie.Need-enum-told-6
 enum-told-6 c = search needs
 
+enum-told-7 : tie.Need-enum-told-7
+enum-told-7 c = search needs
+
+filled-agrees-requires : tie.Need-filled-agrees-requires
+filled-agrees-requires c κs = search needs
+
 returns-2 : tie.Need-returns-2
 returns-2 c = rw (c .before .enum-told .given .1) (c .text-agrees .ensures)
 
@@ -69,6 +75,9 @@ returns-6 c = search needs
 returns-7 : tie.Need-returns-7
 returns-7 c = search needs
 
+returns-8 : tie.Need-returns-8
+returns-8 c = rw (c .before .enum-told7 .given .1) (c .filled-agrees .ensures)
+
 pub sized-agrees-spec : {M : Type 1} → statement M
 sized-agrees-spec =
     tie.close
@@ -86,9 +95,12 @@ sized-agrees-spec =
     is-name-requires
     enum-told-5
     enum-told-6
+    enum-told-7
+    filled-agrees-requires
     returns-2
     returns-3
     returns-4
     returns-5
     returns-6
-    returns-7)
+    returns-7
+    returns-8)

@@ -1,6 +1,6 @@
 -- `order_reader::body_refusal` meets its contract: the parts stand in the message where they are lent. Assumes nothing.
 use Rattle.wire.specs.Header.{totalOf}
-use Rattle.orders.specs.Orders.{blockRefusal}
+use Rattle.orders.specs.Orders.{bodyRefusal}
 use Rattle.order_reader.proofs.InPlace.{lent-parts}
 use denote.Ref.{now}
 use lib.ListN.{drop}
@@ -43,7 +43,7 @@ returns c =
     let start = c .before .before .before .before in
     let a = start .args in
     c .block-refusal .ensures
-    ∙ lent-parts (now (a .m)) (a .at) (a .count) (start .pre .1) (λ (b o : List ℕ). blockRefusal (totalOf (now (a .m))) (a .message) (a .count) b (drop 10 (now (a .m))) o)
+    ∙ lent-parts (now (a .m)) (a .at) (a .count) (start .pre .1) (λ (b o : List ℕ). bodyRefusal (totalOf (now (a .m))) (a .message) (a .count) b (drop 10 (now (a .m))) o)
 
 pub body-refusal-spec : {M : Type 1} → statement M
 body-refusal-spec =

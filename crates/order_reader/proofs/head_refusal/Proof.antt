@@ -29,6 +29,12 @@ type-head-requires-6 c κs = search needs
 type-head-requires-7 : tie.Need-type-head-requires-7
 type-head-requires-7 c κs = search needs
 
+type-head-requires-8 : tie.Need-type-head-requires-8
+type-head-requires-8 c κs = search needs
+
+type-head-requires-9 : tie.Need-type-head-requires-9
+type-head-requires-9 c κs = search needs
+
 returns : tie.Need-returns
 unfolding countAt mostOf
 returns c =
@@ -72,10 +78,23 @@ returns-7 c =
     c .type-head7 .ensures ∙ known-type (now (start .args .m)) (start .args .message) (start .pre) 0x2B (c .before .match .keys7) refl
 
 returns-8 : tie.Need-returns-8
+unfolding countAt mostOf
 returns-8 c =
+    let start = c .before .before .before in
+    c .type-head8 .ensures ∙ known-type (now (start .args .m)) (start .args .message) (start .pre) 0x3A (c .before .match .keys8) refl
+
+returns-9 : tie.Need-returns-9
+unfolding countAt mostOf
+returns-9 c =
+    let start = c .before .before .before in
+    c .type-head9 .ensures ∙ known-type (now (start .args .m)) (start .args .message) (start .pre) 0x47 (c .before .match .keys9) refl
+
+returns-10 : tie.Need-returns-10
+returns-10 c =
     let start = c .before .before in
     let o = c .match .rest in
-    unknown-type (now (start .args .m)) (start .args .message) (start .pre) (o .0 .0 .0 .0 .0 .0 .1) (o .0 .0 .0 .0 .0 .1) (o .0 .0 .0 .0 .1) (o .0 .0 .0 .1) (o .0 .0 .1) (o .0 .1) (o .1)
+    let n = o .0 .0 in
+    unknown-type (now (start .args .m)) (start .args .message) (start .pre) (n .0 .0 .0 .0 .0 .0 .1) (n .0 .0 .0 .0 .0 .1) (n .0 .0 .0 .0 .1) (n .0 .0 .0 .1) (n .0 .0 .1) (n .0 .1) (n .1) (o .0 .1) (o .1)
 
 pub head-refusal-spec : {M : Type 1} → statement M
 head-refusal-spec =
@@ -88,6 +107,8 @@ head-refusal-spec =
     type-head-requires-5
     type-head-requires-6
     type-head-requires-7
+    type-head-requires-8
+    type-head-requires-9
     returns
     returns-2
     returns-3
@@ -95,4 +116,6 @@ head-refusal-spec =
     returns-5
     returns-6
     returns-7
-    returns-8)
+    returns-8
+    returns-9
+    returns-10)

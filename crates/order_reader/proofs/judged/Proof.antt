@@ -13,14 +13,15 @@ use denote.Ref.{now}
 use lib.ListN.{length, drop}
 use native.Mathlib.Omega.{arith}
 use Prim.Native.Nat.{ℕ, _+_, _≤_}
-use mathlib.Core.Path.{sym, ap, _∙_}
+use mathlib.Core.Bool.{Bool}
+use mathlib.Core.Path.{sym, ap, ap₂, _∙_}
 use borrow.Author.Needs.{needs}
 use Rattle.order_reader.proofs.judged.Statement.{statement}
 use Rattle.order_reader.proofs.judged.Tie as tie
 
 -- where the function starts, and that the message has its fixed part
 abbrev start-of : tie.After-struct-known → tie.Start
-start-of k = k .before .before .before
+start-of k = k .before .before .before .before
 
 long : (s : tie.Start) → 10 ≤ length (now (s .args .m))
 long s = omega (arith, s .pre .1, count-bounds (s .args .message) .low)
@@ -69,6 +70,9 @@ returns-2 c =
     ∙ ap (λ (n : ℕ). told notSelected (n + start-of (required .before .before) .args .count)) (at .count-at2 .ensures)
     ∙ rw (eq-eqb _ _ (required .before .if1 .left), sym (required .has-required .ensures) ∙ not-true _ (at .before .if2 .taken))
 
+add-if3 : tie.Need-add-if3
+add-if3 c = search needs
+
 wrong-total-requires : tie.Need-wrong-total-requires
 wrong-total-requires c κs = search needs
 
@@ -91,25 +95,29 @@ part-fixed-wrong-end c = search needs
 fixed-wrong-requires : tie.Need-fixed-wrong-requires
 fixed-wrong-requires c κs = search needs
 
+middle-good-requires : tie.Need-middle-good-requires
+middle-good-requires c κs = search needs
+
 value-refusal-requires : tie.Need-value-refusal-requires
 value-refusal-requires c κs =
-    let else = c .before .before in
+    let fixed = c .before in
+    let else = fixed .before .before in
     let start = start-of (else .before .before .before .before .before) in
     let a = start .args in
-    let fixed = drop 10 (now (a .m)) in
-    let e = c .fixed-wrong .ensures ∙ ap (fixedWrong (a .message)) (tail-is (now (a .m)) 10 (long start)) in
-    (omega (arith, e, fixed-within (a .message) fixed, count-bounds (a .message) .high), start .pre .3 (else .if3 .left))
+    let e = fixed .fixed-wrong .ensures ∙ ap (fixedWrong (a .message)) (tail-is (now (a .m)) 10 (long start)) in
+    (omega (arith, e, fixed-within (a .message) (drop 10 (now (a .m))), count-bounds (a .message) .high), start .pre .4, start .pre .5 (else .if3 .left))
 
 returns-4 : tie.Need-returns-4
 unfolding judgedOf
 returns-4 c =
-    let fixed = c .before in
+    let good = c .before in
+    let fixed = good .before in
     let else = fixed .before .before in
     let required = else .before .before .before in
     let start = start-of (required .before .before) in
     let a = start .args in
     c .value-refusal .ensures
-    ∙ ap (λ (f : ℕ). valueRefusal (countAt (a .message) + a .count) f (a .t .wrong)) (fixed .fixed-wrong .ensures ∙ ap (fixedWrong (a .message)) (tail-is (now (a .m)) 10 (long start)))
+    ∙ ap₂ (λ (f : ℕ) (g : Bool). valueRefusal (countAt (a .message) + a .count) f g (a .size) (a .t .wrong)) (fixed .fixed-wrong .ensures ∙ ap (fixedWrong (a .message)) (tail-is (now (a .m)) 10 (long start))) (good .middle-good .ensures)
     ∙ rw (eq-eqb _ _ (required .before .if1 .left), sym (required .has-required .ensures) ∙ not-false _ (else .before .before .if2 .left), eq-eqb _ _ (else .if3 .left))
 
 pub judged-spec : {M : Type 1} → statement M
@@ -125,11 +133,13 @@ judged-spec =
     add-last
     told-requires-2
     returns-2
+    add-if3
     wrong-total-requires
     returns-3
     sub-fixed-wrong
     part-fixed-wrong-start
     part-fixed-wrong-end
     fixed-wrong-requires
+    middle-good-requires
     value-refusal-requires
     returns-4)

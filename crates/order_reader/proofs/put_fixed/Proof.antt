@@ -1,4 +1,5 @@
-use Rattle.orders.specs.OrderLaws.{in-new-order, in-cancel-order, in-acknowledgment, in-execution, in-others}
+-- `order_reader::put_fixed` meets its contract: in each arm the place of the count is the type's. Assumes nothing.
+use Rattle.orders.specs.OrderLaws.{in-new-order, in-cancel-order, in-acknowledgment, in-execution, in-modify-order, in-purge-orders, in-others}
 use Rattle.numbers.specs.Numbers.{patched}
 use Rattle.block.specs.Slots.{zeros}
 use native.Mathlib.Omega.{arith}
@@ -10,27 +11,30 @@ use mathlib.Core.Path.{sym, ap, _∙_}
 use borrow.Author.Needs.{needs}
 use Rattle.order_reader.proofs.put_fixed.Statement.{statement}
 use Rattle.order_reader.proofs.put_fixed.Tie as tie
-use Rattle.order_reader.proofs.put_fixed.Reads as reads
-use Rattle.order_reader.proofs.put_fixed.Lts as lts
-use Rattle.order_reader.proofs.put_up_to.Reads as put-up-to-reads
 use Rattle.block.specs.Sizes.{fixedEnd}
 
 put-up-to-requires : tie.Need-put-up-to-requires
-put-up-to-requires c κs = (omega (arith, c .before .before .before .before .pre .0, in-new-order _ ((c .before) .match .keys1)), omega arith, omega arith, c .before .before .before .before .pre .1)
+put-up-to-requires c κs = (omega (arith, c .before .before .before .before .pre .0, in-new-order _ (c .before .match .keys1)), omega arith, omega arith, c .before .before .before .before .pre .1)
 
 put-up-to-requires-2 : tie.Need-put-up-to-requires-2
-put-up-to-requires-2 c κs = (omega (arith, c .before .before .before .before .pre .0, in-cancel-order _ ((c .before) .match .keys2)), omega arith, omega arith, c .before .before .before .before .pre .1)
+put-up-to-requires-2 c κs = (omega (arith, c .before .before .before .before .pre .0, in-cancel-order _ (c .before .match .keys2)), omega arith, omega arith, c .before .before .before .before .pre .1)
 
 put-up-to-requires-3 : tie.Need-put-up-to-requires-3
-put-up-to-requires-3 c κs = (omega (arith, c .before .before .before .before .pre .0, in-acknowledgment _ ((c .before) .match .keys3)), omega arith, omega arith, c .before .before .before .before .pre .1)
+put-up-to-requires-3 c κs = (omega (arith, c .before .before .before .before .pre .0, in-acknowledgment _ (c .before .match .keys3)), omega arith, omega arith, c .before .before .before .before .pre .1)
 
 put-up-to-requires-4 : tie.Need-put-up-to-requires-4
-put-up-to-requires-4 c κs = (omega (arith, c .before .before .before .before .pre .0, in-execution _ ((c .before) .match .keys4)), omega arith, omega arith, c .before .before .before .before .pre .1)
+put-up-to-requires-4 c κs = (omega (arith, c .before .before .before .before .pre .0, in-execution _ (c .before .match .keys4)), omega arith, omega arith, c .before .before .before .before .pre .1)
 
 put-up-to-requires-5 : tie.Need-put-up-to-requires-5
-put-up-to-requires-5 c κs =
+put-up-to-requires-5 c κs = (omega (arith, c .before .before .before .before .pre .0, in-modify-order _ (c .before .match .keys5)), omega arith, omega arith, c .before .before .before .before .pre .1)
+
+put-up-to-requires-6 : tie.Need-put-up-to-requires-6
+put-up-to-requires-6 c κs = (omega (arith, c .before .before .before .before .pre .0, in-purge-orders _ (c .before .match .keys6)), omega arith, omega arith, c .before .before .before .before .pre .1)
+
+put-up-to-requires-7 : tie.Need-put-up-to-requires-7
+put-up-to-requires-7 c κs =
     let r = c .before .match .rest in
-    (omega (arith, c .before .before .before .before .pre .0, in-others _ (r .0 .0 .0 .1) (r .0 .0 .1) (r .0 .1) (r .1)), omega arith, omega arith, c .before .before .before .before .pre .1)
+    (omega (arith, c .before .before .before .before .pre .0, in-others _ (r .0 .0 .0 .0 .0 .1) (r .0 .0 .0 .0 .1) (r .0 .0 .0 .1) (r .0 .0 .1) (r .0 .1) (r .1)), omega arith, omega arith, c .before .before .before .before .pre .1)
 
 same-length : tie.Need-same-length
 same-length c = search needs
@@ -75,8 +79,26 @@ returns-5 : tie.Need-returns-5
 returns-5 c =
     let arm = c .before .before .before .before in
     let a = arm .before .before .before .args in
+    c .before .before .put-up-to5 .ensures ∙ ap (λ (n : ℕ). patched (now (a .tail)) 0 (take (n - 10) (drop 10 (now (a .m))) ++ zeros (fixedEnd - n))) (sym (in-modify-order _ (arm .match .keys5)))
+
+same-length-6 : tie.Need-same-length-6
+same-length-6 c = search needs
+
+returns-6 : tie.Need-returns-6
+returns-6 c =
+    let arm = c .before .before .before .before in
+    let a = arm .before .before .before .args in
+    c .before .before .put-up-to6 .ensures ∙ ap (λ (n : ℕ). patched (now (a .tail)) 0 (take (n - 10) (drop 10 (now (a .m))) ++ zeros (fixedEnd - n))) (sym (in-purge-orders _ (arm .match .keys6)))
+
+same-length-7 : tie.Need-same-length-7
+same-length-7 c = search needs
+
+returns-7 : tie.Need-returns-7
+returns-7 c =
+    let arm = c .before .before .before .before in
+    let a = arm .before .before .before .args in
     let r = arm .match .rest in
-    c .before .before .put-up-to5 .ensures ∙ ap (λ (n : ℕ). patched (now (a .tail)) 0 (take (n - 10) (drop 10 (now (a .m))) ++ zeros (fixedEnd - n))) (sym (in-others _ (r .0 .0 .0 .1) (r .0 .0 .1) (r .0 .1) (r .1)))
+    c .before .before .put-up-to7 .ensures ∙ ap (λ (n : ℕ). patched (now (a .tail)) 0 (take (n - 10) (drop 10 (now (a .m))) ++ zeros (fixedEnd - n))) (sym (in-others _ (r .0 .0 .0 .0 .0 .1) (r .0 .0 .0 .0 .1) (r .0 .0 .0 .1) (r .0 .0 .1) (r .0 .1) (r .1)))
 
 pub put-fixed-spec : {M : Type 1} → statement M
 put-fixed-spec =
@@ -87,6 +109,8 @@ put-fixed-spec =
     put-up-to-requires-3
     put-up-to-requires-4
     put-up-to-requires-5
+    put-up-to-requires-6
+    put-up-to-requires-7
     same-length
     returns
     same-length-2
@@ -96,4 +120,8 @@ put-fixed-spec =
     same-length-4
     returns-4
     same-length-5
-    returns-5)
+    returns-5
+    same-length-6
+    returns-6
+    same-length-7
+    returns-7)

@@ -1,20 +1,19 @@
--- `order_reader::put_front` meets its contract: the head, and in the tail after it the fixed part, the count and the bitfields. Assumes nothing.
+-- `order_reader::put_front` meets its contract: the head, and in the tail after it the fixed part, the middle, the count and the bitfields. Assumes nothing.
 use Rattle.numbers.proofs.Tail.{puts-then}
 use Rattle.numbers.specs.Numbers.{bytesOf, patched}
 use Rattle.block.specs.Slots.{zeros}
-use Rattle.orders.specs.Shapes.{countAt}
-use Rattle.order_reader.specs.Stages.{frontBytes}
+use Rattle.order_reader.specs.Stages.{keptBytes, frontBytes}
 use Rattle.order_reader.proofs.Fronts.{body-long}
 use mathlib.Core.Path.{refl, ap₂, _∙_}
 use mathlib.Core.List.{_∷_, _++_}
 use Prim.Native.Nat.{ℕ, _-_}
-use lib.ListN.{length, take, drop}
+use lib.ListN.{length}
 use native.Mathlib.Omega.{arith}
 use denote.Ref.{now}
+use Rattle.block.specs.Sizes.{mostBitfields}
 use borrow.Author.Needs.{needs}
 use Rattle.order_reader.proofs.put_front.Statement.{statement}
 use Rattle.order_reader.proofs.put_front.Tie as tie
-use Rattle.block.specs.Sizes.{fixedEnd, mostBitfields}
 
 unit-of-requires : tie.Need-unit-of-requires
 unit-of-requires c κs = search needs
@@ -43,14 +42,15 @@ same-length c = search needs
 returns : tie.Need-returns
 unfolding frontBytes
 returns c =
-    let headed = c .before .before .before .before .before .before in
+    let put = c .before .before in
+    let headed = put .before .before .before .before in
     let numbered = headed .before .before in
     let united = numbered .before in
-    let start = united .before .before .before .before in
+    let start = united .before .before .before .before .before in
     let a = start .args in
-    let n = body-long (now (a .m)) (a .message) (a .count) (now (a .bits)) (start .pre .0) (start .pre .1) in
-    let body = (take (countAt (a .message) - 10) (drop 10 (now (a .m))) ++ zeros (fixedEnd - countAt (a .message))) ++ (a .count ∷ (now (a .bits) ++ zeros (mostBitfields - length (now (a .bits))))) in
-    puts-then (now (a .buffer)) _ (a .message ∷ united .unit-of .result ∷ bytesOf 4 (numbered .number-of .result)) body 6 refl (omega (arith, n, start .pre .2)) (headed .put-head .ensures) (c .before .before .put-body .ensures)
+    let n = body-long (now (a .m)) (a .message) (a .count) (now (a .bits)) (now (a .rest)) (start .pre .0) (start .pre .2) (start .pre .3) (start .pre .1) in
+    let body = keptBytes (now (a .m)) (a .message) (a .count) (now (a .bits)) (now (a .rest)) ++ (a .count ∷ (now (a .bits) ++ zeros (mostBitfields - length (now (a .bits))))) in
+    puts-then (now (a .buffer)) _ (a .message ∷ united .unit-of .result ∷ bytesOf 4 (numbered .number-of .result)) body 6 refl (omega (arith, n, start .pre .4)) (headed .put-head .ensures) (put .put-body .ensures)
     ∙ ap₂ (λ (u i : ℕ). patched (now (a .buffer)) 0 ((a .message ∷ u ∷ bytesOf 4 i) ++ body)) (united .unit-of .ensures) (numbered .number-of .ensures)
 
 pub put-front-spec : {M : Type 1} → statement M

@@ -36,7 +36,8 @@ put-there-requires c κs =
     let there = counted .before .count-at .ensures in
     let typed = counted .before .before .type-of .ensures in
     let k = good-head m _ _ _ (head-good m z) typed there (counted .byte-at .ensures) in
-    (k .at-least, k .fits, k .few, there, total-there m (head-good m z) _ _ _ typed there (counted .byte-at .ensures) z, start .pre)
+    let whole = total-there m (head-good m z) _ _ _ typed there (counted .byte-at .ensures) z in
+    (k .at-least, k .fits, k .few, there, whole .0, whole .1, start .pre)
 
 same-length : tie.Need-same-length
 same-length c = search needs

@@ -1,17 +1,19 @@
--- `order_writer::fixed_blank` meets its contract: in each arm the bytes that are not used are those after the literal place, in two windows.
--- Assumes nothing.
-use Rattle.kinds.specs.Kinds.{allNul}
-use Rattle.orders.specs.OrderLaws.{in-new-order, in-cancel-order, in-acknowledgment, in-execution, in-others}
-use Rattle.order_writer.proofs.Windows.{windows-from}
+-- `order_writer::fixed_blank` meets its contract: in each arm the bytes that are not used are those after the literal place, in two windows; a Purge
+-- Orders alone has a middle. Assumes nothing.
+use mathlib.Core.Path.{sym, ap, _∙_}
+use Prim.Native.Nat.{ℕ, _-_}
 use native.Mathlib.Omega.{arith}
 use lib.ListN.{drop, drop-of-length-le}
 use denote.Ref.{now}
-use Prim.Native.Nat.{ℕ, _-_}
-use mathlib.Core.Path.{sym, ap, _∙_}
+use Rattle.kinds.specs.Kinds.{allNul}
+use Rattle.block.specs.Sizes.{fixedSize}
+use Rattle.orders.specs.Shapes.{countAt}
+use Rattle.orders.specs.Middle.{middleSize, middleGood}
+use Rattle.orders.specs.OrderLaws.{in-new-order, in-cancel-order, in-acknowledgment, in-execution, in-modify-order, in-others}
+use Rattle.order_writer.proofs.Held.{unused-is, unused-windows}
 use borrow.Author.Needs.{needs}
 use Rattle.order_writer.proofs.fixed_blank.Statement.{statement}
 use Rattle.order_writer.proofs.fixed_blank.Tie as tie
-use Rattle.block.specs.Sizes.{fixedSize}
 
 sub-two-blank : tie.Need-sub-two-blank
 sub-two-blank c = search needs
@@ -97,40 +99,77 @@ part-two-blank-end-8 c = search needs
 two-blank-requires-4 : tie.Need-two-blank-requires-4
 two-blank-requires-4 c κs = search needs
 
+sub-two-blank-9 : tie.Need-sub-two-blank-9
+sub-two-blank-9 c = search needs
+
+part-two-blank-start-9 : tie.Need-part-two-blank-start-9
+part-two-blank-start-9 c = search needs
+
+part-two-blank-end-9 : tie.Need-part-two-blank-end-9
+part-two-blank-end-9 c = search needs
+
+sub-two-blank-10 : tie.Need-sub-two-blank-10
+sub-two-blank-10 c = search needs
+
+part-two-blank-start-10 : tie.Need-part-two-blank-start-10
+part-two-blank-start-10 c = search needs
+
+part-two-blank-end-10 : tie.Need-part-two-blank-end-10
+part-two-blank-end-10 c = search needs
+
+two-blank-requires-5 : tie.Need-two-blank-requires-5
+two-blank-requires-5 c κs = search needs
+
+purge-blank-requires : tie.Need-purge-blank-requires
+unfolding countAt
+purge-blank-requires c κs =
+    let start = c .before .before .before in
+    let a = start .args in
+    (start .pre .0, ap (λ (t : ℕ). middleGood t (a .count) (now (a .bits)) (drop (countAt t - 10) (now (a .fixed)))) (sym (c .match .keys6)) ∙ start .pre .1)
+
 returns : tie.Need-returns
 returns c =
     let arm = c .before .before .before in
-    let start = arm .before .before in
-    let s = now (start .args .fixed) in
-    c .two-blank .ensures ∙ windows-from 25 64 74 16 s (start .pre) (omega arith) (omega arith) ∙ ap (λ (n : ℕ). allNul (drop (n - 10) s)) (sym (in-new-order _ (arm .match .keys1)))
+    let e = arm .match .keys1 in
+    c .two-blank .ensures ∙ unused-windows _ _ _ _ 25 64 74 16 (arm .before .before .before .pre .0) (omega arith) (omega arith) (λ z. omega (arith, e, z)) (in-new-order _ e)
 
 returns-2 : tie.Need-returns-2
 returns-2 c =
     let arm = c .before .before .before in
-    let start = arm .before .before in
-    let s = now (start .args .fixed) in
-    c .two-blank2 .ensures ∙ windows-from 20 64 74 16 s (start .pre) (omega arith) (omega arith) ∙ ap (λ (n : ℕ). allNul (drop (n - 10) s)) (sym (in-cancel-order _ (arm .match .keys2)))
+    let e = arm .match .keys2 in
+    c .two-blank2 .ensures ∙ unused-windows _ _ _ _ 20 64 74 16 (arm .before .before .before .pre .0) (omega arith) (omega arith) (λ z. omega (arith, e, z)) (in-cancel-order _ e)
 
 returns-3 : tie.Need-returns-3
 returns-3 c =
     let arm = c .before .before .before in
-    let start = arm .before .before in
-    let s = now (start .args .fixed) in
-    c .two-blank3 .ensures ∙ windows-from 37 32 58 32 s (start .pre) (omega arith) (omega arith) ∙ ap (λ (n : ℕ). allNul (drop (n - 10) s)) (sym (in-acknowledgment _ (arm .match .keys3)))
+    let e = arm .match .keys3 in
+    c .two-blank3 .ensures ∙ unused-windows _ _ _ _ 37 32 58 32 (arm .before .before .before .pre .0) (omega arith) (omega arith) (λ z. omega (arith, e, z)) (in-acknowledgment _ e)
 
 returns-4 : tie.Need-returns-4
 returns-4 c =
     let arm = c .before .before .before in
-    let start = arm .before .before in
-    let s = now (start .args .fixed) in
-    c .two-blank4 .ensures ∙ windows-from 59 16 74 16 s (start .pre) (omega arith) (omega arith) ∙ ap (λ (n : ℕ). allNul (drop (n - 10) s)) (sym (in-execution _ (arm .match .keys4)))
+    let e = arm .match .keys4 in
+    c .two-blank4 .ensures ∙ unused-windows _ _ _ _ 59 16 74 16 (arm .before .before .before .pre .0) (omega arith) (omega arith) (λ z. omega (arith, e, z)) (in-execution _ e)
 
 returns-5 : tie.Need-returns-5
 returns-5 c =
-    let start = c .before .before in
-    let s = now (start .args .fixed) in
+    let arm = c .before .before .before in
+    let e = arm .match .keys5 in
+    c .two-blank5 .ensures ∙ unused-windows _ _ _ _ 40 32 58 32 (arm .before .before .before .pre .0) (omega arith) (omega arith) (λ z. omega (arith, e, z)) (in-modify-order _ e)
+
+returns-6 : tie.Need-returns-6
+unfolding countAt
+returns-6 c =
+    let arm = c .before in
+    let a = arm .before .before .before .args in
+    c .purge-blank .ensures ∙ ap (λ (t : ℕ). allNul (drop (middleSize t (a .count) (now (a .bits)) (drop (countAt t - 10) (now (a .fixed)))) (drop (countAt t - 10) (now (a .fixed))))) (sym (arm .match .keys6))
+
+returns-7 : tie.Need-returns-7
+returns-7 c =
+    let start = c .before .before .before in
+    let a = start .args in
     let r = c .match .rest in
-    sym (ap (λ (n : ℕ). allNul (drop (n - 10) s)) (in-others _ (r .0 .0 .0 .1) (r .0 .0 .1) (r .0 .1) (r .1)) ∙ ap allNul (drop-of-length-le s {i = fixedSize} (omega (arith, start .pre))))
+    sym (unused-is _ (a .count) (now (a .fixed)) (now (a .bits)) (r .1) (in-others _ (r .0 .0 .0 .0 .0 .1) (r .0 .0 .0 .0 .1) (r .0 .0 .0 .1) (r .0 .0 .1) (r .0 .1) (r .1)) ∙ ap allNul (drop-of-length-le (now (a .fixed)) {i = fixedSize} (omega (arith, start .pre .0))))
 
 pub fixed-blank-spec : {M : Type 1} → statement M
 fixed-blank-spec =
@@ -164,8 +203,18 @@ fixed-blank-spec =
     part-two-blank-start-8
     part-two-blank-end-8
     two-blank-requires-4
+    sub-two-blank-9
+    part-two-blank-start-9
+    part-two-blank-end-9
+    sub-two-blank-10
+    part-two-blank-start-10
+    part-two-blank-end-10
+    two-blank-requires-5
+    purge-blank-requires
     returns
     returns-2
     returns-3
     returns-4
-    returns-5)
+    returns-5
+    returns-6
+    returns-7)

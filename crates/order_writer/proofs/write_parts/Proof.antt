@@ -1,26 +1,30 @@
--- `order_writer::write_parts` meets its contract. Assumes nothing.
+-- `order_writer::write_parts` meets its contract: where nothing is refused by what was seen, the middle is good, so that the message is small. Assumes
+-- nothing.
 use Rattle.order_writer.specs.Stages.{topRefusal, recordFrom}
-use Rattle.order_writer.proofs.Writing.{count-fits, bad-near, wrong-near, seen-stops, room-decides, size-is, total-small, buffer-kept, buffer-written, bytes-are, top-stops}
+use Rattle.order_writer.proofs.Held.{middle-held}
+use Rattle.order_writer.proofs.Writing.{count-fits, seen-middle, bad-near, wrong-near, seen-stops, room-decides, size-is, total-small, buffer-kept, buffer-written, bytes-are, top-stops}
 use Rattle.refusals.specs.Names.{noRoom}
 use Rattle.numbers.specs.Numbers.{patched}
 use Rattle.numbers.specs.NumberLaws.{patched-whole}
 use Rattle.block_write.specs.State.{looking, unseen, lookWalk}
-use Rattle.orders.specs.Orders.{writeSlots, sizeOf, writeRefusal}
-use Rattle.orders.specs.OrderLaws.{count-bounds}
+use Rattle.orders.specs.Shapes.{countAt}
+use Rattle.orders.specs.Middle.{middleGood}
+use Rattle.orders.specs.Orders.{writeSlots, writeRest, sizeOf, writeRefusal}
+use Rattle.orders.specs.OrderLaws.{middle-fits}
 use Rattle.orders.specs.declared.Record.{Record}
 use denote.Ref.{now}
 use lib.Dec.{ltb}
-use lib.ListN.{length}
+use lib.ListN.{length, drop}
 use borrow.Author.Tests.{lt-ltb, le-ltb}
 use native.Mathlib.Omega.{arith}
-use Prim.Native.Nat.{ℕ, _+_, _≤_}
-use mathlib.Core.Bool.{Bool, cond}
+use Prim.Native.Nat.{ℕ, _-_, _≤_}
+use mathlib.Core.Bool.{Bool, true, cond}
 use mathlib.Core.List.{List}
 use mathlib.Core.Path.{_≡_, refl, sym, ap, _∙_}
+use Rattle.block.specs.Sizes.{allPlaces, layoutSize, mostBitfields}
 use borrow.Author.Needs.{needs}
 use Rattle.order_writer.proofs.write_parts.Statement.{statement}
 use Rattle.order_writer.proofs.write_parts.Tie as tie
-use Rattle.block.specs.Sizes.{allPlaces, fixedEnd, layoutSize, mostBitfields}
 
 -- a layout copied over zeros
 whole-layout : (v z : List ℕ) → length z ≡ layoutSize → length v ≡ layoutSize → patched z 0 v ≡ v
@@ -53,6 +57,9 @@ looked-at c =
     let copied = c .before .before .before in
     c .look-all .ensures ∙ ap (λ (l : List ℕ). lookWalk (a .message) (a .count) (now (a .bits)) allPlaces 0 (unseen l)) (copied .copy-layout .ensures ∙ whole-layout (now (a .slots)) _ refl (start .pre .1))
 
+few-bytes : (c : tie.After-look-all) → c .look-all .result .total ≤ layoutSize
+few-bytes c = total-small (parts (start-of c)) (c .look-all .result) _ (start-of c .pre .1) (looked-at c)
+
 -- what was looked at, before what was seen of it was judged
 abbrev look-of : tie.After-seen-refusal → tie.After-look-all
 look-of c = c .before .before .before
@@ -64,19 +71,29 @@ decided c =
     let start = start-of look in
     room-decides (parts start) (look .look-all .result) _ (start .pre .1) (looked-at look) (length (now (start .args .out))) (top-zero (past-top look)) (sym (c .before .seen-refusal .ensures) ∙ c .if2 .left)
 
+-- and the middle is good
+abbrev middle : tie.Start → Bool
+middle c = let a = c .args in middleGood (a .message) (a .count) (now (a .bits)) (drop (countAt (a .message) - 10) (now (a .fixed)))
+
+good : (c : tie.Else2) → middle (start-of (look-of (c .before))) ≡ true
+good c =
+    let look = look-of (c .before) in
+    let a = start-of look .args in
+    seen-middle (a .message) (a .count) (now (a .fixed)) (now (a .bits)) (now (a .slots)) _ (look .look-all .result) (sym (c .before .seen-refusal .ensures) ∙ c .if2 .left)
+
 -- the size
-size : (c : tie.After-count-at) → c .count-at .result + 1 + start-of (look-of (c .before .before)) .args .count + look-of (c .before .before) .look-all .result .total ≡ sizeOf (parts (start-of (look-of (c .before .before))))
+size : (c : tie.After-size-of) → c .size-of .result ≡ sizeOf (parts (start-of (look-of (c .before .before))))
 size c =
     let look = look-of (c .before .before) in
     let start = start-of look in
-    size-is (parts start) (look .look-all .result) _ (start .pre .1) (looked-at look) (c .count-at .ensures)
+    size-is (parts start) (look .look-all .result) _ (start .pre .1) (looked-at look) (c .size-of .ensures)
 
-small : (c : tie.After-count-at) → (c .count-at .result ≤ fixedEnd) × (start-of (look-of (c .before .before)) .args .count ≤ mostBitfields) × (look-of (c .before .before) .look-all .result .total ≤ layoutSize)
+small : (c : tie.After-size-of) → c .size-of .result ≤ 2048
 small c =
     let look = look-of (c .before .before) in
-    let start = start-of look in
-    let at = count-bounds (start .args .message) .high in
-    (omega (arith, at, c .count-at .ensures), few (past-top look), total-small (parts start) (look .look-all .result) _ (start .pre .1) (looked-at look))
+    let a = start-of look .args in
+    let fits = middle-fits (a .message) (a .count) (now (a .bits)) (drop (countAt (a .message) - 10) (now (a .fixed))) (good (c .before)) in
+    omega (arith, c .size-of .ensures, fits, few (past-top look), few-bytes look)
 
 top-refusal-requires : tie.Need-top-refusal-requires
 top-refusal-requires c κs = search needs
@@ -113,11 +130,12 @@ seen-refusal-requires : tie.Need-seen-refusal-requires
 seen-refusal-requires c κs =
     let look = c .before .before in
     let start = start-of look in
-    let near = bad-near (parts start) (look .look-all .result) _ (start .pre .1) (looked-at look) in
-    let close = wrong-near (parts start) (look .look-all .result) _ (start .pre .1) (looked-at look) in
+    let p = start .pre in
+    let near = bad-near (parts start) (look .look-all .result) _ (p .1) (looked-at look) in
+    let close = wrong-near (parts start) (look .look-all .result) _ (p .1) (looked-at look) in
     let copied = look .before .before .before in
-    let long = look .look-all .kept .1 .1 .1 .0 ∙ ap length (copied .copy-layout .ensures ∙ whole-layout (now (start .args .slots)) _ refl (start .pre .1)) ∙ start .pre .1 in
-    (start .pre .0, start .pre .2, few (past-top look), near, close, long)
+    let long = look .look-all .kept .1 .1 .1 .0 ∙ ap length (copied .copy-layout .ensures ∙ whole-layout (now (start .args .slots)) _ refl (p .1)) ∙ p .1 in
+    (p .0, p .2, few (past-top look), near, close, p .1, long)
 
 returns-2 : tie.Need-returns-2
 returns-2 c =
@@ -129,36 +147,29 @@ returns-2 c =
     let e = seen .ensures ∙ stops in
     (e, buffer-kept (parts start) (now (a .out)) e (c .if2 .taken))
 
-count-at-requires : tie.Need-count-at-requires
-count-at-requires c κs = search needs
-
-add-size : tie.Need-add-size
-add-size c = omega (arith, small c .0)
-
-add-size-2 : tie.Need-add-size-2
-add-size-2 c = omega (arith, small c .0, small c .1)
-
-add-size-3 : tie.Need-add-size-3
-add-size-3 c = omega (arith, small (c .before) .0, small (c .before) .1, small (c .before) .2)
+size-of-requires : tie.Need-size-of-requires
+size-of-requires c κs =
+    let look = look-of (c .before) in
+    (start-of look .pre .0, few-bytes look)
 
 returns-3 : tie.Need-returns-3
 returns-3 c =
-    let at = c .before .before in
-    let start = start-of (look-of (at .before .before)) in
+    let sized = c .before in
+    let start = start-of (look-of (sized .before .before)) in
     let a = start .args in
-    let n = size at in
     let e : 13 ≡ writeRefusal (parts start) (length (now (a .out))) =
-    sym (decided (at .before) ∙ ap (λ (b : Bool). cond b noRoom 0) (lt-ltb (length (now (a .out))) (sizeOf (parts start)) (omega (arith, n, c .if3 .taken)))) in
+    sym (decided (sized .before) ∙ ap (λ (b : Bool). cond b noRoom 0) (lt-ltb (length (now (a .out))) (sizeOf (parts start)) (omega (arith, size sized, c .if3 .taken)))) in
     (e, buffer-kept (parts start) (now (a .out)) e (λ z. omega (arith, z)))
 
 put-order-requires : tie.Need-put-order-requires
-unfolding sizeOf writeSlots
+unfolding sizeOf writeSlots writeRest
 put-order-requires c κs =
-    let at = c .before .before .before in
-    let start = start-of (look-of (at .before .before)) in
-    let n = size at in
-    let s = small at in
-    (s .1, start .pre .0, start .pre .1, start .pre .2, n, c .before .if3 .left, omega (arith, s .0, s .1, s .2))
+    let sized = c .before .before in
+    let look = look-of (sized .before .before) in
+    let start = start-of look in
+    let a = start .args in
+    let p = start .pre in
+    (few (past-top look), p .0, p .1, p .2, middle-held (a .message) (a .count) (now (a .fixed)) (now (a .bits)) (p .0) (good (sized .before)), size sized, c .before .if3 .left, small sized)
 
 same-length : tie.Need-same-length
 same-length c = search needs
@@ -167,13 +178,12 @@ returns-4 : tie.Need-returns-4
 returns-4 c =
     let put = c .before .before in
     let else = put .before .before in
-    let at = else .before .before in
-    let start = start-of (look-of (at .before .before)) in
+    let sized = else .before in
+    let start = start-of (look-of (sized .before .before)) in
     let a = start .args in
-    let n = size at in
     let z : writeRefusal (parts start) (length (now (a .out))) ≡ 0 =
-    decided (at .before) ∙ ap (λ (b : Bool). cond b noRoom 0) (le-ltb (length (now (a .out))) (sizeOf (parts start)) (omega (arith, n, else .if3 .left))) in
-    (sym z, buffer-written (parts start) (now (a .out)) z (put .put-order .ensures ∙ ap (patched (now (a .out)) 0) (bytes-are (parts start) n)))
+    decided (sized .before) ∙ ap (λ (b : Bool). cond b noRoom 0) (le-ltb (length (now (a .out))) (sizeOf (parts start)) (omega (arith, size sized, else .if3 .left))) in
+    (sym z, buffer-written (parts start) (now (a .out)) z (put .put-order .ensures ∙ ap (patched (now (a .out)) 0) (bytes-are (parts start) (size sized))))
 
 pub write-parts-spec : {M : Type 1} → statement M
 write-parts-spec =
@@ -188,10 +198,7 @@ write-parts-spec =
     slice-aggregate-seen-refusal
     seen-refusal-requires
     returns-2
-    count-at-requires
-    add-size
-    add-size-2
-    add-size-3
+    size-of-requires
     returns-3
     put-order-requires
     same-length

@@ -14,7 +14,11 @@ returns-2 c = rw (c .match .keys2)
 
 returns-3 : tie.Need-returns-3
 unfolding nameAt
-returns-3 c = simp (ne-eqb _ _ (c .match .rest .1), ne-eqb _ _ (c .match .rest .0 .1))
+returns-3 c = rw (c .match .keys3)
+
+returns-4 : tie.Need-returns-4
+unfolding nameAt
+returns-4 c = simp (ne-eqb _ _ (c .match .rest .1), ne-eqb _ _ (c .match .rest .0 .1), ne-eqb _ _ (c .match .rest .0 .0 .1))
 
 pub name-at-spec : {M : Type 1} → statement M
-name-at-spec = tie.close (tie.spec returns returns-2 returns-3)
+name-at-spec = tie.close (tie.spec returns returns-2 returns-3 returns-4)

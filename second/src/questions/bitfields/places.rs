@@ -1,13 +1,18 @@
 //! Messages with bitfields that are refused with a place. Each count, bitfield and field is the
 //! first that is bad, alone and before others; the place that is told comes from the parts.
 
-use super::sample::{identifier, Sample};
+use super::late::instruct;
+use super::sample::{never_blank, Sample, MODIFY, NEW_ORDER, PURGE};
 use crate::questions::parts::{measure, Parts};
 use crate::questions::values::{spoil, textual};
 use crate::random::Random;
 use crate::rules::frame::HEADER;
-use crate::rules::layout::{self, Layout, Rule};
+use crate::rules::kinds::Kind;
+use crate::rules::layout::{self, Layout, Middle, Rule};
 use std::collections::BTreeSet;
+
+/// The count of a Purge Orders' ids.
+const ID_COUNT: &str = "RiskGroupIDCnt";
 
 /// Samples, each with the place that is told.
 pub type Placed = Vec<(Sample, usize)>;
@@ -18,6 +23,7 @@ pub fn faulty(random: &mut Random, which: usize) -> Placed {
     all.extend(bits(random, which));
     all.extend(missing(random, which));
     all.extend(values(random, which));
+    all.extend(late(random, which));
     all
 }
 
@@ -26,9 +32,17 @@ fn count_place(sample: &Sample) -> usize {
     HEADER + sample.fixed.concat().len()
 }
 
+/// Where the bitfields end.
+fn middle_place(sample: &Sample) -> usize {
+    count_place(sample) + 1 + sample.bitfields.len()
+}
+
 /// Where a field stands; it is selected if it is optional.
 fn place_of(sample: &Sample, name: &str) -> usize {
     let layout = sample.layout;
+    if name == ID_COUNT {
+        return middle_place(sample);
+    }
     if let Some(index) = layout.fixed.iter().position(|field| field.name == name) {
         return HEADER + sample.fixed[..index].concat().len();
     }
@@ -40,13 +54,13 @@ fn place_of(sample: &Sample, name: &str) -> usize {
         .filter(|(field, _)| field.selected(&sample.bitfields))
         .map(|(_, value)| value.len())
         .sum();
-    count_place(sample) + 1 + sample.bitfields.len() + before
+    middle_place(sample) + sample.middle.len() + before
 }
 
 /// Half of the time the message's first field that can be bad is, which is told after 7, 8 and 9.
 fn maybe_bad(random: &mut Random, which: usize, sample: &mut Sample) {
     if random.below(2) == 0 {
-        spoil_field(random, sample, identifier(which));
+        spoil_field(random, sample, never_blank(which));
     }
 }
 
@@ -109,23 +123,87 @@ fn some_bits(random: &mut Random, bits: u8) -> u8 {
     random.pick(&single)
 }
 
-/// 9: each number of bitfields, with choices of the required fields that are too few and have their
-/// bits in them: none, both that are of the first bitfield, and all but one.
+/// Choices of fields that lack what is required whatever the values: none, and all but one.
+fn too_few(which: usize) -> &'static [&'static [&'static str]] {
+    match which {
+        NEW_ORDER => &[
+            &[],
+            &["Price", "OrdType"],
+            &["Capacity", "Price", "OrdType"],
+            &["Symbol", "Price", "OrdType"],
+            &["Symbol", "Capacity"],
+        ],
+        MODIFY => &[
+            &[],
+            &["Price"],
+            &["OrdType"],
+            &["Price", "OrdType"],
+            &["OrderQty"],
+            &["OrderQty", "Side", "StopPx"],
+        ],
+        PURGE => &[
+            &[],
+            &["ClearingFirm", "MassCancelID"],
+            &["Symbol", "MatchingUnit"],
+        ],
+        _ => &[],
+    }
+}
+
+/// 9: each number of bitfields, with too few fields that have their bits in them.
 pub fn missing(random: &mut Random, which: usize) -> Placed {
     let layout = &layout::ALL[which];
     let mut all = Vec::new();
-    if layout.required.is_empty() {
-        return all;
-    }
     for count in 0..=layout.most {
-        for choice in [0b0000, 0b1100, 0b1110, 0b1101, 0b0011] {
+        for names in too_few(which) {
             let mut sample = Sample::least(random, which);
             sample.clear();
-            sample.select_required(choice);
+            names.iter().for_each(|name| sample.select(name));
             if sample.bitfields.len() > count {
                 continue;
             }
             maybe_bad(random, which, &mut sample);
+            sample.lengthen(count);
+            let place = count_place(&sample) + count;
+            all.push((sample, place));
+        }
+    }
+    all
+}
+
+/// The 9 that hangs on a value: each number of bitfields, with each value that asks for a field and
+/// without that field.
+pub fn late(random: &mut Random, which: usize) -> Placed {
+    let mut all = Placed::new();
+    for count in 1..=2 {
+        let mut samples = Vec::new();
+        match which {
+            MODIFY => {
+                for ord_type in [0, b'0', b'2', b'a'] {
+                    let mut sample = Sample::least(random, which);
+                    sample.unselect("Price");
+                    sample.select("OrdType");
+                    *sample.value("OrdType") = vec![ord_type];
+                    samples.push(sample);
+                }
+            }
+            PURGE => {
+                for (characters, name) in [
+                    (b"FMN", "MassCancelID"),
+                    (b"ASN", "ClearingFirm"),
+                    (b"ABL", "ClearingFirm"),
+                    (b"FSL", "ClearingFirm"),
+                    (b"FBN", "MassCancelID"),
+                ] {
+                    let mut sample = Sample::least(random, which);
+                    sample.select(name);
+                    instruct(&mut sample, characters);
+                    samples.push(sample);
+                }
+            }
+            _ => {}
+        }
+        for mut sample in samples {
             sample.lengthen(count);
             let place = count_place(&sample) + count;
             all.push((sample, place));
@@ -164,8 +242,13 @@ fn can_be_bad(layout: &Layout) -> Vec<&'static str> {
         Rule::Quantity => true,
     });
     let listed = layout.listed.iter().filter(|field| textual(field.kind));
+    let middle = match layout.middle {
+        Middle::Nothing => None,
+        Middle::RiskGroups { .. } => Some(ID_COUNT),
+    };
     fixed
         .map(|field| field.name)
+        .chain(middle)
         .chain(listed.map(|field| field.name))
         .collect()
 }
@@ -184,6 +267,11 @@ fn spoiled(random: &mut Random, mut sample: Sample, names: &[&str]) -> (Sample, 
 }
 
 fn spoil_field(random: &mut Random, sample: &mut Sample, name: &str) {
+    if name == ID_COUNT {
+        let count = random.pick(&[11, 12, 40, 255]);
+        sample.put_ids(random, usize::from(count));
+        return;
+    }
     let fixed = sample.layout.fixed.iter().find(|field| field.name == name);
     let kind = match fixed.map(|field| field.rule) {
         Some(Rule::Quantity) => {
@@ -198,6 +286,10 @@ fn spoil_field(random: &mut Random, sample: &mut Sample, name: &str) {
         Some(Rule::Any(kind) | Rule::Filled(kind)) => kind,
         None => sample.field(name).kind,
     };
+    if kind == Kind::FilledText && random.below(4) == 0 {
+        sample.value(name).fill(0);
+        return;
+    }
     spoil(random, kind, sample.value(name));
 }
 
@@ -221,7 +313,7 @@ pub fn totals(random: &mut Random, which: usize) -> Vec<(Vec<u8>, usize)> {
             measure(&mut message);
             all.push((message, end));
             let mut bad = sample.clone();
-            spoil_field(random, &mut bad, identifier(which));
+            spoil_field(random, &mut bad, never_blank(which));
             let mut message = bad.bytes();
             message.resize(end, 0);
             measure(&mut message);
@@ -271,6 +363,14 @@ mod tests {
              EchoText"
         );
         assert_eq!(names(6), "ClOrdID RejectReason Text");
+        assert_eq!(
+            names(7),
+            "ClOrdID OrigClOrdID ClearingFirm OrdType CancelOrigOnReject ExecInst Side LocateBroker"
+        );
+        assert_eq!(
+            names(8),
+            "RiskGroupIDCnt ClearingFirm MassCancelInst MassCancelID Symbol SymbolSfx"
+        );
     }
 
     /// Read and written, each is refused at its place.
@@ -293,6 +393,7 @@ mod tests {
                 check(counts(&mut random, which), Refusal::Count);
                 check(bits(&mut random, which), Refusal::Bit);
                 check(missing(&mut random, which), Refusal::Missing);
+                check(late(&mut random, which), Refusal::Missing);
                 check(values(&mut random, which), Refusal::Value);
                 let direction = layout::ALL[which].direction;
                 for (bytes, end) in totals(&mut random, which) {
@@ -315,6 +416,8 @@ mod tests {
             (4, 101, 119),
             (5, 101, 119),
             (6, 101, 119),
+            (7, 51, 52),
+            (8, 12, 13),
         ] {
             let places = bits(&mut random, which).into_iter();
             let places: BTreeSet<usize> = places.map(|(_, place)| place).collect();
@@ -328,5 +431,13 @@ mod tests {
         let places = missing(&mut random, 0).into_iter();
         let places: BTreeSet<usize> = places.map(|(_, place)| place).collect();
         assert_eq!(places, (35..=45).collect());
+        for (which, first) in [(7, 50), (8, 11)] {
+            let places = missing(&mut random, which).into_iter();
+            let places: BTreeSet<usize> = places.map(|(_, place)| place).collect();
+            assert_eq!(places, (first..=first + 2).collect());
+            let places = late(&mut random, which).into_iter();
+            let places: BTreeSet<usize> = places.map(|(_, place)| place).collect();
+            assert_eq!(places, (first + 1..=first + 2).collect());
+        }
     }
 }

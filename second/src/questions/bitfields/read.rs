@@ -5,8 +5,8 @@ mod order;
 mod values;
 
 use super::sample::{
-    self, Sample, ACKNOWLEDGMENT, CANCEL, CANCEL_REJECTED, EXECUTION, MODIFY_REJECTED, NEW_ORDER,
-    ORDER_REJECTED,
+    self, Sample, ACKNOWLEDGMENT, CANCEL, CANCEL_REJECTED, EXECUTION, MODIFY, MODIFY_REJECTED,
+    NEW_ORDER, ORDER_REJECTED, PURGE,
 };
 use crate::examples;
 use crate::questions::parts::Parts;
@@ -61,6 +61,13 @@ fn from_the_documents(asked: &mut Asked) {
     asked.push((VENUE, examples::order_rejected()));
     asked.push((VENUE, examples::cancel_rejected()));
     asked.push((VENUE, examples::modify_rejected()));
+    asked.push((MEMBER, examples::modify()));
+    asked.push((MEMBER, examples::purge_by_ids()));
+    asked.push((MEMBER, examples::purge_by_symbol()));
+    asked.push((MEMBER, examples::purge_by_ids_with_its_length()));
+    asked.push((MEMBER, examples::purge_by_symbol_with_its_length()));
+    let longer = [examples::purge_by_symbol(), vec![0; 2]].concat();
+    asked.push((MEMBER, longer));
     // P9 and P10 in other forms.
     let mut message = examples::cancel();
     message[30] = 3;
@@ -120,6 +127,8 @@ fn cuts(asked: &mut Asked, random: &mut Random, which: usize) {
         EXECUTION => examples::execution(),
         ORDER_REJECTED => examples::order_rejected(),
         CANCEL_REJECTED => examples::cancel_rejected(),
+        MODIFY => examples::modify(),
+        PURGE => examples::purge_by_ids_with_its_length(),
         _ => examples::modify_rejected(),
     };
     reading::cut_anywhere(asked, direction, &whole);
@@ -129,10 +138,10 @@ fn cuts(asked: &mut Asked, random: &mut Random, which: usize) {
     cut_from(4, &whole);
     let near = layout.count_place() - 1;
     let mut sample = Sample::with_first_field(random, which);
-    sample.value(sample::identifier(which))[0] = b',';
+    sample.spoil_never_blank(0, b',');
     cut_from(near, &sample.bytes());
-    if which == NEW_ORDER {
-        sample.bitfields[1] &= !0x40;
+    if let Some(name) = sample::required_field(which) {
+        sample.unselect(name);
         cut_from(near, &sample.bytes());
     }
     let (byte, bit) = sample::unlisted_bit(which);
@@ -236,6 +245,8 @@ fn random_messages(asked: &mut Asked, random: &mut Random) {
         (ORDER_REJECTED, 170),
         (CANCEL_REJECTED, 80),
         (MODIFY_REJECTED, 30),
+        (MODIFY, 70),
+        (PURGE, 90),
     ];
     reading::any::<Sample>(asked, random, &counts);
     let counts = [
@@ -246,6 +257,8 @@ fn random_messages(asked: &mut Asked, random: &mut Random) {
         (ORDER_REJECTED, 120),
         (CANCEL_REJECTED, 80),
         (MODIFY_REJECTED, 50),
+        (MODIFY, 90),
+        (PURGE, 120),
     ];
     reading::damaged::<Sample>(asked, random, &counts);
 }
@@ -259,11 +272,14 @@ mod tests {
     fn each_type_gets_each_answer() {
         let seen = judged::reads(&messages());
         for layout in &layout::ALL {
-            let numbers: &[u8] = match layout.required.is_empty() {
-                true => &[0, 1, 2, 3, 4, 5, 6, 7, 8, 10],
-                false => &[0, 1, 2, 3, 4, 5, 6, 7, 8, 9, 10],
-            };
-            judged::gets_each(&seen, layout.type_byte, numbers);
+            let mut numbers = vec![0, 1, 2, 3, 4, 5, 6, 7, 8, 10];
+            if !layout.required.is_empty() {
+                numbers.push(9);
+            }
+            if layout.type_byte == 0x47 {
+                numbers.push(23);
+            }
+            judged::gets_each(&seen, layout.type_byte, &numbers);
         }
     }
 }

@@ -1,12 +1,14 @@
 //! Messages with bitfields in parts, from which the questions about reading and writing are made.
 
 use super::damage;
+use super::late;
 use crate::questions::parts::Parts;
 use crate::questions::values::{full_value, some_number, some_value};
 use crate::random::Random;
 use crate::rules::desk::HANDED;
-use crate::rules::layout::{self, Layout, Listed, Rule};
+use crate::rules::layout::{self, Layout, Listed, Middle, Rule};
 use crate::rules::record::{COUNT_PLACE, SESSION_SIZE, SIZE, SLOTS_PLACE};
+use crate::rules::types::{CANCEL_ORDER, MODIFY_ORDER, PURGE_ORDERS};
 
 pub const NEW_ORDER: usize = 0;
 pub const CANCEL: usize = 1;
@@ -15,9 +17,13 @@ pub const EXECUTION: usize = 3;
 pub const ORDER_REJECTED: usize = 4;
 pub const CANCEL_REJECTED: usize = 5;
 pub const MODIFY_REJECTED: usize = 6;
+pub const MODIFY: usize = 7;
+pub const PURGE: usize = 8;
 /// How many there are.
 #[cfg(test)]
-pub const TYPES: usize = 7;
+pub const TYPES: usize = 9;
+/// Those that go out as orders.
+pub const ORDERS: [usize; 4] = [NEW_ORDER, CANCEL, MODIFY, PURGE];
 /// Those that are handed to the desk.
 pub const REJECTED: [usize; 3] = [ORDER_REJECTED, CANCEL_REJECTED, MODIFY_REJECTED];
 
@@ -34,6 +40,8 @@ pub struct Sample {
     pub fixed: Vec<Vec<u8>>,
     pub count: u8,
     pub bitfields: Vec<u8>,
+    /// RiskGroupIDCnt and the RiskGroupIDs; nothing where the message has none.
+    pub middle: Vec<u8>,
     /// One value for each listed bit, whether it is set or not.
     pub optional: Vec<Vec<u8>>,
 }
@@ -49,6 +57,7 @@ impl Sample {
             fixed: Vec::new(),
             count: 0,
             bitfields: Vec::new(),
+            middle: Vec::new(),
             optional: Vec::new(),
         };
         for field in layout.fixed {
@@ -62,7 +71,12 @@ impl Sample {
             let value = full_value(random, field.kind, field.width);
             sample.optional.push(value);
         }
+        if layout.middle != Middle::Nothing {
+            let count = random.between(0, 2);
+            sample.put_ids(random, count);
+        }
         sample.require();
+        late::ask_nothing(&mut sample);
         sample
     }
 
@@ -93,10 +107,7 @@ impl Sample {
     /// Sets the first bit of each required group that has none.
     pub fn require(&mut self) {
         for group in self.layout.required {
-            let found = group
-                .iter()
-                .any(|name| self.field(name).selected(&self.bitfields));
-            if !found {
+            if !group.iter().any(|name| self.selects(name)) {
                 self.select(group[0]);
             }
         }
@@ -131,10 +142,42 @@ impl Sample {
         }
     }
 
+    /// All listed fields, with values that go together.
     pub fn select_all(&mut self) {
         for field in self.layout.listed {
             self.set_bit(field.byte, field.bit);
         }
+        late::agree(self);
+    }
+
+    pub fn unselect(&mut self, name: &str) {
+        let field = self.field(name);
+        if let Some(bitfield) = self.bitfields.get_mut(field.byte - 1) {
+            *bitfield &= !field.bit;
+        }
+    }
+
+    pub fn selects(&self, name: &str) -> bool {
+        self.field(name).selected(&self.bitfields)
+    }
+
+    /// RiskGroupIDCnt and so many RiskGroupIDs of any values.
+    pub fn put_ids(&mut self, random: &mut Random, count: usize) {
+        self.middle = vec![count as u8];
+        self.middle.extend(random.bytes(2 * count));
+    }
+
+    /// Makes the field that is never blank bad by its byte at a place, with a byte that identifiers
+    /// do not take. MassCancelInst takes such bytes, and so gets another.
+    pub fn spoil_never_blank(&mut self, place: usize, byte: u8) {
+        let byte = match self.layout.type_byte {
+            PURGE_ORDERS => 0x7F,
+            _ => byte,
+        };
+        let name = never_blank_of(self.layout);
+        let value = self.value(name);
+        let last = value.len() - 1;
+        value[place.min(last)] = byte;
     }
 
     pub fn clear(&mut self) {
@@ -192,10 +235,17 @@ impl Parts for Sample {
             }
         }
         sample.count = sample.bitfields.len() as u8;
-        if random.below(2) == 0 && layout.required.len() == 3 {
+        if random.below(2) == 0 && layout.required.len() > 1 {
             sample.select("OrdType");
         }
         sample.require();
+        if layout.middle != Middle::Nothing {
+            let most = [0, 1, 3, 10][random.between(0, 3)];
+            let count = random.between(0, most);
+            sample.put_ids(random, count);
+        }
+        late::choose(random, &mut sample);
+        late::agree(&mut sample);
         if random.below(3) == 0 {
             let count = random.between(sample.bitfields.len(), layout.most);
             sample.lengthen(count);
@@ -215,6 +265,7 @@ impl Parts for Sample {
         let mut body = self.fixed.concat();
         body.push(self.count);
         body.extend(&self.bitfields);
+        body.extend(&self.middle);
         for (field, value) in self.layout.listed.iter().zip(&self.optional) {
             if field.selected(&self.bitfields) {
                 body.extend(value);
@@ -226,6 +277,7 @@ impl Parts for Sample {
     fn record(&self) -> Vec<u8> {
         let mut record = self.record_head();
         record.extend(self.fixed.concat());
+        record.extend(&self.middle);
         record.resize(COUNT_PLACE, 0);
         record.push(self.count);
         record.extend(&self.bitfields);
@@ -242,10 +294,12 @@ impl Parts for Sample {
     }
 
     /// Most have the bytes of the longest record, some their own alone or a few after them; of the
-    /// rejections most have their own alone. What follows the record plays no part: it is zero in
-    /// most, but not in all.
+    /// rejections, of Modify Order and of Purge Orders most have their own alone. What follows the
+    /// record plays no part: it is zero in most, but not in all.
     fn lent(random: &mut Random, record: &[u8]) -> Vec<u8> {
-        let (some, most) = match HANDED.contains(&record[0]) {
+        let alone =
+            HANDED.contains(&record[0]) || [MODIFY_ORDER, PURGE_ORDERS].contains(&record[0]);
+        let (some, most) = match alone {
             true => (SESSION_SIZE, SIZE),
             false => (SIZE, SESSION_SIZE),
         };
@@ -288,12 +342,26 @@ fn set(bitfields: &mut Vec<u8>, byte: usize, bit: u8) {
     bitfields[byte - 1] |= bit;
 }
 
-/// The field that every message has and that is never blank.
-pub fn identifier(which: usize) -> &'static str {
-    if which == CANCEL {
-        "OrigClOrdID"
-    } else {
-        "ClOrdID"
+/// The field that every message of a type has and that is never blank.
+pub fn never_blank(which: usize) -> &'static str {
+    never_blank_of(&layout::ALL[which])
+}
+
+fn never_blank_of(layout: &Layout) -> &'static str {
+    match layout.type_byte {
+        CANCEL_ORDER => "OrigClOrdID",
+        PURGE_ORDERS => "MassCancelInst",
+        _ => "ClOrdID",
+    }
+}
+
+/// A field without which a message of a type is refused.
+pub fn required_field(which: usize) -> Option<&'static str> {
+    match which {
+        NEW_ORDER => Some("Capacity"),
+        MODIFY => Some("OrderQty"),
+        PURGE => Some("MassCancelInst"),
+        _ => None,
     }
 }
 
@@ -352,12 +420,19 @@ mod tests {
         let order = Sample::least(&mut random, NEW_ORDER);
         assert_eq!(order.bitfields, [0x04, 0x41]);
         assert_eq!(order.bytes().len(), 36 + 2 + 17);
+        let modify = Sample::least(&mut random, MODIFY);
+        assert_eq!(modify.bitfields, [0x0C]);
+        assert_eq!(modify.bytes().len(), 51 + 1 + 12);
+        let purge = Sample::least(&mut random, PURGE);
+        assert_eq!(purge.bitfields, [0x04]);
+        let ids = 2 * usize::from(purge.middle[0]);
+        assert_eq!(purge.bytes().len(), 12 + 1 + 1 + ids + 16);
     }
 
     #[test]
     fn reader_and_writer_agree_with_the_parts() {
         let mut random = Random::new(101);
-        for round in 0..7_000 {
+        for round in 0..9_000 {
             judged::agree(&Sample::any(&mut random, round % TYPES));
         }
     }
@@ -402,11 +477,15 @@ mod tests {
                     .iter()
                     .filter(|sample| field.selected(&sample.bitfields))
                     .count();
-                let always = field.name == "Symbol" || field.name == "Capacity";
+                let always = layout.required.contains(&&[field.name][..]);
                 assert!(set > 100, "{}", field.name);
-                assert!(set < 1_900 || (which == NEW_ORDER && always));
+                assert!(set < 1_900 || always, "{}", field.name);
             }
-            let least = if which == NEW_ORDER { 2 } else { 0 };
+            let least = match which {
+                NEW_ORDER => 2,
+                MODIFY | PURGE => 1,
+                _ => 0,
+            };
             for count in least..=layout.most {
                 assert!(samples.iter().any(|sample| sample.count as usize == count));
             }

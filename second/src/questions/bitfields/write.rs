@@ -5,8 +5,8 @@ mod unused;
 
 use super::read;
 use super::sample::{
-    Sample, ACKNOWLEDGMENT, CANCEL, CANCEL_REJECTED, EXECUTION, MODIFY_REJECTED, NEW_ORDER,
-    ORDER_REJECTED,
+    Sample, ACKNOWLEDGMENT, CANCEL, CANCEL_REJECTED, EXECUTION, MODIFY, MODIFY_REJECTED, NEW_ORDER,
+    ORDER_REJECTED, PURGE,
 };
 use super::texts::texts;
 use crate::questions::parts::Parts;
@@ -39,6 +39,8 @@ pub fn ask(lines: &mut Vec<String>) {
         (ORDER_REJECTED, 50),
         (CANCEL_REJECTED, 30),
         (MODIFY_REJECTED, 20),
+        (MODIFY, 30),
+        (PURGE, 50),
     ];
     writing::damaged::<Sample>(lines, &mut random, &counts);
 }
@@ -101,7 +103,7 @@ fn headers(lines: &mut Vec<String>, random: &mut Random, which: usize) {
     }
     for type_byte in [
         0x00, 0x02, 0x26, 0x29, 0x2B, 0x2D, 0x36, 0x48, 0x38, 0x39, 0x25, 0x2C, 0x37, 0x24, 0x03,
-        0x09, 0xFF,
+        0x09, 0xFF, 0x3A, 0x47,
     ] {
         let mut record = Sample::lent(random, &least.record());
         record[0] = type_byte;
@@ -173,7 +175,7 @@ fn bad_texts(lines: &mut Vec<String>, random: &mut Random, which: usize) {
 
 /// OrderQty, which has a range in a New Order alone.
 fn quantities(lines: &mut Vec<String>, random: &mut Random) {
-    for which in [NEW_ORDER, ACKNOWLEDGMENT, EXECUTION, ORDER_REJECTED] {
+    for which in [NEW_ORDER, ACKNOWLEDGMENT, EXECUTION, ORDER_REJECTED, MODIFY] {
         let mut sample = Sample::least(random, which);
         if which != NEW_ORDER {
             sample.select("OrderQty");
@@ -206,11 +208,14 @@ mod tests {
     fn each_type_gets_each_answer() {
         let seen = judged::writes(&judged::asked_by(ask));
         for layout in &layout::ALL {
-            let numbers: &[u8] = match layout.required.is_empty() {
-                true => &[0, 4, 5, 7, 8, 10, 12, 13],
-                false => &[0, 4, 5, 7, 8, 9, 10, 12, 13],
-            };
-            judged::gets_each(&seen, layout.type_byte, numbers);
+            let mut numbers = vec![0, 4, 5, 7, 8, 10, 12, 13];
+            if !layout.required.is_empty() {
+                numbers.push(9);
+            }
+            if layout.type_byte == 0x47 {
+                numbers.push(23);
+            }
+            judged::gets_each(&seen, layout.type_byte, &numbers);
         }
     }
 

@@ -1,11 +1,12 @@
 //! The table of each message with bitfields. The fixed part of Order Execution and the choice of
-//! its bits are those of document 000, and so is all of the rejections.
+//! its bits are those of document 000, and so is all of the rejections, of Modify Order and of Purge
+//! Orders.
 
-use super::{Fixed, Layout, Listed, Rule};
+use super::{Fixed, Layout, Listed, Middle, Rule};
 use crate::rules::kinds::Kind;
 use crate::rules::types::{self, MEMBER, VENUE};
 
-pub static ALL: [Layout; 7] = [
+pub static ALL: [Layout; 9] = [
     Layout {
         direction: MEMBER,
         type_byte: types::NEW_ORDER,
@@ -16,6 +17,7 @@ pub static ALL: [Layout; 7] = [
         most: 10,
         listed: NEW_ORDER_LISTED,
         required: &[&["Symbol"], &["Capacity"], &["Price", "OrdType"]],
+        middle: Middle::Nothing,
     },
     Layout {
         direction: MEMBER,
@@ -27,6 +29,7 @@ pub static ALL: [Layout; 7] = [
         most: 2,
         listed: CANCEL_ORDER_LISTED,
         required: &[],
+        middle: Middle::Nothing,
     },
     Layout {
         direction: VENUE,
@@ -38,6 +41,7 @@ pub static ALL: [Layout; 7] = [
         most: 15,
         listed: ACKNOWLEDGMENT_LISTED,
         required: &[],
+        middle: Middle::Nothing,
     },
     Layout {
         direction: VENUE,
@@ -49,10 +53,36 @@ pub static ALL: [Layout; 7] = [
         most: 15,
         listed: EXECUTION_LISTED,
         required: &[],
+        middle: Middle::Nothing,
     },
     rejected(types::ORDER_REJECTED, ORDER_REJECTED_LISTED),
     rejected(types::CANCEL_REJECTED, CANCEL_REJECTED_LISTED),
     rejected(types::MODIFY_REJECTED, &[]),
+    // OrdType stands in for Price in the bitfields; its value is judged later.
+    Layout {
+        direction: MEMBER,
+        type_byte: types::MODIFY_ORDER,
+        least_unit: 0,
+        greatest_unit: 0,
+        greatest_number: ANY_NUMBER,
+        fixed: MODIFY_ORDER_FIXED,
+        most: 2,
+        listed: MODIFY_ORDER_LISTED,
+        required: &[&["OrderQty"], &["Price", "OrdType"]],
+        middle: Middle::Nothing,
+    },
+    Layout {
+        direction: MEMBER,
+        type_byte: types::PURGE_ORDERS,
+        least_unit: 0,
+        greatest_unit: 0,
+        greatest_number: ANY_NUMBER,
+        fixed: PURGE_ORDERS_FIXED,
+        most: 2,
+        listed: PURGE_ORDERS_LISTED,
+        required: &[&["MassCancelInst"]],
+        middle: Middle::RiskGroups { most: 10 },
+    },
 ];
 
 const ANY_NUMBER: u32 = u32::MAX;
@@ -70,6 +100,7 @@ const fn rejected(type_byte: u8, listed: &'static [Listed]) -> Layout {
         most: 19,
         listed,
         required: &[],
+        middle: Middle::Nothing,
     }
 }
 
@@ -79,6 +110,7 @@ const N: Kind = Kind::LettersAndDigits;
 const T: Kind = Kind::Text;
 const B: Kind = Kind::Binary;
 const P: Kind = Kind::Price;
+const F: Kind = Kind::FilledText;
 const IDENTIFIER: Rule = Rule::Filled(Kind::Identifier);
 
 const fn fixed(name: &'static str, width: usize, rule: Rule) -> Fixed {
@@ -230,4 +262,37 @@ const CANCEL_REJECTED_LISTED: &[Listed] = &[
     bit(2, 64, "Capacity", 1, A),
     bit(8, 2, "EchoText", 64, T),
     bit(8, 4, "StopPx", 8, P),
+];
+
+/// Table 28.
+const MODIFY_ORDER_FIXED: &[Fixed] = &[
+    fixed("ClOrdID", 20, IDENTIFIER),
+    fixed("OrigClOrdID", 20, IDENTIFIER),
+];
+
+/// Table 60.
+const MODIFY_ORDER_LISTED: &[Listed] = &[
+    bit(1, 1, "ClearingFirm", 4, A),
+    bit(1, 4, "OrderQty", 4, B),
+    bit(1, 8, "Price", 8, P),
+    bit(1, 16, "OrdType", 1, N),
+    bit(1, 32, "CancelOrigOnReject", 1, A),
+    bit(1, 64, "ExecInst", 1, T),
+    bit(1, 128, "Side", 1, N),
+    bit(2, 1, "MaxFloor", 4, B),
+    bit(2, 2, "StopPx", 8, P),
+    bit(2, 128, "LocateBroker", 4, A),
+];
+
+/// Table 30, up to its count byte.
+const PURGE_ORDERS_FIXED: &[Fixed] = &[fixed("Reserved", 1, Rule::Any(B))];
+
+/// Table 61.
+const PURGE_ORDERS_LISTED: &[Listed] = &[
+    bit(1, 1, "ClearingFirm", 4, A),
+    bit(1, 4, "MassCancelInst", 16, F),
+    bit(1, 16, "MassCancelID", 20, T),
+    bit(2, 1, "Symbol", 8, N),
+    bit(2, 2, "SymbolSfx", 8, N),
+    bit(2, 128, "MatchingUnit", 1, B),
 ];

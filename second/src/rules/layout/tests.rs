@@ -33,6 +33,8 @@ fn places_of_the_fixed_parts() {
         "TransactionTime 10 ClOrdID 18 ExecID 38 LastShares 46 LastPx 50 LeavesQty 58 \
          BaseLiquidityIndicator 62 SubLiquidityIndicator 63 ContraBroker 64 Reserved 68 count 69"
     );
+    assert_eq!(places(0x3A), "ClOrdID 10 OrigClOrdID 30 count 50");
+    assert_eq!(places(0x47), "Reserved 10 count 11");
     for type_byte in [0x26, 0x2B, 0x29] {
         assert_eq!(
             places(type_byte),
@@ -109,6 +111,18 @@ fn forms_of_the_fields() {
          byte 8: 2 64T 4 8P"
     );
     assert_eq!(forms(0x29), "8B 20I! 1T 60T 1B most 19");
+    assert_eq!(
+        forms(0x3A),
+        "20I! 20I! most 2 \
+         byte 1: 1 4A 4 4B 8 8P 16 1N 32 1A 64 1T 128 1N \
+         byte 2: 1 4B 2 8P 128 4A"
+    );
+    assert_eq!(
+        forms(0x47),
+        "1B most 2 \
+         byte 1: 1 4A 4 16F 16 20T \
+         byte 2: 1 8N 2 8N 128 1B"
+    );
 }
 
 /// First byte first and lowest bit first, each of them a single bit within the bitfields.
@@ -146,7 +160,9 @@ fn counts_and_sums_of_the_bits() {
             (14, 65),
             (27, 175),
             (12, 113),
-            (0, 0)
+            (0, 0),
+            (10, 36),
+            (6, 57)
         ]
     );
     let bitfields = |type_byte: u8| {
@@ -166,6 +182,8 @@ fn counts_and_sums_of_the_bits() {
     assert_eq!(bitfields(0x26)[..9], [127, 67, 255, 0, 0, 25, 0, 126, 0]);
     assert_eq!(bitfields(0x2B)[..9], [127, 67, 0, 0, 0, 0, 0, 6, 0]);
     assert_eq!(bitfields(0x29), [0; 19]);
+    assert_eq!(bitfields(0x3A)[..3], [253, 131, 0]);
+    assert_eq!(bitfields(0x47)[..3], [21, 131, 0]);
 }
 
 /// A field has one width and one kind wherever it is listed.
@@ -185,20 +203,24 @@ fn same_field_same_form() {
 fn all_fit_a_record() {
     for layout in &ALL {
         let slots: usize = layout.listed.iter().map(|field| field.width).sum();
-        assert!(layout.fixed_width() <= record::FIXED);
+        let most = match layout.middle {
+            Middle::Nothing => 0,
+            Middle::RiskGroups { most } => layout.middle.width(&[most]),
+        };
+        assert!(layout.fixed_width() + most <= record::FIXED);
         assert!(layout.most <= record::BITFIELDS);
         assert!(slots <= record::SLOTS);
     }
 }
 
 #[test]
-fn only_seven_types() {
+fn only_nine_types() {
     for direction in 0..=255 {
         for type_byte in 0..=255 {
             let known = Layout::of(direction, type_byte).is_ok();
             let expected = matches!(
                 (direction, type_byte),
-                (0, 0x38 | 0x39) | (1, 0x25 | 0x2C | 0x26 | 0x2B | 0x29)
+                (0, 0x38 | 0x39 | 0x3A | 0x47) | (1, 0x25 | 0x2C | 0x26 | 0x2B | 0x29)
             );
             assert_eq!(known, expected, "{} {}", direction, type_byte);
         }
@@ -253,4 +275,56 @@ fn required_fields() {
     for type_byte in [0x39, 0x25, 0x2C, 0x26, 0x2B, 0x29] {
         assert_eq!(layout(type_byte).check_required(&[]), Ok(()));
     }
+}
+
+/// OrderQty, and Price or OrdType; MassCancelInst.
+#[test]
+fn required_fields_of_request_1() {
+    let (modify, purge) = (layout(0x3A), layout(0x47));
+    for bits in 0..=255 {
+        for bitfields in [vec![bits], vec![bits, 0x83]] {
+            let (quantity, price_or_type) = (bits & 4 != 0, bits & 0x18 != 0);
+            let good = modify.check_required(&bitfields).is_ok();
+            assert_eq!(good, quantity && price_or_type);
+            assert_eq!(purge.check_required(&bitfields).is_ok(), bits & 4 != 0);
+        }
+    }
+    assert_eq!(modify.check_required(&[]), Err(Refusal::Missing(50)));
+    assert_eq!(modify.check_required(&[8, 0]), Err(Refusal::Missing(52)));
+    assert_eq!(purge.check_required(&[]), Err(Refusal::Missing(11)));
+    assert_eq!(purge.check_required(&[0x11]), Err(Refusal::Missing(12)));
+}
+
+/// Document 000's examples, and the longest messages.
+#[test]
+fn places_of_the_fields_of_request_1() {
+    let names = |type_byte: u8, bitfields: &[u8], middle: usize| {
+        let places = layout(type_byte).places(bitfields, middle);
+        let names = places.iter();
+        let names =
+            names.map(|place| format!("{} {}/{}", place.field.name, place.wire, place.slot));
+        names.collect::<Vec<String>>().join(" ")
+    };
+    assert_eq!(names(0x3A, &[0x0C], 0), "OrderQty 52/4 Price 56/8");
+    assert_eq!(
+        names(0x47, &[0x15], 5),
+        "ClearingFirm 18/0 MassCancelInst 22/4 MassCancelID 38/20"
+    );
+    assert_eq!(
+        names(0x47, &[0x15, 0x01], 1),
+        "ClearingFirm 15/0 MassCancelInst 19/4 MassCancelID 35/20 Symbol 55/40"
+    );
+    assert_eq!(
+        names(0x3A, &[0xFD, 0x83], 0),
+        "ClearingFirm 53/0 OrderQty 57/4 Price 61/8 OrdType 69/16 CancelOrigOnReject 70/17 \
+         ExecInst 71/18 Side 72/19 MaxFloor 73/20 StopPx 77/24 LocateBroker 85/32"
+    );
+    assert_eq!(
+        names(0x47, &[0x15, 0x83], 21),
+        "ClearingFirm 35/0 MassCancelInst 39/4 MassCancelID 55/20 Symbol 75/40 SymbolSfx 83/48 \
+         MatchingUnit 91/56"
+    );
+    assert_eq!(layout(0x3A).total(&[0xFD, 0x83], 0), 89);
+    assert_eq!(layout(0x47).total(&[0x15, 0x83], 21), 92);
+    assert_eq!(layout(0x47).total(&[0x04], 1), 30);
 }

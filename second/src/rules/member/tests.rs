@@ -251,6 +251,57 @@ fn orders() {
     assert_eq!(refusal(member.order(&record, &mut [0; 76])), 20);
 }
 
+/// A Modify Order and a Purge Orders go out like the others. What is refused for a late 9 or for 23 uses
+/// no number.
+#[test]
+fn orders_of_request_1() {
+    for example in [
+        examples::modify(),
+        examples::purge_by_ids_with_its_length(),
+        examples::purge_by_symbol_with_its_length(),
+    ] {
+        let record = read::message(MEMBER, &example).unwrap();
+        let size = example.len();
+        for phase in PHASES {
+            let (mut member, _) = self::member(phase);
+            let mut out = vec![0xEE; size];
+            let live = phase == Phase::Live;
+            let answer = refusal(member.order(&record, &mut out));
+            assert_eq!(answer, if live { 0 } else { 16 });
+            assert_eq!(member.outgoing, if live { 8 } else { 7 });
+            if live {
+                assert_eq!((out[6], &out[10..]), (8, &example[10..]));
+            }
+        }
+        let (mut member, _) = self::member(Phase::Live);
+        let slots = 116;
+        for (changes, expected) in match example[4] {
+            0x3A => vec![
+                (vec![(97, 0x14)], 9),
+                (vec![(97, 4)], 9),
+                (vec![(6, 0)], 10),
+            ],
+            _ => vec![
+                (vec![(97, 0x14), (slots, 0)], 9),
+                (vec![(97, 0x05)], 9),
+                (vec![(slots + 4, b'A')], 23),
+                (vec![(slots + 4, 0)], 10),
+                (vec![(7, 11)], 10),
+                (vec![(95, 1)], 12),
+            ],
+        } {
+            let mut bad = record.clone();
+            for (place, byte) in changes {
+                bad[place] = byte;
+            }
+            assert_eq!(refusal(member.order(&bad, &mut vec![0; size])), expected);
+            assert_eq!(member.outgoing, 7);
+        }
+        assert_eq!(member.order(&record, &mut vec![0; size]), Ok(()));
+        assert_eq!(member.outgoing, 8);
+    }
+}
+
 #[test]
 fn heartbeats_and_logins() {
     for phase in PHASES {

@@ -1,18 +1,17 @@
 //! The order of reading.
 
-use crate::questions::bitfields::faults::{sets, small_with};
-use crate::questions::bitfields::sample::identifier;
-use crate::questions::order::numbers;
+use crate::questions::bitfields::faults::{sets, small_with, spoil_value, CONFLICT};
+use crate::questions::order::{numbers, LATE};
 use crate::questions::parts::{measure, Parts};
 use crate::questions::reading::{self, Asked};
 use crate::random::Random;
 
 /// The numbers that a whole message can be refused with, in the order of reading. Of the three
 /// places of 6 it is the last.
-const ORDER: [u8; 7] = [4, 5, 7, 8, 9, 6, 10];
+const ORDER: [u8; 9] = [4, 5, 7, 8, 9, 6, 10, LATE, CONFLICT];
 
 /// A message with these faults.
-fn faulty(random: &mut Random, which: usize, faults: u8) -> (u8, Vec<u8>) {
+fn faulty(random: &mut Random, which: usize, faults: u16) -> (u8, Vec<u8>) {
     let numbers = numbers(faults, &ORDER);
     let mut sample = small_with(random, which, &numbers);
     let layout = sample.layout;
@@ -24,7 +23,7 @@ fn faulty(random: &mut Random, which: usize, faults: u8) -> (u8, Vec<u8>) {
         sample.lengthen(layout.most + 1);
     }
     if numbers.contains(&10) {
-        sample.value(identifier(which))[19] = b'@';
+        spoil_value(random, &mut sample, 19, b'@');
     }
     let mut message = sample.bytes();
     if numbers.contains(&6) {

@@ -1,12 +1,13 @@
 //! Values of fields.
 
 use crate::questions::bitfields::sample::{
-    Sample, ACKNOWLEDGMENT, CANCEL, EXECUTION, NEW_ORDER, ORDER_REJECTED, REJECTED,
+    Sample, ACKNOWLEDGMENT, CANCEL, EXECUTION, MODIFY, NEW_ORDER, ORDER_REJECTED, PURGE, REJECTED,
 };
 use crate::questions::bitfields::texts::texts;
 use crate::questions::reading::{add, Asked};
 use crate::questions::values::{bad_bytes, end_bytes, textual};
 use crate::random::Random;
+use crate::rules::kinds::Kind;
 use crate::rules::layout;
 
 /// In each text field: bad bytes first and last, and characters after a NUL.
@@ -84,18 +85,20 @@ pub fn ends(asked: &mut Asked, random: &mut Random, which: usize) {
         }
         add(asked, &sample);
     }
-    // All of them blank.
+    // All of them blank that may be.
     let mut sample = Sample::least(random, which);
     sample.select_all();
     for field in layout.listed {
-        sample.value(field.name).fill(0);
+        if field.kind != Kind::FilledText {
+            sample.value(field.name).fill(0);
+        }
     }
     add(asked, &sample);
 }
 
 /// OrderQty, which has a range in a New Order alone.
 pub fn quantities(asked: &mut Asked, random: &mut Random) {
-    for which in [NEW_ORDER, ACKNOWLEDGMENT, EXECUTION, ORDER_REJECTED] {
+    for which in [NEW_ORDER, ACKNOWLEDGMENT, EXECUTION, ORDER_REJECTED, MODIFY] {
         let mut sample = Sample::least(random, which);
         if which != NEW_ORDER {
             sample.select("OrderQty");
@@ -123,7 +126,8 @@ pub fn quantities(asked: &mut Asked, random: &mut Random) {
 }
 
 pub fn reserved_bytes(asked: &mut Asked, random: &mut Random) {
-    for which in [ACKNOWLEDGMENT, EXECUTION].into_iter().chain(REJECTED) {
+    let of_two = [ACKNOWLEDGMENT, EXECUTION].into_iter();
+    for which in of_two.chain(REJECTED).chain([PURGE]) {
         let mut sample = Sample::least(random, which);
         for byte in [0, 1, 10, 31, 32, 44, 64, 65, 127, 128, 255] {
             sample.value("Reserved")[0] = byte;

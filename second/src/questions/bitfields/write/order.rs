@@ -1,19 +1,21 @@
 //! The order of writing.
 
 use super::unused;
-use crate::questions::bitfields::faults::{sets, small_with};
-use crate::questions::bitfields::sample::{identifier, Sample};
-use crate::questions::order::numbers;
+use crate::questions::bitfields::faults::{sets, small_with, spoil_value, CONFLICT};
+use crate::questions::bitfields::late;
+use crate::questions::bitfields::sample::Sample;
+use crate::questions::order::{numbers, LATE};
 use crate::questions::parts::Parts;
 use crate::questions::writing::{line, pattern};
 use crate::random::Random;
+use crate::rules::layout;
 use crate::rules::record::{COUNT_PLACE, SIZE};
 
 /// The numbers that a record can be refused with, in the order of writing.
-const ORDER: [u8; 8] = [4, 5, 7, 8, 9, 10, 12, 13];
+const ORDER: [u8; 10] = [4, 5, 7, 8, 9, 10, LATE, CONFLICT, 12, 13];
 
 /// A record and a buffer with these faults.
-fn faulty(random: &mut Random, which: usize, faults: u8) -> (u8, Vec<u8>, Vec<u8>) {
+fn faulty(random: &mut Random, which: usize, faults: u16) -> (u8, Vec<u8>, Vec<u8>) {
     let numbers = numbers(faults, &ORDER);
     let mut sample = small_with(random, which, &numbers);
     let layout = sample.layout;
@@ -22,7 +24,7 @@ fn faulty(random: &mut Random, which: usize, faults: u8) -> (u8, Vec<u8>, Vec<u8
         direction = random.pick(&[1 - layout.direction, 2]);
     }
     if numbers.contains(&10) {
-        sample.value(identifier(which))[0] = b';';
+        spoil_value(random, &mut sample, 0, b';');
     }
     let mut record = sample.record();
     if numbers.contains(&12) {
@@ -42,14 +44,21 @@ fn faulty(random: &mut Random, which: usize, faults: u8) -> (u8, Vec<u8>, Vec<u8
 }
 
 /// Every set of faults but those of 4 and 5, which are asked with each of the others and with all;
-/// then records too short with all.
+/// then records too short with all. Where a value asks for other fields there are more faults: of
+/// their sets those of at most two faults, and of all.
 pub fn ask(lines: &mut Vec<String>, random: &mut Random, which: usize) {
     let sets = sets(which, &ORDER);
     let all = sets[sets.len() - 1];
-    let without = (0..64).map(|faults| faults << 2);
-    let pairs = (1..8).map(|shift| 1 | 1 << shift);
-    let other_pairs = (2..8).map(|shift| 2 | 1 << shift);
+    let last = ORDER.len();
+    let without = (0..1 << (last - 2)).map(|faults| faults << 2);
+    let pairs = (1..last).map(|shift| 1 | 1 << shift);
+    let other_pairs = (2..last).map(|shift| 2 | 1 << shift);
+    let most = match late::asks(&layout::ALL[which]) {
+        true => 2,
+        false => last as u32,
+    };
     for faults in without
+        .filter(|faults: &u16| faults.count_ones() <= most)
         .chain([1, 2])
         .chain(pairs)
         .chain(other_pairs)

@@ -14,7 +14,7 @@ use std::collections::BTreeSet;
 pub fn places(sample: &Sample) -> Vec<Vec<usize>> {
     let layout = sample.layout;
     let mut runs = vec![
-        (FIXED_PLACE + layout.fixed_width()..COUNT_PLACE).collect(),
+        (FIXED_PLACE + layout.fixed_width() + sample.middle.len()..COUNT_PLACE).collect(),
         (BITFIELDS_PLACE + sample.bitfields.len()..SLOTS_PLACE).collect(),
     ];
     let mut place = SLOTS_PLACE;

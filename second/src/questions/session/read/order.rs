@@ -12,11 +12,11 @@ use crate::rules::frame::HEADER;
 /// the fixed part does not fit, and last where bytes are left.
 const ORDER: [u8; 6] = [4, 5, 6, 10, 11, 6];
 /// The first and the last place of 6.
-const SHORT: u8 = 1 << 2;
-const LEFT: u8 = 1 << 5;
+const SHORT: u16 = 1 << 2;
+const LEFT: u16 = 1 << 5;
 
 /// A message with these faults.
-fn faulty(random: &mut Random, which: usize, faults: u8) -> (u8, Vec<u8>) {
+fn faulty(random: &mut Random, which: usize, faults: u16) -> (u8, Vec<u8>) {
     let numbers = numbers(faults, &ORDER);
     let mut sample = faults::whole_or_broken(random, which, &numbers);
     let mut direction = sample.session.direction;
@@ -42,7 +42,7 @@ fn faulty(random: &mut Random, which: usize, faults: u8) -> (u8, Vec<u8>) {
 
 /// The sets of faults that a message can have: one that is its header alone has no values and no
 /// lists, and no part that does not fit.
-fn sets(which: usize) -> Vec<u8> {
+fn sets(which: usize) -> Vec<u16> {
     order::sets(&ORDER, |faults| {
         LISTED.contains(&which) || faults & !(1 | 2 | LEFT) == 0
     })

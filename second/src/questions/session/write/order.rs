@@ -13,7 +13,7 @@ use crate::rules::record::SIZE;
 const ORDER: [u8; 6] = [4, 5, 10, 11, 12, 13];
 
 /// A record and a buffer with these faults.
-fn faulty(random: &mut Random, which: usize, faults: u8) -> (u8, Vec<u8>, Vec<u8>) {
+fn faulty(random: &mut Random, which: usize, faults: u16) -> (u8, Vec<u8>, Vec<u8>) {
     let numbers = numbers(faults, &ORDER);
     let mut sample = faults::whole_or_broken(random, which, &numbers);
     let mut room = sample.bytes().len();
@@ -37,7 +37,7 @@ fn faulty(random: &mut Random, which: usize, faults: u8) -> (u8, Vec<u8>, Vec<u8
 
 /// The sets of faults that a record can have: one whose message has lists has no 12, the others
 /// have neither 10 nor 11.
-fn sets(which: usize) -> Vec<u8> {
+fn sets(which: usize) -> Vec<u16> {
     let never: &[u8] = match LISTED.contains(&which) {
         true => &[12],
         false => &[10, 11],

@@ -1,0 +1,13 @@
+-- A bit of Modify Order is answered as its list says: at each arm one of the laws serves. Assumes nothing.
+use Rattle.dictionary.proofs.Arms.{arms, free}
+use Rattle.dictionary.proofs.modify_order.Statement.{statement}
+use Rattle.dictionary.proofs.modify_order.Tie as tie
+
+pub modify-order-spec : {M : Type 1} → statement M
+modify-order-spec =
+    tie.close
+    (tie.spec
+    free free free free free free free free free free
+    (λ c. search arms) (λ c. search arms) (λ c. search arms) (λ c. search arms) (λ c. search arms) (λ c. search arms) (λ c. search arms) (λ c. search arms)
+    (λ c. search arms) (λ c. search arms) (λ c. search arms) (λ c. search arms)
+    (λ c. search arms))

@@ -1,0 +1,21 @@
+-- `orders::modify_order_lacks` meets its contract. Assumes nothing.
+use mathlib.Core.Path.{sym, _∙_}
+use borrow.Author.Needs.{needs}
+use Rattle.orders.proofs.modify_order_lacks.Statement.{statement}
+use Rattle.orders.proofs.modify_order_lacks.Tie as tie
+
+is-selected-requires : tie.Need-is-selected-requires
+is-selected-requires c κs = search needs
+
+returns : tie.Need-returns
+returns c = rw (sym (c .before .is-selected .ensures) ∙ c .if1 .taken)
+
+shared-slice-read-result : tie.Need-shared-slice-read-result
+shared-slice-read-result c = search needs
+
+returns-2 : tie.Need-returns-2
+returns-2 c = rw (sym (c .before .before .is-selected .ensures) ∙ c .before .if1 .left)
+
+pub modify-order-lacks-spec : {M : Type 1} → statement M
+modify-order-lacks-spec =
+    tie.close (tie.spec is-selected-requires returns shared-slice-read-result returns-2)
