@@ -1,31 +1,28 @@
 -- The parts of a record as they are put into its buffer: their lengths, and that they are the record's bytes. Assumes nothing.
 use mathlib.Core.Path.{_≡_, refl, sym, ap, ap₂, _∙_}
-use mathlib.Core.Bool.{Bool, true, false, cond, not, _&&_, true≢false}
+use mathlib.Core.Bool.{Bool, true, false, cond}
 use mathlib.Core.List.{List, _∷_, _++_, append-assoc}
 use Prim.Native.Nat.{ℕ, _+_, _-_, _≤_, _<_}
 use native.Mathlib.Nat.{zero-add}
 use native.Mathlib.Omega.{arith}
-use lib.Dec.{ltb, eqb}
-use lib.ListN.{length, getD, take, drop, length-append, length-drop, drop-of-length-le}
+use lib.Dec.{ltb}
+use lib.ListN.{length, take, drop, length-append, length-drop, drop-of-length-le}
 use lib.Seq.{length-take-le, take-at, drop-at, drop-drop, drop-append-le}
-use borrow.Author.Tests.{ltb-true, ltb-false, eqb-true}
-use Rattle.refusals.specs.Names.{notSelected, conflict}
-use Rattle.refusals.specs.Told.{told}
+use borrow.Author.Tests.{ltb-true, ltb-false}
 use Rattle.numbers.specs.Numbers.{bytesOf, patched}
 use Rattle.wire.specs.Header.{unitOf, numberOf}
 use Rattle.block.specs.Slots.{zeros, takes, width, sum, spread}
 use Rattle.block.specs.SlotLaws.{length-zeros, drop-zeros, spread-length}
-use Rattle.block.specs.Places.{selectedAt, slotsOf}
+use Rattle.block.specs.Places.{slotsOf}
 use Rattle.block.specs.Dictionaries.{widths-fit}
 use Rattle.block_store.specs.State.{storing, storeWalk}
 use Rattle.block_store.specs.Made.{stored-all}
 use Rattle.orders.specs.Shapes.{countAt}
 use Rattle.orders.specs.Middle.{middleSize}
-use Rattle.orders.specs.Late.{market, purgeOrdersLacks, purgeOrdersConflicts, lacks, conflicts, lateRefusal}
 use Rattle.orders.specs.Orders.{layoutOf}
 use Rattle.orders.specs.OrderLaws.{count-bounds}
 use Rattle.order_records.specs.Records.{recordBytes}
-use Rattle.order_reader.specs.Stages.{mayBeLate, keptBytes, frontBytes, thereBytes}
+use Rattle.order_reader.specs.Stages.{keptBytes, frontBytes, thereBytes}
 use Rattle.block.specs.Sizes.{allPlaces, fixedEnd, fixedSize, layoutSize, mostBitfields, slotsPlace}
 
 -- the bitfields with zeros after them
@@ -114,23 +111,6 @@ least-is rest size {n} e = by (ltb (length rest) size) refl e
         let h : length rest < size = ltb-true (length rest) size l in
         (omega (arith, f), ap (λ (i : ℕ). drop i rest) f ∙ drop-of-length-le rest {i = length rest} (omega arith) ∙ sym (drop-of-length-le rest {i = size} (omega (arith, h))))
     by false l f = (omega (arith, f, ltb-false (length rest) size l), ap (λ (i : ℕ). drop i rest) f)
-
--- a message that may not be late is not
-pub not-late : (message count : ℕ) (bits slots : List ℕ) → mayBeLate message count bits ≡ false → 0 ≡ lateRefusal message count bits slots
-unfolding mayBeLate lateRefusal lacks conflicts
-not-late message count bits slots h = by (eqb message 0x3A) (eqb message 0x47) (selectedAt count bits 3) (λ e. apart e) h
-  where
-    apart : eqb message 0x3A ≡ true → eqb message 0x47 ≡ false
-    apart e = let k : message ≡ 0x3A = eqb-true message 0x3A e in rw k
-
-    by : (a b p : Bool) → (a ≡ true → b ≡ false) → cond a (not p) b ≡ false
-        → 0 ≡ cond (cond a (not p && not (eqb (getD slots 16 0) market)) (cond b (purgeOrdersLacks count bits slots) false)) (told notSelected (countAt message + count))
-        (cond (b && purgeOrdersConflicts count bits slots) conflict 0)
-    by true true p d h = absurd (true≢false (d refl))
-    by true false true d h = refl
-    by true false false d h = absurd (true≢false h)
-    by false true p d h = absurd (true≢false h)
-    by false false p d h = refl
 
 module _ (message count : ℕ) (bits optional : List ℕ) (h : sum takes (slotsOf message count bits) ≡ length optional) where
   -- a layout is as long as that of any message

@@ -54,7 +54,7 @@ value-is message count bits fixed optional good last size wrong e =
     valueBy : Bool → Bool → ℕ → ℕ
     valueBy a b w = cond (not a) (told badValue (fixedWrong message fixed)) (cond (not good) (told badValue (last + 1)) (cond (not b) (told badValue (last + size + w)) 0))
 
--- a block that is not refused has the right total, and its middle is good
+-- a block that is not refused has the right total, its middle is good, and what is required is selected
 pub total-right : (total message count : ℕ) (bits fixed rest : List ℕ) → blockRefusal total message count bits fixed rest ≡ 0
     → (middleSize message count bits rest + sum takes (slotsOf message count bits) ≡ length rest) × (middleGood message count bits rest ≡ true)
 unfolding blockRefusal
@@ -65,6 +65,13 @@ total-right total message count bits fixed rest z =
     let p4 = passed-told (not (fixedGood message fixed)) _ _ _ (p3 .1) in
     let p5 = passed-told (not (middleGood message count bits rest)) _ _ _ (p4 .1) in
     (eqb-true _ _ (not-false _ (p3 .0)), not-false _ (p5 .0))
+
+pub required-there : (total message count : ℕ) (bits fixed rest : List ℕ) → blockRefusal total message count bits fixed rest ≡ 0 → hasRequired message count bits ≡ true
+unfolding blockRefusal
+required-there total message count bits fixed rest z =
+    let p1 = passed-told (anyBad (slotsOf message count bits)) _ _ _ z in
+    let p2 = passed-told (not (hasRequired message count bits)) _ _ _ (p1 .1) in
+    not-false _ (p2 .0)
 
 module _ (total message count : ℕ) (bits fixed rest : List ℕ) (t : Judged) (k : JudgedAll (slotsOf message count bits) (drop (middleSize message count bits rest) rest) t) where
   -- the optional bytes are as many as the set bits take where the middle and these are all that follows the bitfields
@@ -134,3 +141,7 @@ module _ (total message count : ℕ) (bits fixed rest optional : List ℕ) (size
       let q = total-right total message count bits fixed rest (sym (judged-is refl) ∙ z) in
       let d : length (drop size rest) ≡ length rest - size = length-drop size rest in
       omega (arith, q .0, es, ap length eo, d)
+
+  -- and all that is required
+  pub required-right : judgedOf total message count bits fixed t size rest ≡ 0 → hasRequired message count bits ≡ true
+  required-right z = required-there total message count bits fixed rest (sym (judged-is refl) ∙ z)

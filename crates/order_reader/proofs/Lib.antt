@@ -3,3 +3,4 @@ pub mod Heads
 pub mod Readings
 pub mod InPlace
 pub mod Fronts
+pub mod LateInPlace

@@ -47,9 +47,9 @@ judgedOf total message count bits fixed t size rest =
     (cond (not (eqb (size + t .at) (length rest))) (told wrongTotal total)
     (valueRefusal (countAt message + count) (fixedWrong message fixed) (middleGood message count bits rest) size (t .wrong))))
 
--- whether a message may still be refused once its values are good: Modify Order without Price, and Purge Orders
-unfoldable pub mayBeLate : ℕ → ℕ → List ℕ → Bool
-mayBeLate message count bits = cond (eqb message 0x3A) (not (selectedAt count bits 3)) (eqb message 0x47)
+-- the width of ClearingFirm (byte 1, bit 1) of Modify Order and of Purge Orders where it is selected
+abbrev pub firmWidth : ℕ → List ℕ → ℕ
+firmWidth count bits = cond (selectedAt count bits 0) 4 0
 
 -- the fixed part and the middle, with zeros after them
 unfoldable pub keptBytes : List ℕ → ℕ → ℕ → List ℕ → List ℕ → List ℕ

@@ -1,19 +1,19 @@
 // The reader of a message with bitfields: from a whole message to its record, or the refusal and its place.
 ghost use mathlib.Core.Path.{_≡_};
-ghost use mathlib.Core.Bool.{cond};
+ghost use mathlib.Core.Bool.{true, cond};
 ghost use mathlib.Core.List.{_∷_, _++_};
 ghost use Prim.Native.Nat.{_+_, _-_, _≤_};
 ghost use lib.Dec.{ltb};
-ghost use lib.ListN.{length, take, drop};
+ghost use lib.ListN.{length, getD, take, drop};
 ghost use Rattle.numbers.specs.Numbers.{patched};
 ghost use Rattle.wire.specs.Header.{typeOf, totalOf};
 ghost use Rattle.block.specs.Slots.{zeros, takes, sum};
-ghost use Rattle.block.specs.Places.{slotsOf};
+ghost use Rattle.block.specs.Places.{selectedAt, hasRequired, slotsOf};
 ghost use Rattle.orders.specs.Shapes.{countAt};
 ghost use Rattle.orders.specs.Middle.{middleSize};
 ghost use Rattle.orders.specs.Late.{lateRefusal};
 ghost use Rattle.orders.specs.Orders.{headRefusal, bodyRefusal, layoutOf, readRefusal};
-ghost use Rattle.order_reader.specs.Stages.{countRefusal, typeHead, valueRefusal, judgedOf, mayBeLate, keptBytes, frontBytes, thereBytes, readRecord};
+ghost use Rattle.order_reader.specs.Stages.{countRefusal, typeHead, valueRefusal, judgedOf, firmWidth, keptBytes, frontBytes, thereBytes, readRecord};
 ghost use Rattle.block.specs.Sizes.{fixedEnd, fixedSize, layoutSize, recordSize, mostBitfields, slotsPlace};
 use block_judge::Judged;
 
@@ -113,37 +113,67 @@ fn judged(m: &[u8], message: u8, bits: &[u8], count: u8, t: Judged, size: usize,
     )
 }
 
-// Whether a message may still be refused once its values are good.
-fn may_be_late(message: u8, bits: &[u8], count: u8) -> bool
+// The width of ClearingFirm, which stands first of both messages that may be late, where it is selected.
+fn firm_width(bits: &[u8], count: u8) -> usize
     requires { ⌜ count ≤ length (now bits) ⌝ }
-    ensures { λ r. ⌜ r ≡ mayBeLate message count (now (bits .entry)) ⌝ }
+    ensures { λ r. ⌜ r ≡ firmWidth count (now (bits .entry)) ⌝ }
 {
-    match message {
-        0x3A => !block::is_selected(bits, count, 3),
-        0x47 => true,
-        _ => false,
-    }
-}
-
-// The late refusal, by the optional fields in their full layout.
-fn stored_late(message: u8, bits: &[u8], count: u8, optional: &[u8]) -> u32
-    requires { ⌜ (length (now bits) ≡ count) × (count ≤ mostBitfields) × (sum takes (slotsOf message count (now bits)) ≡ length (now optional)) ⌝ }
-    ensures { λ r. ⌜ r ≡ lateRefusal message count (now (bits .entry)) (layoutOf message count (now (bits .entry)) (now (optional .entry))) ⌝ }
-{
-    let mut slots = [0u8; block::LAYOUT];
-    block_store::store_all(message, bits, count, optional, &mut slots);
-    orders::late_refusal(message, count, bits, &slots)
-}
-
-// The same, where the message may be late.
-fn late(message: u8, bits: &[u8], count: u8, optional: &[u8]) -> u32
-    requires { ⌜ (length (now bits) ≡ count) × (count ≤ mostBitfields) × (sum takes (slotsOf message count (now bits)) ≡ length (now optional)) ⌝ }
-    ensures { λ r. ⌜ r ≡ lateRefusal message count (now (bits .entry)) (layoutOf message count (now (bits .entry)) (now (optional .entry))) ⌝ }
-{
-    if may_be_late(message, bits, count) {
-        return stored_late(message, bits, count, optional);
+    if block::is_selected(bits, count, 0) {
+        return 4;
     }
     0
+}
+
+// The late refusal of a Modify Order: without Price, OrdType stands after ClearingFirm and OrderQty.
+fn modify_late(bits: &[u8], count: u8, optional: &[u8]) -> u32
+    requires { ⌜ (count ≤ length (now bits)) × (hasRequired 0x3A count (now bits) ≡ true) × (sum takes (slotsOf 0x3A count (now bits)) ≡ length (now optional)) ⌝ }
+    ensures { λ r. ⌜ r ≡ lateRefusal 0x3A count (now (bits .entry)) (layoutOf 0x3A count (now (bits .entry)) (now (optional .entry))) ⌝ }
+{
+    if block::is_selected(bits, count, 3) {
+        return 0;
+    }
+    let at = firm_width(bits, count) + 4;
+    orders::modify_late(count, bits, optional[at])
+}
+
+// MatchingUnit of a Purge Orders, the last of its fields; 0 where it is not selected.
+fn last_unit(bits: &[u8], count: u8, optional: &[u8]) -> u8
+    requires { ⌜ (count ≤ length (now bits)) × (sum takes (slotsOf 0x47 count (now bits)) ≡ length (now optional)) ⌝ }
+    ensures { λ r. ⌜ (selectedAt count (now (bits .entry)) 15 ≡ true → r ≡ getD (layoutOf 0x47 count (now (bits .entry)) (now (optional .entry))) 56 0) ⌝ }
+{
+    if block::is_selected(bits, count, 15) {
+        return optional[optional.len() - 1];
+    }
+    0
+}
+
+// The late refusal of a Purge Orders: MassCancelInst stands after ClearingFirm.
+fn purge_late(bits: &[u8], count: u8, optional: &[u8]) -> u32
+    requires { ⌜ (count ≤ length (now bits)) × (hasRequired 0x47 count (now bits) ≡ true) × (sum takes (slotsOf 0x47 count (now bits)) ≡ length (now optional)) ⌝ }
+    ensures { λ r. ⌜ r ≡ lateRefusal 0x47 count (now (bits .entry)) (layoutOf 0x47 count (now (bits .entry)) (now (optional .entry))) ⌝ }
+{
+    let at = firm_width(bits, count);
+    let unit = last_unit(bits, count, optional);
+    orders::purge_late(
+        count,
+        bits,
+        optional[at],
+        optional[at + 1],
+        optional[at + 2],
+        unit,
+    )
+}
+
+// The late refusal, by the optional fields where they stand. Nothing is stored.
+fn late(message: u8, bits: &[u8], count: u8, optional: &[u8]) -> u32
+    requires { ⌜ (count ≤ length (now bits)) × (hasRequired message count (now bits) ≡ true) × (sum takes (slotsOf message count (now bits)) ≡ length (now optional)) ⌝ }
+    ensures { λ r. ⌜ r ≡ lateRefusal message count (now (bits .entry)) (layoutOf message count (now (bits .entry)) (now (optional .entry))) ⌝ }
+{
+    match message {
+        0x3A => modify_late(bits, count, optional),
+        0x47 => purge_late(bits, count, optional),
+        _ => 0,
+    }
 }
 
 // The refusal of a message m of which the bitfields, what follows them and the optional bytes, which follow the middle of `size` bytes, are lent where

@@ -4,6 +4,7 @@ pub mod FixedFields
 pub mod FixedFieldLaws
 pub mod Middle
 pub mod Late
+pub mod LateBytes
 pub mod Orders
 pub mod LateSums
 pub mod OrderLaws

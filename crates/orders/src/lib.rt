@@ -1,17 +1,18 @@
-// Messages with bitfields, as records: New Order, Cancel Order, Modify Order and Purge Orders from the member; Order Acknowledgment, Order Execution, Order Rejected, Cancel
-// Rejected and User Modify Rejected from the venue.
+// Messages with bitfields, as records: New Order, Cancel Order, Modify Order and Purge Orders from the member; Order Acknowledgment, Order Execution, Order
+// Rejected, Cancel Rejected and User Modify Rejected from the venue.
 ghost use mathlib.Core.Path.{_≡_};
 ghost use mathlib.Core.Bool.{not, _&&_, _||_};
 ghost use lib.Dec.{eqb};
 ghost use Prim.Native.Nat.{_+_, _≤_};
-ghost use lib.ListN.{length, getD};
+ghost use lib.ListN.{length};
 ghost use Rattle.block.specs.Places.{selectedAt};
 ghost use Rattle.block.specs.Sizes.{layoutSize};
 ghost use Rattle.orders.specs.Shapes.{ofMember, sequenced, unsequenced, ofVenue, countAt, mostOf, unitGood};
 ghost use Rattle.orders.specs.FixedFields.{fixedWrong};
 ghost use Rattle.orders.specs.Rests.{nameAt, newOrderRest, modifyOrderRest, executionRest, rejectionRest};
 ghost use Rattle.orders.specs.Middle.{middleSize, middleGood};
-ghost use Rattle.orders.specs.Late.{charF, charS, charB, charL, modifyOrderLacks, lacks, conflicts, lateRefusal};
+ghost use Rattle.orders.specs.Late.{market, charF, charS, charB, charL, lateRefusal};
+ghost use Rattle.orders.specs.LateBytes.{modifyLate, purgeNeeds, purgeClash, purgeLate};
 ghost use Rattle.orders.specs.Orders.{blank};
 use kinds::Kind;
 use table::Unit;
@@ -171,7 +172,7 @@ fn modify_order_rest(f: &[u8]) -> usize
     requires { ⌜ 40 ≤ length (now f) ⌝ }
     ensures { λ r. ⌜ r ≡ modifyOrderRest (now (f .entry)) ⌝ }
 {
-    if !kinds::identifies(&f[20..40]) {
+    if !kinds::agrees_filled(Kind::Identifier, &f[20..40]) {
         return 30;
     }
     0
@@ -254,22 +255,22 @@ pub fn middle_good(message: u8, count: u8, bits: &[u8], rest: &[u8]) -> bool
 }
 
 // Whether a Modify Order lacks its Price: it is not selected, and OrdType has not the market value.
-fn modify_order_lacks(count: u8, bits: &[u8], slots: &[u8]) -> bool
-    requires { ⌜ (count ≤ length (now bits)) × (length (now slots) ≡ layoutSize) ⌝ }
-    ensures { λ r. ⌜ r ≡ modifyOrderLacks count (now (bits .entry)) (now (slots .entry)) ⌝ }
+fn modify_order_lacks(count: u8, bits: &[u8], kind: u8) -> bool
+    requires { ⌜ count ≤ length (now bits) ⌝ }
+    ensures { λ r. ⌜ r ≡ (not (selectedAt count (now (bits .entry)) 3) && not (eqb kind market)) ⌝ }
 {
     if block::is_selected(bits, count, 3) {
         return false;
     }
-    slots[16] != b'1'
+    kind != b'1'
 }
 
 // Whether a Purge Orders whose MassCancelInst begins with F has no ClearingFirm.
-fn lacks_firm(count: u8, bits: &[u8], slots: &[u8]) -> bool
-    requires { ⌜ (count ≤ length (now bits)) × (length (now slots) ≡ layoutSize) ⌝ }
-    ensures { λ r. ⌜ r ≡ (eqb (getD (now (slots .entry)) 4 0) charF && not (selectedAt count (now (bits .entry)) 0)) ⌝ }
+fn lacks_firm(count: u8, bits: &[u8], first: u8) -> bool
+    requires { ⌜ count ≤ length (now bits) ⌝ }
+    ensures { λ r. ⌜ r ≡ (eqb first charF && not (selectedAt count (now (bits .entry)) 0)) ⌝ }
 {
-    if slots[4] != b'F' {
+    if first != b'F' {
         return false;
     }
     !block::is_selected(bits, count, 0)
@@ -286,48 +287,41 @@ fn asks_for_one(style: u8) -> bool
 }
 
 // Whether a Purge Orders that asks for it has no MassCancelID.
-fn lacks_id(count: u8, bits: &[u8], slots: &[u8]) -> bool
-    requires { ⌜ (count ≤ length (now bits)) × (length (now slots) ≡ layoutSize) ⌝ }
-    ensures { λ r. ⌜ r ≡ ((eqb (getD (now (slots .entry)) 5 0) charS || eqb (getD (now (slots .entry)) 5 0) charB) && not (selectedAt count (now (bits .entry)) 4)) ⌝ }
+fn lacks_id(count: u8, bits: &[u8], second: u8) -> bool
+    requires { ⌜ count ≤ length (now bits) ⌝ }
+    ensures { λ r. ⌜ r ≡ ((eqb second charS || eqb second charB) && not (selectedAt count (now (bits .entry)) 4)) ⌝ }
 {
-    if !asks_for_one(slots[5]) {
+    if !asks_for_one(second) {
         return false;
     }
     !block::is_selected(bits, count, 4)
 }
 
-// Whether a field is not selected that the value of a selected one needs.
-fn is_lacking(message: u8, count: u8, bits: &[u8], slots: &[u8]) -> bool
-    requires { ⌜ (count ≤ length (now bits)) × (length (now slots) ≡ layoutSize) ⌝ }
-    ensures { λ r. ⌜ r ≡ lacks message count (now (bits .entry)) (now (slots .entry)) ⌝ }
+// Whether a Purge Orders has not selected a field that MassCancelInst needs.
+fn purge_orders_lacks(count: u8, bits: &[u8], first: u8, second: u8) -> bool
+    requires { ⌜ count ≤ length (now bits) ⌝ }
+    ensures { λ r. ⌜ r ≡ purgeNeeds count (now (bits .entry)) first second ⌝ }
 {
-    match message {
-        0x3A => modify_order_lacks(count, bits, slots),
-        0x47 => {
-            if lacks_firm(count, bits, slots) {
-                return true;
-            }
-            lacks_id(count, bits, slots)
-        }
-        _ => false,
+    if lacks_firm(count, bits, first) {
+        return true;
     }
+    lacks_id(count, bits, second)
 }
 
 // Whether the third character of MassCancelInst locks out without F as its first.
-fn locks_all(slots: &[u8]) -> bool
-    requires { ⌜ length (now slots) ≡ layoutSize ⌝ }
-    ensures { λ r. ⌜ r ≡ (eqb (getD (now (slots .entry)) 6 0) charL && not (eqb (getD (now (slots .entry)) 4 0) charF)) ⌝ }
+fn locks_all(first: u8, third: u8) -> bool
+    ensures { λ r. ⌜ r ≡ (eqb third charL && not (eqb first charF)) ⌝ }
 {
-    if slots[6] != b'L' {
+    if third != b'L' {
         return false;
     }
-    slots[4] != b'F'
+    first != b'F'
 }
 
 // Whether Symbol is selected together with a MatchingUnit other than 0.
-fn symbol_and_unit(count: u8, bits: &[u8], slots: &[u8]) -> bool
-    requires { ⌜ (count ≤ length (now bits)) × (length (now slots) ≡ layoutSize) ⌝ }
-    ensures { λ r. ⌜ r ≡ (selectedAt count (now (bits .entry)) 8 && (selectedAt count (now (bits .entry)) 15 && not (eqb (getD (now (slots .entry)) 56 0) 0))) ⌝ }
+fn symbol_and_unit(count: u8, bits: &[u8], unit: u8) -> bool
+    requires { ⌜ count ≤ length (now bits) ⌝ }
+    ensures { λ r. ⌜ r ≡ (selectedAt count (now (bits .entry)) 8 && (selectedAt count (now (bits .entry)) 15 && not (eqb unit 0))) ⌝ }
 {
     if !block::is_selected(bits, count, 8) {
         return false;
@@ -335,35 +329,56 @@ fn symbol_and_unit(count: u8, bits: &[u8], slots: &[u8]) -> bool
     if !block::is_selected(bits, count, 15) {
         return false;
     }
-    slots[56] != 0
+    unit != 0
 }
 
 // Whether the fields of a Purge Orders do not go together.
-fn is_conflicting(message: u8, count: u8, bits: &[u8], slots: &[u8]) -> bool
-    requires { ⌜ (count ≤ length (now bits)) × (length (now slots) ≡ layoutSize) ⌝ }
-    ensures { λ r. ⌜ r ≡ conflicts message count (now (bits .entry)) (now (slots .entry)) ⌝ }
+fn purge_orders_conflicts(count: u8, bits: &[u8], first: u8, third: u8, unit: u8) -> bool
+    requires { ⌜ count ≤ length (now bits) ⌝ }
+    ensures { λ r. ⌜ r ≡ purgeClash count (now (bits .entry)) first third unit ⌝ }
 {
-    if message != 0x47 {
-        return false;
-    }
-    if locks_all(slots) {
+    if locks_all(first, third) {
         return true;
     }
-    symbol_and_unit(count, bits, slots)
+    symbol_and_unit(count, bits, unit)
 }
 
-// What is judged after 10, by the values of selected fields: 9 for one that they need, at the last bitfield byte; 23 for those that do not go together.
+// What is judged of a Modify Order after 10, by OrdType's byte: 9, at the last bitfield byte, where Price is needed.
+pub fn modify_late(count: u8, bits: &[u8], kind: u8) -> u32
+    requires { ⌜ count ≤ length (now bits) ⌝ }
+    ensures { λ r. ⌜ r ≡ modifyLate count (now (bits .entry)) kind ⌝ }
+{
+    if modify_order_lacks(count, bits, kind) {
+        return refusals::told(refusals::NOT_SELECTED, 50 + (count as usize));
+    }
+    0
+}
+
+// What is judged of a Purge Orders after 10, by the first three characters of MassCancelInst and MatchingUnit: 9 for a field that they need, at the last
+// bitfield byte; 23 for those that do not go together.
+pub fn purge_late(count: u8, bits: &[u8], first: u8, second: u8, third: u8, unit: u8) -> u32
+    requires { ⌜ count ≤ length (now bits) ⌝ }
+    ensures { λ r. ⌜ r ≡ purgeLate count (now (bits .entry)) first second third unit ⌝ }
+{
+    if purge_orders_lacks(count, bits, first, second) {
+        return refusals::told(refusals::NOT_SELECTED, 11 + (count as usize));
+    }
+    if purge_orders_conflicts(count, bits, first, third, unit) {
+        return refusals::CONFLICT;
+    }
+    0
+}
+
+// The same of a full layout, whatever the message: the others have no late refusal.
 pub fn late_refusal(message: u8, count: u8, bits: &[u8], slots: &[u8]) -> u32
     requires { ⌜ (count ≤ length (now bits)) × (length (now slots) ≡ layoutSize) ⌝ }
     ensures { λ r. ⌜ r ≡ lateRefusal message count (now (bits .entry)) (now (slots .entry)) ⌝ }
 {
-    if is_lacking(message, count, bits, slots) {
-        return refusals::told(refusals::NOT_SELECTED, count_at(message) + (count as usize));
+    match message {
+        0x3A => modify_late(count, bits, slots[16]),
+        0x47 => purge_late(count, bits, slots[4], slots[5], slots[6], slots[56]),
+        _ => 0,
     }
-    if is_conflicting(message, count, bits, slots) {
-        return refusals::CONFLICT;
-    }
-    0
 }
 
 // The blank record, with which a new one begins.

@@ -1,10 +1,11 @@
 -- `order_reader::parts_refusal` meets its contract: what is judged of the parts is what the definition says of them. Assumes nothing.
 use Rattle.wire.specs.Header.{totalOf}
-use Rattle.order_reader.proofs.Judging.{bad-near, total-near, wrong-near, block-stops, late-decides, optional-right}
+use Rattle.order_reader.proofs.Judging.{bad-near, total-near, wrong-near, block-stops, late-decides, optional-right, required-right}
 use Rattle.block_judge.specs.Made.{judged-all}
 use denote.Ref.{now}
 use lib.ListN.{drop}
 use mathlib.Core.Path.{sym, _∙_}
+use native.Mathlib.Omega.{arith}
 use borrow.Author.Needs.{needs}
 use Rattle.order_reader.proofs.parts_refusal.Statement.{statement}
 use Rattle.order_reader.proofs.parts_refusal.Tie as tie
@@ -36,7 +37,7 @@ late-requires c κs =
     let start = judged .before .before .before .before .before .before in
     let a = start .args in
     let k = judged-all (a .message) (a .count) (now (a .bits)) (now (a .optional)) (all .result) (all .ensures) in
-    (start .pre .0, start .pre .1, optional-right (totalOf (now (a .m))) (a .message) (a .count) (now (a .bits)) (drop 10 (now (a .m))) (now (a .rest)) (now (a .optional)) (a .size) (all .result) (start .pre .3) (start .pre .5) k (sym (judged .judged .ensures) ∙ c .if1 .left))
+    (omega (arith, start .pre .0), required-right (totalOf (now (a .m))) (a .message) (a .count) (now (a .bits)) (drop 10 (now (a .m))) (now (a .rest)) (now (a .optional)) (a .size) (all .result) (start .pre .3) (start .pre .5) k (sym (judged .judged .ensures) ∙ c .if1 .left), optional-right (totalOf (now (a .m))) (a .message) (a .count) (now (a .bits)) (drop 10 (now (a .m))) (now (a .rest)) (now (a .optional)) (a .size) (all .result) (start .pre .3) (start .pre .5) k (sym (judged .judged .ensures) ∙ c .if1 .left))
 
 returns-2 : tie.Need-returns-2
 returns-2 c =

@@ -6,9 +6,6 @@ use borrow.Author.Needs.{needs}
 use Rattle.orders.proofs.lacks_firm.Statement.{statement}
 use Rattle.orders.proofs.lacks_firm.Tie as tie
 
-shared-slice-read-if1 : tie.Need-shared-slice-read-if1
-shared-slice-read-if1 c = search needs
-
 returns : tie.Need-returns
 returns c = rw (ne-eqb _ _ (c .if1 .taken))
 
@@ -19,4 +16,4 @@ returns-2 : tie.Need-returns-2
 returns-2 c = rw (eq-eqb _ _ (c .before .if1 .left)) (ap not (c .is-selected .ensures))
 
 pub lacks-firm-spec : {M : Type 1} → statement M
-lacks-firm-spec = tie.close (tie.spec shared-slice-read-if1 returns is-selected-requires returns-2)
+lacks-firm-spec = tie.close (tie.spec returns is-selected-requires returns-2)

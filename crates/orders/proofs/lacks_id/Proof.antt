@@ -6,9 +6,6 @@ use borrow.Author.Needs.{needs}
 use Rattle.orders.proofs.lacks_id.Statement.{statement}
 use Rattle.orders.proofs.lacks_id.Tie as tie
 
-shared-slice-read-asks-for-one : tie.Need-shared-slice-read-asks-for-one
-shared-slice-read-asks-for-one c = search needs
-
 asks-for-one-requires : tie.Need-asks-for-one-requires
 asks-for-one-requires c κs = search needs
 
@@ -22,11 +19,4 @@ returns-2 : tie.Need-returns-2
 returns-2 c = rw (sym (c .before .before .asks-for-one .ensures) ∙ not-false _ (c .before .if1 .left)) (ap not (c .is-selected .ensures))
 
 pub lacks-id-spec : {M : Type 1} → statement M
-lacks-id-spec =
-    tie.close
-    (tie.spec
-    shared-slice-read-asks-for-one
-    asks-for-one-requires
-    returns
-    is-selected-requires
-    returns-2)
+lacks-id-spec = tie.close (tie.spec asks-for-one-requires returns is-selected-requires returns-2)

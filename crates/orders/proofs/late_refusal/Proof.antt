@@ -1,56 +1,55 @@
 -- `orders::late_refusal` meets its contract. Assumes nothing.
-use Rattle.orders.specs.Late.{lateRefusal}
-use Rattle.orders.specs.OrderLaws.{count-bounds}
-use Rattle.refusals.specs.Names.{notSelected}
-use Rattle.refusals.specs.Told.{told}
-use mathlib.Core.Path.{sym, ap, _∙_}
-use Prim.Native.Nat.{ℕ, _+_}
-use native.Mathlib.Omega.{arith}
+use Rattle.orders.specs.LateBytes.{modify-late-is, purge-late-is, never-late}
+use mathlib.Core.Path.{sym, _∙_}
 use borrow.Author.Needs.{needs}
 use Rattle.orders.proofs.late_refusal.Statement.{statement}
 use Rattle.orders.proofs.late_refusal.Tie as tie
 
-is-lacking-requires : tie.Need-is-lacking-requires
-is-lacking-requires c κs = search needs
+shared-slice-read-modify-late : tie.Need-shared-slice-read-modify-late
+shared-slice-read-modify-late c = search needs
 
-count-at-requires : tie.Need-count-at-requires
-count-at-requires c κs = search needs
+modify-late-requires : tie.Need-modify-late-requires
+modify-late-requires c κs = search needs
 
-add-told : tie.Need-add-told
-add-told c = omega (arith, c .count-at .ensures, count-bounds (c .before .before .before .before .before .args .message) .high)
+shared-slice-read-purge-late : tie.Need-shared-slice-read-purge-late
+shared-slice-read-purge-late c = search needs
 
-told-requires : tie.Need-told-requires
-told-requires c κs = (omega arith, omega (arith, c .count-at .ensures, count-bounds (c .before .before .before .before .before .args .message) .high))
+shared-slice-read-purge-late-2 : tie.Need-shared-slice-read-purge-late-2
+shared-slice-read-purge-late-2 c = search needs
+
+shared-slice-read-purge-late-3 : tie.Need-shared-slice-read-purge-late-3
+shared-slice-read-purge-late-3 c = search needs
+
+shared-slice-read-purge-late-4 : tie.Need-shared-slice-read-purge-late-4
+shared-slice-read-purge-late-4 c = search needs
+
+purge-late-requires : tie.Need-purge-late-requires
+purge-late-requires c κs = search needs
 
 returns : tie.Need-returns
-unfolding lateRefusal
 returns c =
-    let at = c .before in
-    let a = at .before .before .before .before .before .args in
-    c .told .ensures
-    ∙ ap (λ (n : ℕ). told notSelected (n + a .count)) (at .count-at .ensures)
-    ∙ rw (sym (at .before .before .is-lacking .ensures) ∙ at .before .if1 .taken)
-
-is-conflicting-requires : tie.Need-is-conflicting-requires
-is-conflicting-requires c κs = search needs
+    let start = c .before .before in
+    rw (start .match .keys1) (c .modify-late .ensures ∙ sym (modify-late-is _ _ _))
 
 returns-2 : tie.Need-returns-2
-unfolding lateRefusal
-returns-2 c = rw (sym (c .before .before .before .is-lacking .ensures) ∙ c .before .before .if1 .left, sym (c .before .is-conflicting .ensures) ∙ c .if2 .taken)
+returns-2 c =
+    let start = c .before .before .before .before .before in
+    rw (start .match .keys2) (c .purge-late .ensures ∙ sym (purge-late-is _ _ _))
 
 returns-3 : tie.Need-returns-3
-unfolding lateRefusal
-returns-3 c = rw (sym (c .before .before .before .is-lacking .ensures) ∙ c .before .before .if1 .left, sym (c .before .is-conflicting .ensures) ∙ c .if2 .left)
+returns-3 c = never-late _ _ _ _ (c .match .rest .0 .1) (c .match .rest .1)
 
 pub late-refusal-spec : {M : Type 1} → statement M
 late-refusal-spec =
     tie.close
     (tie.spec
-    is-lacking-requires
-    count-at-requires
-    add-told
-    told-requires
+    shared-slice-read-modify-late
+    modify-late-requires
+    shared-slice-read-purge-late
+    shared-slice-read-purge-late-2
+    shared-slice-read-purge-late-3
+    shared-slice-read-purge-late-4
+    purge-late-requires
     returns
-    is-conflicting-requires
     returns-2
     returns-3)

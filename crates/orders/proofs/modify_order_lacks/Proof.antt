@@ -10,12 +10,8 @@ is-selected-requires c κs = search needs
 returns : tie.Need-returns
 returns c = rw (sym (c .before .is-selected .ensures) ∙ c .if1 .taken)
 
-shared-slice-read-result : tie.Need-shared-slice-read-result
-shared-slice-read-result c = search needs
-
 returns-2 : tie.Need-returns-2
-returns-2 c = rw (sym (c .before .before .is-selected .ensures) ∙ c .before .if1 .left)
+returns-2 c = rw (sym (c .before .is-selected .ensures) ∙ c .if1 .left)
 
 pub modify-order-lacks-spec : {M : Type 1} → statement M
-modify-order-lacks-spec =
-    tie.close (tie.spec is-selected-requires returns shared-slice-read-result returns-2)
+modify-order-lacks-spec = tie.close (tie.spec is-selected-requires returns returns-2)

@@ -17,21 +17,8 @@ is-selected-requires-2 c κs = search needs
 returns-2 : tie.Need-returns-2
 returns-2 c = rw (sym (c .before .before .before .is-selected .ensures) ∙ not-false _ (c .before .before .if1 .left), sym (c .before .is-selected2 .ensures) ∙ not-true _ (c .if2 .taken))
 
-shared-slice-read-result : tie.Need-shared-slice-read-result
-shared-slice-read-result c = search needs
-
 returns-3 : tie.Need-returns-3
-returns-3 c =
-    let second = c .before .before in
-    rw (sym (second .before .before .is-selected .ensures) ∙ not-false _ (second .before .if1 .left), sym (second .is-selected2 .ensures) ∙ not-false _ (c .before .if2 .left))
+returns-3 c = rw (sym (c .before .before .before .is-selected .ensures) ∙ not-false _ (c .before .before .if1 .left), sym (c .before .is-selected2 .ensures) ∙ not-false _ (c .if2 .left))
 
 pub symbol-and-unit-spec : {M : Type 1} → statement M
-symbol-and-unit-spec =
-    tie.close
-    (tie.spec
-    is-selected-requires
-    returns
-    is-selected-requires-2
-    returns-2
-    shared-slice-read-result
-    returns-3)
+symbol-and-unit-spec = tie.close (tie.spec is-selected-requires returns is-selected-requires-2 returns-2 returns-3)
