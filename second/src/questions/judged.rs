@@ -17,6 +17,18 @@ pub fn asked_by(ask: fn(&mut Vec<String>)) -> Vec<String> {
     lines
 }
 
+/// How often the questions of a section got each number, by their call: "read 9".
+pub fn numbers_by_call(ask: fn(&mut Vec<String>)) -> BTreeMap<String, usize> {
+    let mut seen = BTreeMap::new();
+    for line in asked_by(ask) {
+        let answer = ask::answer(line.as_bytes());
+        let number = ask::number_of(answer.split(' ').next().unwrap()).to_string();
+        let call = line.split(' ').next().unwrap();
+        *seen.entry(format!("{} {}", call, number)).or_default() += 1;
+    }
+    seen
+}
+
 /// How often each type got each number.
 type Seen = BTreeMap<(u8, u8), usize>;
 

@@ -174,20 +174,12 @@ fn slots(lines: &mut Vec<String>, random: &mut Random) {
 #[cfg(test)]
 mod tests {
     use super::*;
-    use crate::ask;
     use crate::questions::judged;
-    use std::collections::BTreeMap;
 
     /// Each number comes that these questions are about, read and written.
     #[test]
     fn numbers() {
-        let mut seen: BTreeMap<String, usize> = BTreeMap::new();
-        for line in judged::asked_by(ask) {
-            let answer = ask::answer(line.as_bytes());
-            let number = ask::number_of(answer.split(' ').next().unwrap()).to_string();
-            let call = line.split(' ').next().unwrap();
-            *seen.entry(format!("{} {}", call, number)).or_default() += 1;
-        }
+        let seen = judged::numbers_by_call(ask);
         for expected in [
             "read 0", "read 6", "read 9", "read 10", "write 0", "write 9", "write 10", "write 12",
         ] {

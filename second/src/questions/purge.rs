@@ -482,13 +482,7 @@ mod tests {
     /// Each number comes that these questions are about, read and written.
     #[test]
     fn numbers() {
-        let mut seen: BTreeMap<String, usize> = BTreeMap::new();
-        for line in judged::asked_by(ask) {
-            let answer = ask::answer(line.as_bytes());
-            let number = ask::number_of(answer.split(' ').next().unwrap()).to_string();
-            let call = line.split(' ').next().unwrap();
-            *seen.entry(format!("{} {}", call, number)).or_default() += 1;
-        }
+        let seen = judged::numbers_by_call(ask);
         for expected in [
             "read 0", "read 3", "read 6", "read 8", "read 9", "read 10", "read 23", "write 0",
             "write 7", "write 8", "write 9", "write 10", "write 12", "write 13", "write 23",
