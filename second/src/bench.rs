@@ -7,6 +7,7 @@ mod tests;
 use crate::hex;
 use crate::rules::desk::Told;
 use crate::rules::login::{Choice, Login, Returned};
+use crate::rules::market::{self, Market};
 use crate::rules::member::{Member, Phase};
 use crate::rules::table::{entry, SIZE, UNITS};
 use crate::rules::venue::Venue;
@@ -57,20 +58,23 @@ impl Bench {
 
     fn of_member(&mut self, question: &str, arguments: &[&str]) -> Option<String> {
         match (question, arguments) {
-            ("m-open", [date, room]) => {
+            ("m-open", [date, room, market]) => {
                 let (date, room) = (read_u32(date)?, read_size(room, BUFFER)?);
-                let result = self.member.open(date, &mut self.book[..room]);
+                let market = read_market(market)?;
+                let result = self.member.open(date, &mut self.book[..room], market);
                 Some(self.member_after(result))
             }
-            ("m-restart", [date, size]) => {
+            ("m-restart", [date, size, market]) => {
                 let (date, size) = (read_u32(date)?, read_size(size, BUFFER)?);
-                let result = self.member.restart(date, &self.book[..size]);
+                let market = read_market(market)?;
+                let result = self.member.restart(date, &self.book[..size], market);
                 Some(self.member_after(result))
             }
-            ("m-state", [phase, outgoing, date, length, last, count, table]) => {
+            ("m-state", [phase, outgoing, market, date, length, last, count, table]) => {
                 let mut member = Member::blank();
                 member.phase = read_phase(phase)?;
                 member.outgoing = read_u32(outgoing)?;
+                member.market = read_market(market)?;
                 member.book.date = read_u32(date)?;
                 member.book.length = read_u32(length)? as usize;
                 member.book.last = read_u32(last)? as usize;
@@ -157,8 +161,9 @@ impl Bench {
                 let result = result.map(|_sent| ());
                 Some(self.venue_after(result) + " " + &hex::write(&out))
             }
-            ("v-order", [bytes]) => {
-                let result = self.venue.order(&hex::read(bytes)?);
+            ("v-order", [market, bytes]) => {
+                let market = read_market(market)?;
+                let result = self.venue.order(market, &hex::read(bytes)?);
                 Some(self.venue_after(result))
             }
             ("v-break", []) => {
@@ -178,12 +183,14 @@ impl Bench {
         let Member {
             phase,
             outgoing,
+            market,
             book,
         } = &self.member;
         format!(
-            "{} {} {} {} {} {} {}",
+            "{} {} {} {} {} {} {} {}",
             *phase as u8,
             outgoing,
+            *market as u8,
             book.date,
             book.length,
             book.last,
@@ -232,6 +239,10 @@ fn bytes_and_table(buffer: &[u8], length: usize, table: &[u8; SIZE]) -> String {
 fn read_phase(word: &str) -> Option<Phase> {
     let phases = [Phase::Closed, Phase::Asked, Phase::Replaying, Phase::Live];
     read_number(word, 3).map(|phase| phases[phase as usize])
+}
+
+fn read_market(word: &str) -> Option<Market> {
+    read_number(word, 1).map(|market| market::ALL[market as usize])
 }
 
 /// All arguments of `m-login` but the last.

@@ -36,6 +36,24 @@ pub fn new_order_of_the_notes() -> Vec<u8> {
     message
 }
 
+/// Document 002's New Order of an options market; the header, ClOrdID, Side and OrderQty are made up.
+pub fn options_order() -> Vec<u8> {
+    filled(&[
+        ("BABA5900380001000000", 10),
+        ("414243313233", 20),
+        ("310A000000", 5),
+        ("0404C10117", 5),
+        ("7017000000000000", 8),
+        ("4D534654", 8),
+        ("43", 1),
+        ("52", 4),
+        ("44454647", 16),
+        ("EFDB3201", 4),
+        ("98AB020000000000", 8),
+        ("314F", 2),
+    ])
+}
+
 /// Table 27; P7.
 pub fn cancel() -> Vec<u8> {
     filled(&[
@@ -340,6 +358,7 @@ mod tests {
     fn lengths() {
         for message in [
             new_order(),
+            options_order(),
             cancel(),
             cancel_without_bitfields(),
             cancel_of_three_bitfields(),
@@ -369,6 +388,7 @@ mod tests {
         assert_eq!(options_login().len(), 63);
         assert_eq!(new_order().len(), 76);
         assert_eq!(new_order_of_the_notes().len(), 76);
+        assert_eq!(options_order().len(), 91);
         assert_eq!(cancel().len(), 36);
         assert_eq!(cancel_without_bitfields().len(), 31);
         assert_eq!(booked_acknowledgment().len(), 57);

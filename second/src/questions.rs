@@ -13,6 +13,7 @@ pub mod made;
 mod modify;
 pub mod more;
 mod number;
+mod options;
 mod order;
 mod outside;
 pub mod parts;
@@ -47,6 +48,7 @@ pub fn all() -> String {
     desk::ask(&mut lines);
     modify::ask(&mut lines);
     purge::ask(&mut lines);
+    options::ask(&mut lines);
     let mut output = String::new();
     for line in lines {
         output.push_str(&line);
@@ -75,7 +77,7 @@ mod tests {
     #[test]
     fn plain_text_of_a_fair_size() {
         let questions = all();
-        assert!(questions.len() < 15_500_000);
+        assert!(questions.len() < 16_800_000);
         for byte in questions.bytes() {
             assert!(byte == b'\n' || byte == b'\t' || (32..=126).contains(&byte));
         }

@@ -9,6 +9,7 @@ pub mod kinds;
 pub mod layout;
 pub mod listing;
 pub mod login;
+pub mod market;
 pub mod member;
 pub mod number;
 pub mod price;

@@ -35,6 +35,7 @@ const QUIET: Days = Days {
     disturbed: 4,
     wrong: 3,
     choices: false,
+    options: 0,
 };
 /// As long as the buffers let it be.
 const LONG: Days = Days {
@@ -67,15 +68,26 @@ const NARROW: Days = Days {
     wrong: 6,
     ..QUIET
 };
-/// Much is refused.
+/// Much is refused, to members of either market.
 const WRONG: Days = Days {
     disturbed: 8,
     wrong: 50,
     choices: true,
+    options: 50,
     ..QUIET
 };
+/// Members of an options market.
+const OPTIONS: Days = Days {
+    options: 100,
+    ..QUIET
+};
+/// An opening or a restart may name another market than the one before.
+const EITHER: Days = Days {
+    options: 50,
+    ..BROKEN
+};
 
-const STORED: [Kind; 20] = [
+const STORED: [Kind; 22] = [
     Kind::Days(QUIET),
     Kind::Days(LONG),
     Kind::Days(BROKEN),
@@ -96,6 +108,8 @@ const STORED: [Kind; 20] = [
     Kind::Outside,
     Kind::Places,
     Kind::Days(BROKEN),
+    Kind::Days(OPTIONS),
+    Kind::Days(EITHER),
 ];
 const SEED: u64 = 120;
 

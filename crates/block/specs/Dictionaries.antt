@@ -10,7 +10,7 @@ use lib.Dec.{T, eqb, leb, eqb→eq, leb→le}
 use Rattle.kinds.specs.declared.Kind.{Kind}
 use Rattle.dictionary.specs.declared.Entry.{Entry}
 use Rattle.dictionary.specs.declared.Entry.the-variants.{Refused, Field}
-use Rattle.dictionary.specs.Dictionary.{Line, line, newOrder, cancelOrder, acknowledgments, executions, rejections, cancelRejections, modifyOrder, purgeOrders, listOf, pick, indexOf, lookup, entryOf}
+use Rattle.dictionary.specs.Dictionary.{Line, line, newOrder, cancelOrder, acknowledgments, executions, rejections, cancelRejections, modifyOrder, purgeOrders, optionsOrder, listOf, pick, indexOf, lookup, entryOf}
 use Rattle.block.specs.Slots.{widthOf, width, sum}
 use Rattle.block.specs.Places.{selectedAt, entryAt, slotsFrom, slotsOf}
 use Rattle.block.specs.Sizes.{allPlaces, layoutSize}
@@ -127,6 +127,10 @@ at-purge-orders : T (sweep (entryAt 0x47) allPlaces 0 0)
 unfolding sweep test entryAt entryOf
 at-purge-orders = tt
 
+at-options-order : T (sweep (entryAt 0xB8) allPlaces 0 0)
+unfolding sweep test entryAt entryOf
+at-options-order = tt
+
 none-before : (entry : ℕ → Entry) → ((k : ℕ) → entry k ≡ Refused) → (k : ℕ) → before entry k ≡ 0
 unfolding before
 none-before entry r zero = refl
@@ -141,22 +145,23 @@ none-placed entry r = record {
 -- every type's dictionary is placed in the full layout
 pub dictionary-placed : (message : ℕ) → Placed (entryAt message) layoutSize
 unfolding entryAt entryOf
-dictionary-placed message = by (eqb message 0x38) (eqb message 0x39) (eqb message 0x25) (eqb message 0x2C) (eqb message 0x26) (eqb message 0x2B) (eqb message 0x3A) (eqb message 0x47) refl refl refl refl refl refl refl refl
+dictionary-placed message = by (eqb message 0x38) (eqb message 0x39) (eqb message 0x25) (eqb message 0x2C) (eqb message 0x26) (eqb message 0x2B) (eqb message 0x3A) (eqb message 0x47) (eqb message 0xB8) refl refl refl refl refl refl refl refl refl
   where
     at : (x : ℕ) → Placed (entryAt x) layoutSize → eqb message x ≡ true → Placed (entryAt message) layoutSize
     at x h e = subst (λ (m : ℕ). Placed (entryAt m) layoutSize) (sym (eqb→eq message x (subst T (sym e) tt))) h
 
-    by : (b1 b2 b3 b4 b5 b6 b7 b8 : Bool) → eqb message 0x38 ≡ b1 → eqb message 0x39 ≡ b2 → eqb message 0x25 ≡ b3 → eqb message 0x2C ≡ b4 → eqb message 0x26 ≡ b5 → eqb message 0x2B ≡ b6
-        → eqb message 0x3A ≡ b7 → eqb message 0x47 ≡ b8 → Placed (entryAt message) layoutSize
-    by true b2 b3 b4 b5 b6 b7 b8 p q r s t u v w = at 0x38 (by-sweep (entryAt 0x38) at-new-order) p
-    by false true b3 b4 b5 b6 b7 b8 p q r s t u v w = at 0x39 (by-sweep (entryAt 0x39) at-cancel) q
-    by false false true b4 b5 b6 b7 b8 p q r s t u v w = at 0x25 (by-sweep (entryAt 0x25) at-acknowledgment) r
-    by false false false true b5 b6 b7 b8 p q r s t u v w = at 0x2C (by-sweep (entryAt 0x2C) at-execution) s
-    by false false false false true b6 b7 b8 p q r s t u v w = at 0x26 (by-sweep (entryAt 0x26) at-rejection) t
-    by false false false false false true b7 b8 p q r s t u v w = at 0x2B (by-sweep (entryAt 0x2B) at-cancel-rejection) u
-    by false false false false false false true b8 p q r s t u v w = at 0x3A (by-sweep (entryAt 0x3A) at-modify-order) v
-    by false false false false false false false true p q r s t u v w = at 0x47 (by-sweep (entryAt 0x47) at-purge-orders) w
-    by false false false false false false false false p q r s t u v w = none-placed (entryAt message) (λ k. simp (p, q, r, s, t, u, v, w))
+    by : (b1 b2 b3 b4 b5 b6 b7 b8 b9 : Bool) → eqb message 0x38 ≡ b1 → eqb message 0x39 ≡ b2 → eqb message 0x25 ≡ b3 → eqb message 0x2C ≡ b4 → eqb message 0x26 ≡ b5 → eqb message 0x2B ≡ b6
+        → eqb message 0x3A ≡ b7 → eqb message 0x47 ≡ b8 → eqb message 0xB8 ≡ b9 → Placed (entryAt message) layoutSize
+    by true b2 b3 b4 b5 b6 b7 b8 b9 p q r s t u v w x = at 0x38 (by-sweep (entryAt 0x38) at-new-order) p
+    by false true b3 b4 b5 b6 b7 b8 b9 p q r s t u v w x = at 0x39 (by-sweep (entryAt 0x39) at-cancel) q
+    by false false true b4 b5 b6 b7 b8 b9 p q r s t u v w x = at 0x25 (by-sweep (entryAt 0x25) at-acknowledgment) r
+    by false false false true b5 b6 b7 b8 b9 p q r s t u v w x = at 0x2C (by-sweep (entryAt 0x2C) at-execution) s
+    by false false false false true b6 b7 b8 b9 p q r s t u v w x = at 0x26 (by-sweep (entryAt 0x26) at-rejection) t
+    by false false false false false true b7 b8 b9 p q r s t u v w x = at 0x2B (by-sweep (entryAt 0x2B) at-cancel-rejection) u
+    by false false false false false false true b8 b9 p q r s t u v w x = at 0x3A (by-sweep (entryAt 0x3A) at-modify-order) v
+    by false false false false false false false true b9 p q r s t u v w x = at 0x47 (by-sweep (entryAt 0x47) at-purge-orders) w
+    by false false false false false false false false true p q r s t u v w x = at 0xB8 (by-sweep (entryAt 0xB8) at-options-order) x
+    by false false false false false false false false false p q r s t u v w x = none-placed (entryAt message) (λ k. simp (p, q, r, s, t, u, v, w, x))
 
 -- all slots of a message fit the layout
 pub widths-fit : (message count : ℕ) (bits : List ℕ) → sum width (slotsOf message count bits) ≤ layoutSize
@@ -187,16 +192,17 @@ in-list (line b t v kd ∷ ls) q byte bit {w} {p} {k} e = by (eqb byte b && eqb 
 -- a field of any bit of any type lies within the full layout
 pub field-fits : (message byte bit : ℕ) {w p : ℕ} {k : Kind} → Field w k p ≡ entryOf message byte bit → p + w ≤ layoutSize
 unfolding entryOf widths
-field-fits message byte bit {w} {p} {k} e = by (eqb message 0x38) (eqb message 0x39) (eqb message 0x25) (eqb message 0x2C) (eqb message 0x26) (eqb message 0x2B) (eqb message 0x3A) (eqb message 0x47) (in-list (listOf message) 0 byte bit e)
+field-fits message byte bit {w} {p} {k} e = by (eqb message 0x38) (eqb message 0x39) (eqb message 0x25) (eqb message 0x2C) (eqb message 0x26) (eqb message 0x2B) (eqb message 0x3A) (eqb message 0x47) (eqb message 0xB8) (in-list (listOf message) 0 byte bit e)
   where
-    by : (b1 b2 b3 b4 b5 b6 b7 b8 : Bool) → p + w ≤ 0 + widths (cond b1 newOrder (cond b2 cancelOrder (cond b3 acknowledgments (cond b4 executions (cond b5 rejections (cond b6 cancelRejections (cond b7 modifyOrder (cond b8 purgeOrders []))))))))
+    by : (b1 b2 b3 b4 b5 b6 b7 b8 b9 : Bool) → p + w ≤ 0 + widths (cond b1 newOrder (cond b2 cancelOrder (cond b3 acknowledgments (cond b4 executions (cond b5 rejections (cond b6 cancelRejections (cond b7 modifyOrder (cond b8 purgeOrders (cond b9 optionsOrder [])))))))))
         → p + w ≤ layoutSize
-    by true b2 b3 b4 b5 b6 b7 b8 h = omega (arith, h)
-    by false true b3 b4 b5 b6 b7 b8 h = omega (arith, h)
-    by false false true b4 b5 b6 b7 b8 h = omega (arith, h)
-    by false false false true b5 b6 b7 b8 h = omega (arith, h)
-    by false false false false true b6 b7 b8 h = omega (arith, h)
-    by false false false false false true b7 b8 h = omega (arith, h)
-    by false false false false false false true b8 h = omega (arith, h)
-    by false false false false false false false true h = omega (arith, h)
-    by false false false false false false false false h = omega (arith, h)
+    by true b2 b3 b4 b5 b6 b7 b8 b9 h = omega (arith, h)
+    by false true b3 b4 b5 b6 b7 b8 b9 h = omega (arith, h)
+    by false false true b4 b5 b6 b7 b8 b9 h = omega (arith, h)
+    by false false false true b5 b6 b7 b8 b9 h = omega (arith, h)
+    by false false false false true b6 b7 b8 b9 h = omega (arith, h)
+    by false false false false false true b7 b8 b9 h = omega (arith, h)
+    by false false false false false false true b8 b9 h = omega (arith, h)
+    by false false false false false false false true b9 h = omega (arith, h)
+    by false false false false false false false false true h = omega (arith, h)
+    by false false false false false false false false false h = omega (arith, h)

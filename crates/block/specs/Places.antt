@@ -5,7 +5,7 @@ use mathlib.Core.List.{List, [], _∷_}
 use lib.Dec.{ltb, eqb}
 use lib.ListN.{getD}
 use Rattle.dictionary.specs.declared.Entry.{Entry}
-use Rattle.dictionary.specs.Dictionary.{entryOf}
+use Rattle.dictionary.specs.Dictionary.{entryOf, isNewOrder}
 use Rattle.block.specs.Slots.{Slot, slot}
 use Rattle.block.specs.Sizes.{allPlaces}
 
@@ -35,8 +35,8 @@ slotsFrom selected entry (suc n) k = slot (selected k) (entry k) ∷ slotsFrom s
 abbrev pub slotsOf : ℕ → ℕ → List ℕ → List Slot
 slotsOf message count bits = slotsFrom (selectedAt count bits) (entryAt message) allPlaces 0
 
--- 9: the fields that are required whatever the others hold. New Order requires Symbol (byte 2, bit 1), Capacity (byte 2, bit 64), and Price or
--- OrdType (byte 1, bits 4 and 16)
+-- 9: the fields that are required whatever the others hold. New Order, in either market, requires Symbol (byte 2, bit 1), Capacity (byte 2, bit 64),
+-- and Price or OrdType (byte 1, bits 4 and 16)
 abbrev pub newOrderHas : ℕ → List ℕ → Bool
 newOrderHas count bits = selectedAt count bits 8 && (selectedAt count bits 14 && (selectedAt count bits 2 || selectedAt count bits 4))
 
@@ -52,7 +52,7 @@ purgeOrdersHas count bits = selectedAt count bits 2
 -- the other messages require none
 unfoldable pub hasRequired : ℕ → ℕ → List ℕ → Bool
 hasRequired message count bits =
-    cond (eqb message 0x38) (newOrderHas count bits)
+    cond (isNewOrder message) (newOrderHas count bits)
     (cond (eqb message 0x3A) (modifyOrderHas count bits)
     (cond (eqb message 0x47) (purgeOrdersHas count bits)
     true))

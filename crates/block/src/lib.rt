@@ -203,7 +203,7 @@ pub fn has_required(message: u8, bits: &[u8], count: u8) -> bool
     ensures { λ r. ⌜ r ≡ hasRequired message count (now (bits .entry)) ⌝ }
 {
     match message {
-        0x38 => new_order_has(bits, count),
+        0x38 | 0xB8 => new_order_has(bits, count),
         0x3A => modify_order_has(bits, count),
         0x47 => is_selected(bits, count, 2),
         _ => true,

@@ -66,18 +66,18 @@ pub record Brought (t : Table) (log : List Msg) (sent : List Sent) (now : Venue)
 pub data Call : Type 0 where
   -- the log is offered a message; the venue hears what a member sends; it makes a step
   offers : ℕ → Bytes → Call
-  hears : Bytes → Call
+  hears : ℕ → Bytes → Call
   steps : ℕ → Call
 
 module _ (B : VenueCode) where
   abbrev pub called : Call → B .Ven → B .Ven
   called (offers room b) v = B .adds room b v
-  called (hears b) v = B .hears b v
+  called (hears market b) v = B .hears market b v
   called (steps room) v = B .stepTo room v
 
   abbrev pub bytesOut : Call → B .Ven → List Bytes
   bytesOut (offers room b) v = []
-  bytesOut (hears b) v = []
+  bytesOut (hears market b) v = []
   bytesOut (steps room) v = B .stepSends room v
 
   -- one after the other: the venue after them, and all that was sent

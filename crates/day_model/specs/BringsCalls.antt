@@ -39,7 +39,7 @@ module _ (L : Line) (B : VenueCode) (N : MeetsVenue L B) (P : Bytes → Type 0)
       second : (a b : Bool) → (a && b) ≡ true → b ≡ true
       second true b e = e
       second false b e = absurd (false≢true e)
-  a-call (hears b) v xs g o = record { good = N .hears-good b v g; each-sent = tt; went = rw (N .hears-is b v g) (went-nowhere t (seen v) xs o) }
+  a-call (hears market b) v xs g o = record { good = N .hears-good market b v g; each-sent = tt; went = rw (N .hears-is market b v g) (went-nowhere t (seen v) xs o) }
   a-call (steps room) v xs g o =
       let r : B .running v ≡ true = sym (N .running-is v) ∙ o .runs in
       let s = N .step-is room v g r in

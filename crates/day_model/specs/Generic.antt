@@ -52,8 +52,8 @@ pub record Meets (C : Code) : Type 1 where
   pub ended-good : (room : ℕ) (s : C .State) → Good s → Good (C .ended room s)
   pub ended-is : (room : ℕ) (s : C .State) → Good s → view (C .ended room s) ≡ broken (cap room) (view s)
   pub keeps : ℕ → C .State → ℕ
-  pub restart-good : (k : ℕ) (s : C .State) → Good s → Readable (view s .book) → Good (C .restart k s)
-  pub restart-is : (k : ℕ) (s : C .State) → Good s → Readable (view s .book) → view (C .restart k s) ≡ restarted (restartOf (take (keeps k s) (view s .book))) (take (keeps k s) (view s .book))
+  pub restart-good : (market k : ℕ) (s : C .State) → Good s → Readable (view s .book) → Good (C .restart market k s)
+  pub restart-is : (market k : ℕ) (s : C .State) → Good s → Readable (view s .book) → view (C .restart market k s) ≡ restarted (restartOf (take (keeps k s) (view s .book))) (take (keeps k s) (view s .book))
   -- the venue
   pub empty-good : GoodV (C .empty)
   pub empty-is : viewV (C .empty) ≡ start .venue
@@ -62,8 +62,8 @@ pub record Meets (C : Code) : Type 1 where
   pub readable : ℕ → Bytes → C .Ven → Bool
   pub adds-good : (room : ℕ) (b : Bytes) (v : C .Ven) → GoodV v → GoodV (C .adds room b v)
   pub adds-is : (room : ℕ) (b : Bytes) (v : C .Ven) → GoodV v → viewV (C .adds room b v) ≡ logged (readable room b v && nextInLog (msgOf b) (viewV v)) (msgOf b) (viewV v)
-  pub hears-good : (b : Bytes) (v : C .Ven) → GoodV v → GoodV (C .hears b v)
-  pub hears-is : (b : Bytes) (v : C .Ven) → GoodV v → viewV (C .hears b v) ≡ viewV v
+  pub hears-good : (market : ℕ) (b : Bytes) (v : C .Ven) → GoodV v → GoodV (C .hears market b v)
+  pub hears-is : (market : ℕ) (b : Bytes) (v : C .Ven) → GoodV v → viewV (C .hears market b v) ≡ viewV v
   -- a login is taken only outside a session; ours is, with room for the answer
   pub accepts-idle : (room : ℕ) (b : Bytes) (v : C .Ven) → C .accepts room b v ≡ true → C .running v ≡ false
   pub answerRoom : ℕ
@@ -148,11 +148,11 @@ module _ (C : Code) (M : Meets C) where
     is = rw (M .sends-is room b (w .member) (g .member));
   }
 
-  sim-hears : (w : Now C) (b : Bytes) → GoodNow w → Sim w (next C (aHearing b) w)
-  sim-hears w b g = record {
-    good = record { member = g .member; venue = M .hears-good b (w .venue) (g .venue); queue = g .queue; asking = g .asking };
+  sim-hears : (w : Now C) (market : ℕ) (b : Bytes) → GoodNow w → Sim w (next C (aHearing market b) w)
+  sim-hears w market b g = record {
+    good = record { member = g .member; venue = M .hears-good market b (w .venue) (g .venue); queue = g .queue; asking = g .asking };
     events = [];
-    is = rw (M .hears-is b (w .venue) (g .venue));
+    is = rw (M .hears-is market b (w .venue) (g .venue));
   }
 
   sim-taken : (w : Now C) (a r : Bool) (room : ℕ) → Inv (seen w) → w .asks ≡ a → C .accepts room (w .asking) (w .venue) ≡ r → GoodNow w → Sim w (nowTaken C a r room w)
@@ -248,7 +248,7 @@ module _ (C : Code) (M : Meets C) where
   sim (theLog room b) w h g = sim-log w room b (M .readable room b (w .venue)) refl g
   sim (aLogin f out) w h g = sim-login w (C .phase (w .member)) (C .writes f out (w .member)) f out refl refl g
   sim (aSending room b) w h g = sim-sends w room b g
-  sim (aHearing b) w h g = sim-hears w b g
+  sim (aHearing market b) w h g = sim-hears w market b g
   sim (aTaking room) w h g = sim-taken w (w .asks) (C .accepts room (w .asking) (w .venue)) room h refl refl g
   sim (aStep room) w h g = sim-step w (C .running (w .venue)) room refl g
   sim (anAside b) w h g = sim-aside w (C .isAside b) b refl g
@@ -258,9 +258,9 @@ module _ (C : Code) (M : Meets C) where
   sim (aStray room b) w h g = sim-stray w (C .accepts room b (w .venue)) room b refl g
   sim (aDelivery room) w h g = sim-gets w (w .queue) room refl g
   sim (aBreak room) w h g = sim-break w room g
-  sim (aCut k) w h g =
+  sim (aCut market k) w h g =
       let r : Readable (M .view (w .member) .book) = record { headed = h .safe .headed; found = _; reads = h .safe .reads } in
-      sim-off w (C .restart k (w .member)) (cuts (M .keeps k (w .member)) ∷ []) (M .restart-good k (w .member) (g .member) r) g (rw (M .restart-is k (w .member) (g .member) r))
+      sim-off w (C .restart market k (w .member)) (cuts (M .keeps k (w .member)) ∷ []) (M .restart-good market k (w .member) (g .member) r) g (rw (M .restart-is market k (w .member) (g .member) r))
 
   pub record Holds (w : Now C) : Type 0 where
     pub good : GoodNow w
@@ -302,14 +302,14 @@ module _ (C : Code) (M : Meets C) where
       let t = ap (λ (f : Table). f u) (M .table-is (w .member)) in
       record { firsts = rw (← t, ← M .log-is (w .venue)) (e .firsts); many = rw (← t) (e .many) }
 
-  -- a cut at k bytes and its restart: the messages of the book are then those of the whole items that the cut kept
-  pub each-restart : (es : List (Happens (C .Fields))) (k : ℕ)
-      → messages (M .view (C .restart k (at es .member)) .book) ≡ messages (take (M .keeps k (at es .member)) (M .view (at es .member) .book))
-  each-restart es k =
+  -- a cut at k bytes and its restart, for any market: the messages of the book are then those of the whole items that the cut kept
+  pub each-restart : (es : List (Happens (C .Fields))) (market k : ℕ)
+      → messages (M .view (C .restart market k (at es .member)) .book) ≡ messages (take (M .keeps k (at es .member)) (M .view (at es .member) .book))
+  each-restart es market k =
       let w = at es in
       let h = holds C M es in
       let r : Readable (M .view (w .member) .book) = record { headed = h .inv .safe .headed; found = _; reads = h .inv .safe .reads } in
-      rw (M .restart-is k (w .member) (h .good .member) r) (restarts (seen C M w) (M .keeps k (w .member)) (h .inv) .kept)
+      rw (M .restart-is market k (w .member) (h .good .member) r) (restarts (seen C M w) (M .keeps k (w .member)) (h .inv) .kept)
 
   pub record CompletesAt (w : Now C) (room : ℕ) : Type 0 where
     pub was : C .phase (w .member) ≡ replaying

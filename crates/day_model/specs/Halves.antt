@@ -34,7 +34,7 @@ pub record MemberCode : Type 1 where
   pub sends : ℕ → Bytes → State → State
   pub noRoom : ℕ → Bytes → State → Bool
   pub ended : ℕ → State → State
-  pub restart : ℕ → State → State
+  pub restart : ℕ → ℕ → State → State
 
 pub record VenueCode : Type 1 where
   pub Ven : Type 0
@@ -42,7 +42,7 @@ pub record VenueCode : Type 1 where
   pub running : Ven → Bool
   pub logOf : Ven → List Bytes
   pub adds : ℕ → Bytes → Ven → Ven
-  pub hears : Bytes → Ven → Ven
+  pub hears : ℕ → Bytes → Ven → Ven
   pub accepts : ℕ → Bytes → Ven → Bool
   pub takesLogin : ℕ → Bytes → Ven → Ven
   pub answers : ℕ → Bytes → Ven → List Bytes
@@ -115,8 +115,8 @@ pub record MeetsMember (L : Line) (A : MemberCode) : Type 1 where
   pub ended-good : (room : ℕ) (s : A .State) → Good s → Good (A .ended room s)
   pub ended-is : (room : ℕ) (s : A .State) → Good s → view (A .ended room s) ≡ broken (cap room) (view s)
   pub keeps : ℕ → A .State → ℕ
-  pub restart-good : (k : ℕ) (s : A .State) → Good s → Readable (view s .book) → Good (A .restart k s)
-  pub restart-is : (k : ℕ) (s : A .State) → Good s → Readable (view s .book) → view (A .restart k s) ≡ restarted (restartOf (take (keeps k s) (view s .book))) (take (keeps k s) (view s .book))
+  pub restart-good : (market k : ℕ) (s : A .State) → Good s → Readable (view s .book) → Good (A .restart market k s)
+  pub restart-is : (market k : ℕ) (s : A .State) → Good s → Readable (view s .book) → view (A .restart market k s) ≡ restarted (restartOf (take (keeps k s) (view s .book))) (take (keeps k s) (view s .book))
 
 -- Such a venue: its log only grows, and it keeps and replays it as document 01 says. Said on states that it can come to, over the venue of Model.antt.
 pub record MeetsVenue (L : Line) (B : VenueCode) : Type 1 where
@@ -134,8 +134,8 @@ pub record MeetsVenue (L : Line) (B : VenueCode) : Type 1 where
   pub adds-good : (room : ℕ) (b : Bytes) (v : B .Ven) → GoodV v → GoodV (B .adds room b v)
   pub adds-is : (room : ℕ) (b : Bytes) (v : B .Ven) → GoodV v → viewV (B .adds room b v) ≡ logged (readable room b v && nextInLog (L .msgOf b) (viewV v)) (L .msgOf b) (viewV v)
   -- what a member sends changes neither log nor replay
-  pub hears-good : (b : Bytes) (v : B .Ven) → GoodV v → GoodV (B .hears b v)
-  pub hears-is : (b : Bytes) (v : B .Ven) → GoodV v → viewV (B .hears b v) ≡ viewV v
+  pub hears-good : (market : ℕ) (b : Bytes) (v : B .Ven) → GoodV v → GoodV (B .hears market b v)
+  pub hears-is : (market : ℕ) (b : Bytes) (v : B .Ven) → GoodV v → viewV (B .hears market b v) ≡ viewV v
   -- a login is taken only outside a session; ours is, with room for the answer
   pub accepts-idle : (room : ℕ) (b : Bytes) (v : B .Ven) → B .accepts room b v ≡ true → B .running v ≡ false
   pub answerRoom : ℕ

@@ -11,7 +11,8 @@ Bytes = List ℕ
 
 -- ---- what the code offers: the functions that its contracts cite
 
--- a number is the length of the buffer that is lent, and of a restart the bytes that a cut kept
+-- a number is the length of the buffer that is lent, and of a restart the market that it is told and the bytes that a cut kept; of what a venue hears it is
+-- the market that the call is told
 pub record Code : Type 1 where
   -- the member: its state, and of it phase and table; a new one, with a new book
   pub State : Type 0
@@ -30,7 +31,7 @@ pub record Code : Type 1 where
   pub noRoom : ℕ → Bytes → State → Bool
   -- the state after a break, and after a cut and its restart
   pub ended : ℕ → State → State
-  pub restart : ℕ → State → State
+  pub restart : ℕ → ℕ → State → State
   -- a venue: a new one; whether a session runs; the messages of its log
   pub Ven : Type 0
   pub empty : Ven
@@ -38,7 +39,7 @@ pub record Code : Type 1 where
   pub logOf : Ven → List Bytes
   -- the state after its log was offered a message, and after it heard what a member sends
   pub adds : ℕ → Bytes → Ven → Ven
-  pub hears : Bytes → Ven → Ven
+  pub hears : ℕ → Bytes → Ven → Ven
   -- a login: whether it is taken, the state after it, and what is answered
   pub accepts : ℕ → Bytes → Ven → Bool
   pub takesLogin : ℕ → Bytes → Ven → Ven
@@ -64,7 +65,7 @@ pub data Happens (F : Type 0) : Type 0 where
   -- the member sends an order; the venue gets what a member sends: any bytes at any time, so that whatever orders and heartbeats the member's calls write
   -- are among them
   aSending : ℕ → Bytes → Happens F
-  aHearing : Bytes → Happens F
+  aHearing : ℕ → Bytes → Happens F
   -- the venue sends a heartbeat or an unsequenced message, or a Logout: at any time, so before its answer to a login too. Where the member has no line, its session is closed and
   -- takes nothing
   anAside : Bytes → Happens F
@@ -80,8 +81,8 @@ pub data Happens (F : Type 0) : Type 0 where
   -- the member sees the line break; the venue sees the line of its session break
   aBreak : ℕ → Happens F
   aDrop : Happens F
-  -- the book is cut, and the member restarts for the day, with the opening after a 22
-  aCut : ℕ → Happens F
+  -- the book is cut, and the member restarts for the day and for a market, any each time, with the opening after a 22
+  aCut : ℕ → ℕ → Happens F
 
 -- a moment of the day
 abbrev pub Now : Code → Type 0
@@ -144,7 +145,7 @@ module _ (C : Code) where
   next (theLog room b) w = withVenue (C .adds room b (w .venue)) w
   next (aLogin f out) w = nowLogin (C .phase (w .member)) (C .writes f out (w .member)) f out w
   next (aSending room b) w = withMember (C .sends room b (w .member)) w
-  next (aHearing b) w = withVenue (C .hears b (w .venue)) w
+  next (aHearing market b) w = withVenue (C .hears market b (w .venue)) w
   next (aTaking room) w = nowTaken (w .asks) (C .accepts room (w .asking) (w .venue)) room w
   next (aStep room) w = nowStep (C .running (w .venue)) room w
   next (anAside b) w = nowAside (C .isAside b) b w
@@ -154,7 +155,7 @@ module _ (C : Code) where
   next (aBreak room) w = noLine (withMember (C .ended room (w .member)) w)
   next aDrop w = nowDrop (C .running (w .venue)) w
   next (aStray room b) w = nowStray (C .accepts room b (w .venue)) room b w
-  next (aCut k) w = noLine (withMember (C .restart k (w .member)) w)
+  next (aCut market k) w = noLine (withMember (C .restart market k (w .member)) w)
 
   -- one after the other
   abbrev pub story : List (Happens (C .Fields)) → Now C → Now C

@@ -68,17 +68,17 @@ abbrev breaks : List Event → List Event
 breaks es = aBreak 1000 ∷ aDrop ∷ es
 
 -- three messages of two units; a replay that breaks after its first message, and one that breaks after its next; a cut in the middle of the
--- second message, which stands after 16 + 48 + 16 bytes; and a third replay, with a rejection between its two messages, up to what the venue sends last
+-- second message, which stands after 16 + 48 + 16 bytes, with a restart for the other market; and a third replay, with a rejection between its two messages, up to what the venue sends last
 abbrev pub events : List Event
 events =
     theLog 1000 (msg 1 1) ∷ theLog 1000 (msg 2 1) ∷ theLog 1000 (msg 1 2)
-    ∷ begins (next (breaks (begins (next (breaks (aCut 100 ∷ begins (next (rejected (next (aStep 2048 ∷ []))))))))))
+    ∷ begins (next (breaks (begins (next (breaks (aCut 1 100 ∷ begins (next (rejected (next (aStep 2048 ∷ []))))))))))
 
-unfoldable pub last : Moment 20250819 ourVenue
-last = after 20250819 ourVenue events
+unfoldable pub last : Moment 20250819 0 ourVenue
+last = after 20250819 0 ourVenue events
 
-abbrev pub done : Moment 20250819 ourVenue
-done = then 20250819 ourVenue last (aDelivery 1000)
+abbrev pub done : Moment 20250819 0 ourVenue
+done = then 20250819 0 ourVenue last (aDelivery 1000)
 
 -- what is told of it: before the last delivery whether a message was refused for room or a Logout was sent, what stands on the line, and what the log held
 -- when the venue took the login; after it the phase, and the messages of the book
@@ -90,12 +90,12 @@ pub record Facts : Type 0 where
   pub phase : Phase
   pub booked : List Bytes
 
-told : Moment 20250819 ourVenue → Moment 20250819 ourVenue → Facts
-told w v = record { refused = w .refused; left = w .left; queue = w .queue; held = w .held; phase = v .member .session .phase; booked = inBook (book 20250819 ourVenue v) }
+told : Moment 20250819 0 ourVenue → Moment 20250819 0 ourVenue → Facts
+told w v = record { refused = w .refused; left = w .left; queue = w .queue; held = w .held; phase = v .member .session .phase; booked = inBook (book 20250819 0 ourVenue v) }
 
 -- the argument is computed once
-toldFrom : Moment 20250819 ourVenue → Facts
-toldFrom w = told w (then 20250819 ourVenue w (aDelivery 1000))
+toldFrom : Moment 20250819 0 ourVenue → Facts
+toldFrom w = told w (then 20250819 0 ourVenue w (aDelivery 1000))
 
 abbrev logged : List Bytes
 logged = msg 1 1 ∷ msg 2 1 ∷ msg 1 2 ∷ []
@@ -128,6 +128,6 @@ pub the-day-ends-live : done .member .session .phase ≡ Live
 unfolding told toldFrom
 the-day-ends-live = ap (λ (f : Facts). f .phase) the-day
 
-pub the-book-is-full : inBook (book 20250819 ourVenue done) ≡ msg 1 1 ∷ msg 2 1 ∷ msg 1 2 ∷ []
+pub the-book-is-full : inBook (book 20250819 0 ourVenue done) ≡ msg 1 1 ∷ msg 2 1 ∷ msg 1 2 ∷ []
 unfolding told toldFrom
 the-book-is-full = ap (λ (f : Facts). f .booked) the-day

@@ -32,26 +32,26 @@ use Rattle.day_proved.specs.Words.{Bytes, inBook, ofUnit, wholeIn}
 abbrev pub SuchAVenue : VenueCode → Type 1
 SuchAVenue X = MeetsVenue ourLine X
 
--- our member and such a venue, on a date
-abbrev pub dayOf : ℕ → VenueCode → Code
-dayOf date X = code (ourMember date) X
+-- our member and such a venue, on a date; the member's first opening is for a market, given by its number, and each restart for any (02, request 4)
+abbrev pub dayOf : ℕ → ℕ → VenueCode → Code
+dayOf date market X = code (ourMember date market) X
 
 -- what may happen on it, and a moment of it
 abbrev pub Event : Type 0
 Event = Happens Fields
 
-abbrev pub Moment : ℕ → VenueCode → Type 0
-Moment date X = Now (dayOf date X)
+abbrev pub Moment : ℕ → ℕ → VenueCode → Type 0
+Moment date market X = Now (dayOf date market X)
 
 -- from a new book, after any logins, line breaks, cuts and whatever else may happen
-abbrev pub after : (date : ℕ) (X : VenueCode) → List Event → Moment date X
-after date X es = story (dayOf date X) es (dawn (dayOf date X))
+abbrev pub after : (date market : ℕ) (X : VenueCode) → List Event → Moment date market X
+after date market X es = story (dayOf date market X) es (dawn (dayOf date market X))
 
 -- one thing more
-abbrev pub then : (date : ℕ) (X : VenueCode) → Moment date X → Event → Moment date X
-then date X w e = next (dayOf date X) e w
+abbrev pub then : (date market : ℕ) (X : VenueCode) → Moment date market X → Event → Moment date market X
+then date market X w e = next (dayOf date market X) e w
 
-module _ (date : ℕ) (X : VenueCode) (w : Moment date X) where
+module _ (date market : ℕ) (X : VenueCode) (w : Moment date market X) where
   -- the book's bytes
   abbrev pub book : Bytes
   book = w .member .bytes
@@ -68,48 +68,48 @@ module _ (date : ℕ) (X : VenueCode) (w : Moment date X) where
 
 -- 'At every moment outside a cut and its restart, with the opening after a 22, the book holds for each unit exactly the first messages of that
 -- unit's log, byte for byte, and the table says how many.'
-pub record HoldsFirsts (date : ℕ) (X : VenueCode) (w : Moment date X) (u : ℕ) : Type 0 where
-  pub firsts : ofUnit u (inBook (book date X w)) ≡ take (tableSays date X w u) (ofUnit u (log date X w))
-  pub many : length (ofUnit u (inBook (book date X w))) ≡ tableSays date X w u
+pub record HoldsFirsts (date market : ℕ) (X : VenueCode) (w : Moment date market X) (u : ℕ) : Type 0 where
+  pub firsts : ofUnit u (inBook (book date market X w)) ≡ take (tableSays date market X w u) (ofUnit u (log date market X w))
+  pub many : length (ofUnit u (inBook (book date market X w))) ≡ tableSays date market X w u
 
 abbrev pub AtEveryMoment : Type 1
-AtEveryMoment = (date : ℕ) → isDay date ≡ true → (X : VenueCode) → SuchAVenue X → (es : List Event) (u : ℕ) → HoldsFirsts date X (after date X es) u
+AtEveryMoment = (date : ℕ) → isDay date ≡ true → (market : ℕ) (X : VenueCode) → SuchAVenue X → (es : List Event) (u : ℕ) → HoldsFirsts date market X (after date market X es) u
 
 -- ---- 2
 
 -- 'Each such restart is accepted, or answers 22, changes nothing and is followed by an opening for that day with room for its mark; either way no
 -- whole message that the cut kept is lost.' The restart has no buffer, so that there is nothing it could change.
-module _ (date : ℕ) (X : VenueCode) (w : Moment date X) (k : ℕ) where
-  -- the restart on what the cut kept is accepted
+module _ (date market : ℕ) (X : VenueCode) (w : Moment date market X) (told k : ℕ) where
+  -- the restart on what the cut kept is accepted, whatever market it is told
   pub record Accepted : Type 0 where
-    pub answers : restartOf date (take k (book date X w)) .refusal ≡ 0
+    pub answers : restartOf date (take k (book date market X w)) .refusal ≡ 0
 
   -- or it answers 22, with no book; the opening has room for its mark, and the day goes on from what it leaves
   pub record OpenedAfresh : Type 0 where
-    pub answers : restartOf date (take k (book date X w)) ≡ answer 22 blankBook
+    pub answers : restartOf date (take k (book date market X w)) ≡ answer 22 blankBook
     pub opens : openOf date 16 .refusal ≡ 0
-    pub goes-on : then date X w (aCut k) .member ≡ opened date
+    pub goes-on : then date market X w (aCut told k) .member ≡ opened told date
 
   pub record Restarts : Type 0 where
     pub restarted : Accepted ⊎ OpenedAfresh
-    pub kept : inBook (book date X (then date X w (aCut k))) ≡ wholeIn k (book date X w)
+    pub kept : inBook (book date market X (then date market X w (aCut told k))) ≡ wholeIn k (book date market X w)
 
 abbrev pub EachRestart : Type 1
-EachRestart = (date : ℕ) → isDay date ≡ true → (X : VenueCode) → SuchAVenue X → (es : List Event) (k : ℕ) → Restarts date X (after date X es) k
+EachRestart = (date : ℕ) → isDay date ≡ true → (market : ℕ) (X : VenueCode) → SuchAVenue X → (es : List Event) (told k : ℕ) → Restarts date market X (after date market X es) told k
 
 -- ---- 3
 
 -- a replay completes as the line delivers
-pub record Completes (date : ℕ) (X : VenueCode) (w : Moment date X) (room : ℕ) : Type 0 where
+pub record Completes (date market : ℕ) (X : VenueCode) (w : Moment date market X) (room : ℕ) : Type 0 where
   pub was : w .member .session .phase ≡ Replaying
-  pub is : then date X w (aDelivery room) .member .session .phase ≡ Live
+  pub is : then date market X w (aDelivery room) .member .session .phase ≡ Live
 
 -- 'When a replay completes and no message since its login was refused for room, that is all the log held when the venue took the login.'
 abbrev pub WhenAReplayCompletes : Type 1
 WhenAReplayCompletes =
-    (date : ℕ) → isDay date ≡ true → (X : VenueCode) → SuchAVenue X → (es : List Event) (room : ℕ)
-    → Completes date X (after date X es) room → after date X es .refused ≡ false
-    → (u : ℕ) → ofUnit u (inBook (book date X (then date X (after date X es) (aDelivery room)))) ≡ ofUnit u (after date X es .held)
+    (date : ℕ) → isDay date ≡ true → (market : ℕ) (X : VenueCode) → SuchAVenue X → (es : List Event) (room : ℕ)
+    → Completes date market X (after date market X es) room → after date market X es .refused ≡ false
+    → (u : ℕ) → ofUnit u (inBook (book date market X (then date market X (after date market X es) (aDelivery room)))) ≡ ofUnit u (after date market X es .held)
 
 -- ---- 4
 
@@ -120,7 +120,7 @@ pub record Valid (f : Fields) : Type 0 where
   pub executions : f .executions .given ≡ true → BitsInOrder (f .executions)
 
 -- the session has asked; what the call left in the front of the buffer that it was lent stands on a new line, and is the login with the whole table
-pub record Asks (date : ℕ) (X : VenueCode) (f : Fields) (out : Bytes) (w v : Moment date X) : Type 0 where
+pub record Asks (date market : ℕ) (X : VenueCode) (f : Fields) (out : Bytes) (w v : Moment date market X) : Type 0 where
   pub phase : v .member .session .phase ≡ Asked
   pub asks : v .asks ≡ true
   pub asking : v .asking ≡ framed (loginOut (w .member .session) (loginOfTable (w .member .session .book .table) f) out)
@@ -129,31 +129,31 @@ pub record Asks (date : ℕ) (X : VenueCode) (f : Fields) (out : Bytes) (w v : M
 -- 'With valid fields and room a closed session's login is written,' whatever stood in the buffer
 abbrev pub ALoginIsWritten : Type 1
 ALoginIsWritten =
-    (date : ℕ) → isDay date ≡ true → (X : VenueCode) → SuchAVenue X → (es : List Event) (f : Fields) (out : Bytes)
-    → Valid f → 234 ≤ length out → after date X es .member .session .phase ≡ Closed
-    → Asks date X f out (after date X es) (then date X (after date X es) (aLogin f out))
+    (date : ℕ) → isDay date ≡ true → (market : ℕ) (X : VenueCode) → SuchAVenue X → (es : List Event) (f : Fields) (out : Bytes)
+    → Valid f → 234 ≤ length out → after date market X es .member .session .phase ≡ Closed
+    → Asks date market X f out (after date market X es) (then date market X (after date market X es) (aLogin f out))
 
 -- a session runs on the line of that login, and what the log held is kept for 3
-pub record Taken (date : ℕ) (X : VenueCode) (w v : Moment date X) : Type 0 where
+pub record Taken (date market : ℕ) (X : VenueCode) (w v : Moment date market X) : Type 0 where
   pub running : X .running (v .venue) ≡ true
   pub joined : v .joined ≡ true
-  pub held : v .held ≡ log date X w
+  pub held : v .held ≡ log date market X w
 
 -- 'a venue without a session takes it,' with room for its answer. That a venue turns a login down instead is an event of its own (`aNo`): no session
 -- begins, and the member's ends with the answer
 abbrev pub AVenueTakesIt : Type 1
 AVenueTakesIt =
-    (date : ℕ) → isDay date ≡ true → (X : VenueCode) (such : SuchAVenue X) (es : List Event) (room : ℕ)
-    → after date X es .asks ≡ true → X .running (after date X es .venue) ≡ false → such .answerRoom ≤ room
-    → Taken date X (after date X es) (then date X (after date X es) (aTaking room))
+    (date : ℕ) → isDay date ≡ true → (market : ℕ) (X : VenueCode) (such : SuchAVenue X) (es : List Event) (room : ℕ)
+    → after date market X es .asks ≡ true → X .running (after date market X es .venue) ≡ false → such .answerRoom ≤ room
+    → Taken date market X (after date market X es) (then date market X (after date market X es) (aTaking room))
 
 -- 'and on a line that carries no Logout and meets no break or cut first, the replay completes as soon as the venue's Replay Complete is delivered.'
 -- A break or a cut leaves nothing on the line.
 abbrev pub TheReplayCompletes : Type 1
 TheReplayCompletes =
-    (date : ℕ) → isDay date ≡ true → (X : VenueCode) → SuchAVenue X → (es : List Event) (room : ℕ) (b : Bytes) (rest : List Bytes)
-    → after date X es .left ≡ false → after date X es .queue ≡ b ∷ rest → typeOf b ≡ 0x13
-    → Completes date X (after date X es) room
+    (date : ℕ) → isDay date ≡ true → (market : ℕ) (X : VenueCode) → SuchAVenue X → (es : List Event) (room : ℕ) (b : Bytes) (rest : List Bytes)
+    → after date market X es .left ≡ false → after date market X es .queue ≡ b ∷ rest → typeOf b ≡ 0x13
+    → Completes date market X (after date market X es) room
 
 -- ---- only sequenced messages
 
@@ -164,11 +164,11 @@ OnlySequenced bs = All (λ (b : Bytes). sequenced (typeOf b) ≡ true) bs
 
 abbrev pub OnlySequencedInTheBook : Type 1
 OnlySequencedInTheBook =
-    (date : ℕ) → isDay date ≡ true → (X : VenueCode) → SuchAVenue X → (es : List Event) → OnlySequenced (inBook (book date X (after date X es)))
+    (date : ℕ) → isDay date ≡ true → (market : ℕ) (X : VenueCode) → SuchAVenue X → (es : List Event) → OnlySequenced (inBook (book date market X (after date market X es)))
 
 -- 'and the venue's log holds no others': the bench's does not
 abbrev pub OnlySequencedInTheLog : Type 0
-OnlySequencedInTheLog = (date : ℕ) → isDay date ≡ true → (es : List Event) → OnlySequenced (log date ourVenue (after date ourVenue es))
+OnlySequencedInTheLog = (date : ℕ) → isDay date ≡ true → (market : ℕ) (es : List Event) → OnlySequenced (log date market ourVenue (after date market ourVenue es))
 
 -- ---- our bench venue is such a venue
 

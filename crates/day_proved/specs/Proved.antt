@@ -90,122 +90,122 @@ cut-bytes : {date n : ℕ} {xs : Bytes} (c : Cut date xs n) → take (c .book .l
 cut-bytes {n = n} {xs = xs} c =
     ap (λ (i : ℕ). take i (take n xs)) (c .good) ∙ take-take (length (c .kept)) n xs (c .short) ∙ ap (take (length (c .kept))) (c .whole-is) ∙ take-append-seam (c .kept) (c .over-cut)
 
-module _ (date : ℕ) (d : isDay date ≡ true) (X : VenueCode) (such : SuchAVenue X) where
+module _ (date : ℕ) (d : isDay date ≡ true) (market : ℕ) (X : VenueCode) (such : SuchAVenue X) where
   small : date < 4294967296
   small = omega (arith, day-in-range date d .1)
 
-  the : Meets (dayOf date X)
-  the = both ourLine (ourMember date) X (our-member-meets date d small) such
+  the : Meets (dayOf date market X)
+  the = both ourLine (ourMember date market) X (our-member-meets date d small market) such
 
   -- 1
-  moment : (es : List Event) (u : ℕ) → HoldsFirsts date X (after date X es) u
+  moment : (es : List Event) (u : ℕ) → HoldsFirsts date market X (after date market X es) u
   unfolding the our-member-meets
   moment es u =
-      let h = at-every-moment (dayOf date X) the es u in
-      let w = after date X es in
+      let h = at-every-moment (dayOf date market X) the es u in
+      let w = after date market X es in
       record {
         firsts = booked-unit u (w .member .bytes) ∙ ap (map (λ (m : Msg). m .body)) (h .firsts) ∙ take-bodies (lastOf (w .member .session .book .table) u) _ ∙ ap (take (lastOf (w .member .session .book .table) u)) (unit-bodies u (X .logOf (w .venue)));
         many = ap length (booked-unit u (w .member .bytes)) ∙ bodies-long (day.ofUnit u (messages (items (w .member .bytes)))) ∙ h .many;
       }
 
   -- 3
-  completed : (es : List Event) (room : ℕ) → Completes date X (after date X es) room → after date X es .refused ≡ false
-      → (u : ℕ) → ofUnit u (inBook (book date X (then date X (after date X es) (aDelivery room)))) ≡ ofUnit u (after date X es .held)
+  completed : (es : List Event) (room : ℕ) → Completes date market X (after date market X es) room → after date market X es .refused ≡ false
+      → (u : ℕ) → ofUnit u (inBook (book date market X (then date market X (after date market X es) (aDelivery room)))) ≡ ofUnit u (after date market X es .held)
   unfolding the our-member-meets
   completed es room c r u =
-      let k : CompletesAt (dayOf date X) the (after date X es) room = record { was = ap phaseOf (c .was); is = ap phaseOf (c .is) } in
-      booked-unit u (book date X (then date X (after date X es) (aDelivery room)))
-      ∙ ap (map (λ (m : Msg). m .body)) (when-a-replay-completes (dayOf date X) the es room k r u)
-      ∙ unit-bodies u (after date X es .held)
+      let k : CompletesAt (dayOf date market X) the (after date market X es) room = record { was = ap phaseOf (c .was); is = ap phaseOf (c .is) } in
+      booked-unit u (book date market X (then date market X (after date market X es) (aDelivery room)))
+      ∙ ap (map (λ (m : Msg). m .body)) (when-a-replay-completes (dayOf date market X) the es room k r u)
+      ∙ unit-bodies u (after date market X es .held)
 
   -- 2
-  good-of : (es : List Event) → Good date (after date X es .member)
+  good-of : (es : List Event) → Good date (after date market X es .member)
   unfolding the our-member-meets
-  good-of es = holds (dayOf date X) the es .good .member
+  good-of es = holds (dayOf date market X) the es .good .member
 
-  cut-short : (w : Moment date X) (g : Good date (w .member)) (k : ℕ) → k < 16 → Restarts date X w k
+  cut-short : (w : Moment date market X) (g : Good date (w .member)) (told k : ℕ) → k < 16 → Restarts date market X w told k
   unfolding restartedBy
-  cut-short w g k h =
+  cut-short w g told k h =
       let e = cut-22 date small d (g .made) k h in
-      let q : then date X w (aCut k) .member ≡ opened date = ap (λ (a : bookAnswers.Answer). restartedBy date a (take k (w .member .bytes))) e in
+      let q : then date market X w (aCut told k) .member ≡ opened told date = ap (λ (a : bookAnswers.Answer). restartedBy told date a (take k (w .member .bytes))) e in
       record {
         restarted = inr (record { answers = e; opens = opens-well date d small; goes-on = q });
-        kept = ap (λ (x : Desk). inBook (x .bytes)) q ∙ ap (map (λ (m : Msg). m .body)) (opened-empty date d small ∙ sym (ap messages (within-short (g .made) k h)));
+        kept = ap (λ (x : Desk). inBook (x .bytes)) q ∙ ap (map (λ (m : Msg). m .body)) (opened-empty date d small told ∙ sym (ap messages (within-short (g .made) k h)));
       }
 
-  cut-long : (w : Moment date X) (g : Good date (w .member)) (k n : ℕ) → take k (w .member .bytes) ≡ take n (w .member .bytes) → within k (items (w .member .bytes)) ≡ within n (items (w .member .bytes)) → 16 ≤ n → n ≤ length (w .member .bytes) → Restarts date X w k
+  cut-long : (w : Moment date market X) (g : Good date (w .member)) (told k n : ℕ) → take k (w .member .bytes) ≡ take n (w .member .bytes) → within k (items (w .member .bytes)) ≡ within n (items (w .member .bytes)) → 16 ≤ n → n ≤ length (w .member .bytes) → Restarts date market X w told k
   unfolding restartedBy
-  cut-long w g k n t i h l =
+  cut-long w g told k n t i h l =
       let c = cut date small d (g .made) n h l in
       let e : restartOf date (take k (w .member .bytes)) ≡ answer 0 (c .book) = ap (restartOf date) t ∙ c .answer-is in
-      let q : then date X w (aCut k) .member .bytes ≡ c .kept =
-      ap (λ (a : bookAnswers.Answer). restartedBy date a (take k (w .member .bytes)) .bytes) e ∙ ap (take (c .book .length)) t ∙ cut-bytes c in
+      let q : then date market X w (aCut told k) .member .bytes ≡ c .kept =
+      ap (λ (a : bookAnswers.Answer). restartedBy told date a (take k (w .member .bytes)) .bytes) e ∙ ap (take (c .book .length)) t ∙ cut-bytes c in
       record {
         restarted = inl (record { answers = ap (λ (a : bookAnswers.Answer). a .refusal) e });
         kept = ap inBook q ∙ ap (λ (x : List Item). map (λ (m : Msg). m .body) (messages x)) (made-items (c .made) ∙ sym (i ∙ cut-keeps (g .made) c));
       }
 
-  restarts : (es : List Event) (k : ℕ) → Restarts date X (after date X es) k
-  restarts es k =
-      let w = after date X es in
+  restarts : (es : List Event) (told k : ℕ) → Restarts date market X (after date market X es) told k
+  restarts es told k =
+      let w = after date market X es in
       let g = good-of es in
       ⊎-elim
-      (λ (h : k < 16). cut-short w g k h)
+      (λ (h : k < 16). cut-short w g told k h)
       (λ (h : 16 ≤ k). ⊎-elim
-      (λ (l : k < length (w .member .bytes)). cut-long w g k k refl refl h (omega arith))
+      (λ (l : k < length (w .member .bytes)). cut-long w g told k k refl refl h (omega arith))
       (λ (l : length (w .member .bytes) ≤ k).
-      cut-long w g k (length (w .member .bytes)) (take-all k (w .member .bytes) l ∙ sym (take-length (w .member .bytes))) (within-more (g .made) k l) (sixteen (g .made)) (omega arith))
+      cut-long w g told k (length (w .member .bytes)) (take-all k (w .member .bytes) l ∙ sym (take-length (w .member .bytes))) (within-more (g .made) k l) (sixteen (g .made)) (omega arith))
       (lt-or-le k (length (w .member .bytes))))
       (lt-or-le k 16)
 
   -- 4
-  written : (es : List Event) (f : Fields) (out : Bytes) → Valid f → 234 ≤ length out → after date X es .member .session .phase ≡ Closed
-      → Asks date X f out (after date X es) (then date X (after date X es) (aLogin f out))
+  written : (es : List Event) (f : Fields) (out : Bytes) → Valid f → 234 ≤ length out → after date market X es .member .session .phase ≡ Closed
+      → Asks date market X f out (after date market X es) (then date market X (after date market X es) (aLogin f out))
   written es f out v h e =
-      let w = after date X es in
+      let w = after date market X es in
       let g = good-of es in
       let t = w .member .session .book .table in
       let r : logins.recordRefusal (loginOfTable t f) (length out) ≡ 0 =
       default-is-written t wholeTable (f .names) (f .acknowledgments) (f .executions) (length out) (f .long) (v .names) (v .acknowledgments) (v .executions)
       (omega (arith, said-most t (choiceOf wholeTable) (f .names) (f .acknowledgments) (f .executions) (f .long), h)) refl (entries-fit date d small (g .made)) in
       let y : writes f out (w .member) ≡ true = ap (λ (a : sessionAnswers.Answer). eqb (a .refusal) 0) (login-asks (w .member .session) (loginOfTable t f) out e r .0) in
-      let q : then date X w (aLogin f out) ≡ nowLogin (dayOf date X) closed true f out w = ap₂ (λ (a : Phase) (b : Bool). nowLogin (dayOf date X) a b f out w) (ap phaseOf e) y in
-      subst (Asks date X f out w) (sym q)
+      let q : then date market X w (aLogin f out) ≡ nowLogin (dayOf date market X) closed true f out w = ap₂ (λ (a : Phase) (b : Bool). nowLogin (dayOf date market X) a b f out w) (ap phaseOf e) y in
+      subst (Asks date market X f out w) (sym q)
       (record { phase = ap (λ (x : Desk). x .session .phase) (logged date d small f out (w .member) y); asks = refl; asking = refl; written = login-stands date d small f out (w .member) e r })
 
-  takes : (es : List Event) (room : ℕ) → after date X es .asks ≡ true → X .running (after date X es .venue) ≡ false → such .answerRoom ≤ room
-      → Taken date X (after date X es) (then date X (after date X es) (aTaking room))
+  takes : (es : List Event) (room : ℕ) → after date market X es .asks ≡ true → X .running (after date market X es .venue) ≡ false → such .answerRoom ≤ room
+      → Taken date market X (after date market X es) (then date market X (after date market X es) (aTaking room))
   unfolding the our-member-meets
   takes es room a r h =
-      let w = after date X es in
-      let g = holds (dayOf date X) the es .good in
+      let w = after date market X es in
+      let g = holds (dayOf date market X) the es .good in
       let y = such .accepts-ours room (w .asking) (w .venue) (g .asking a) (g .venue) r h in
-      let q : then date X w (aTaking room) ≡ nowTaken (dayOf date X) true true room w = ap₂ (λ (b c : Bool). nowTaken (dayOf date X) b c room w) a y in
+      let q : then date market X w (aTaking room) ≡ nowTaken (dayOf date market X) true true room w = ap₂ (λ (b c : Bool). nowTaken (dayOf date market X) b c room w) a y in
       let v = such .strays-is room (w .asking) (w .venue) y (g .venue) in
-      subst (Taken date X w) (sym q)
+      subst (Taken date market X w) (sym q)
       (record { running = sym (such .running-is (X .takesLogin room (w .asking) (w .venue))) ∙ ap (λ (x : day.Venue). x .running) (v .1); joined = refl; held = refl })
 
-  completes : (es : List Event) (room : ℕ) (b : Bytes) (rest : List Bytes) → after date X es .left ≡ false → after date X es .queue ≡ b ∷ rest → typeOf b ≡ 0x13
-      → Completes date X (after date X es) room
+  completes : (es : List Event) (room : ℕ) (b : Bytes) (rest : List Bytes) → after date market X es .left ≡ false → after date market X es .queue ≡ b ∷ rest → typeOf b ≡ 0x13
+      → Completes date market X (after date market X es) room
   unfolding the our-member-meets
   completes es room b rest l q t =
-      let k = replay-completes (dayOf date X) the es room rest b l q (says-complete b t) in
+      let k = replay-completes (dayOf date market X) the es room rest b l q (says-complete b t) in
       record { was = phase-back _ Replaying (k .was); is = phase-back _ Live (k .is) }
 
   -- only sequenced messages
-  only-sequenced : (es : List Event) → OnlySequenced (inBook (book date X (after date X es)))
+  only-sequenced : (es : List Event) → OnlySequenced (inBook (book date market X (after date market X es)))
   only-sequenced es =
       let g = good-of es in
       subst OnlySequenced (sym (ap (λ (x : List Item). map (λ (m : Msg). m .body) (messages x)) (made-items (g .made)))) (made-sequenced (g .made))
 
 pub at-every-moment-the-book-holds-the-firsts : AtEveryMoment
-at-every-moment-the-book-holds-the-firsts date d X such es u = moment date d X such es u
+at-every-moment-the-book-holds-the-firsts date d market X such es u = moment date d market X such es u
 
 pub when-a-replay-completes-the-book-is-whole : WhenAReplayCompletes
-when-a-replay-completes-the-book-is-whole date d X such es room c r u = completed date d X such es room c r u
+when-a-replay-completes-the-book-is-whole date d market X such es room c r u = completed date d market X such es room c r u
 
 pub only-sequenced-in-the-book : OnlySequencedInTheBook
-only-sequenced-in-the-book date d X such es = only-sequenced date d X such es
+only-sequenced-in-the-book date d market X such es = only-sequenced date d market X such es
 
 -- the log of a good state of the bench
 log-sequenced : (ms : List Bytes) → All Wholly ms → OnlySequenced ms
@@ -214,9 +214,9 @@ log-sequenced (m ∷ ms) h = (ap (λ (x : Bytes). sequenced (typeOf x)) (sym (h 
 
 pub only-sequenced-in-the-log : OnlySequencedInTheLog
 unfolding the our-member-meets meets
-only-sequenced-in-the-log date d es =
-    let w = after date ourVenue es in
-    let g = holds (dayOf date ourVenue) (the date d ourVenue meets) es .good .venue in
+only-sequenced-in-the-log date d market es =
+    let w = after date market ourVenue es in
+    let g = holds (dayOf date market ourVenue) (the date d market ourVenue meets) es .good .venue in
     subst OnlySequenced (sym (ap messagesIn (g .log .is) ∙ messages-all (g .messages) (g .log .whole))) (log-sequenced (g .messages) (g .log .whole))
 
 pub the-bench-is-such-a-venue : TheBenchIsSuchAVenue
@@ -224,13 +224,13 @@ unfolding meets steps-told
 the-bench-is-such-a-venue = record { such = meets; for-an-answer = refl; told = steps-told; for-a-step = refl }
 
 pub each-restart-keeps-every-whole-message : EachRestart
-each-restart-keeps-every-whole-message date d X such es k = restarts date d X such es k
+each-restart-keeps-every-whole-message date d market X such es told k = restarts date d market X such es told k
 
 pub a-login-is-written : ALoginIsWritten
-a-login-is-written date d X such es f out v h e = written date d X such es f out v h e
+a-login-is-written date d market X such es f out v h e = written date d market X such es f out v h e
 
 pub a-venue-takes-it : AVenueTakesIt
-a-venue-takes-it date d X such es room a r h = takes date d X such es room a r h
+a-venue-takes-it date d market X such es room a r h = takes date d market X such es room a r h
 
 pub the-replay-completes : TheReplayCompletes
-the-replay-completes date d X such es room b rest l q t = completes date d X such es room b rest l q t
+the-replay-completes date d market X such es room b rest l q t = completes date d market X such es room b rest l q t

@@ -1,10 +1,10 @@
--- The bit dictionary: document 01's lists, and those of document 000 for what 02 adds, a line for each listed bit of a message. Definitions alone. Assumes nothing.
+-- The bit dictionary: document 01's lists, and those of documents 000 and 002 for what 02 adds, a line for each listed bit of a message. Definitions alone. Assumes nothing.
 use Prim.Native.Nat.{ℕ, _+_}
-use mathlib.Core.Bool.{Bool, true, false, cond, _&&_}
+use mathlib.Core.Bool.{Bool, true, false, cond, _&&_, _||_}
 use mathlib.Core.List.{List, [], _∷_}
 use lib.Dec.{eqb}
 use Rattle.kinds.specs.declared.Kind.{Kind}
-use Rattle.kinds.specs.declared.Kind.the-variants.{Letters, Alphanumeric, Text, Binary, Price, FilledText}
+use Rattle.kinds.specs.declared.Kind.the-variants.{Letters, Alphanumeric, Text, Binary, Price, FilledText, Day}
 use Rattle.dictionary.specs.declared.Entry.{Entry}
 use Rattle.dictionary.specs.declared.Entry.the-variants.{Refused, Field}
 
@@ -27,6 +27,10 @@ P = Price
 -- T that is never blank
 abbrev F : Kind
 F = FilledText
+
+-- a calendar day
+abbrev D : Kind
+D = Day
 
 -- a line: bitfield byte, bit (1, 2, 4 to 128), width, kind
 pub data Line : Type 0 where
@@ -55,6 +59,27 @@ newOrder =
     ∷ line 6 16 1 T  -- ExDestination
     ∷ line 6 32 64 T  -- EchoText
     ∷ line 10 2 4 A  -- LocateBroker
+    ∷ []
+
+-- The options New Order: byte 1 as 002's table has it, bytes 2 and 3 the bits that 02, request 4, names, and byte 4 its own
+abbrev pub optionsOrder : List Line
+optionsOrder =
+    line 1 1 4 A  -- ClearingFirm
+    ∷ line 1 2 4 T  -- ClearingAccount
+    ∷ line 1 4 8 P  -- Price
+    ∷ line 1 8 1 T  -- ExecInst
+    ∷ line 1 16 1 N  -- OrdType
+    ∷ line 1 32 1 N  -- TimeInForce
+    ∷ line 1 64 4 B  -- MinQty
+    ∷ line 1 128 4 B  -- MaxFloor
+    ∷ line 2 1 8 N  -- Symbol
+    ∷ line 2 64 1 A  -- Capacity
+    ∷ line 2 128 4 T  -- RoutingInst
+    ∷ line 3 1 16 T  -- Account
+    ∷ line 4 1 4 D  -- MaturityDate
+    ∷ line 4 2 8 P  -- StrikePrice
+    ∷ line 4 4 1 N  -- PutOrCall
+    ∷ line 4 16 1 N  -- OpenClose
     ∷ []
 
 -- Cancel Order
@@ -180,7 +205,7 @@ cancelRejections =
     ∷ line 8 4 8 P  -- StopPx
     ∷ []
 
--- A message's list. Order Execution uses the acknowledgment's bits, narrowed to those that 000 marks for it. Of User
+-- A message's list. The options New Order, which has the type byte of the equities' one, is told by a number of its own, B8. Order Execution uses the acknowledgment's bits, narrowed to those that 000 marks for it. Of User
 -- Modify Rejected 000's Table 67 marks no bit; other types have none.
 abbrev pub listOf : ℕ → List Line
 listOf message =
@@ -192,7 +217,8 @@ listOf message =
     (cond (eqb message 0x2B) cancelRejections
     (cond (eqb message 0x3A) modifyOrder
     (cond (eqb message 0x47) purgeOrders
-    [])))))))
+    (cond (eqb message 0xB8) optionsOrder
+    []))))))))
 
 -- the first where a test holds, else the second
 abbrev pub pick : Bool → Entry → Entry → Entry
@@ -214,3 +240,7 @@ lookup (line b t w k ∷ ls) place byte bit = pick (eqb byte b && eqb bit (index
 -- what a bit of a bitfield byte selects in a message of a type
 unfoldable pub entryOf : ℕ → ℕ → ℕ → Entry
 entryOf message byte bit = lookup (listOf message) 0 byte bit
+
+-- the New Order of either market
+abbrev pub isNewOrder : ℕ → Bool
+isNewOrder message = eqb message 0x38 || eqb message 0xB8

@@ -1,15 +1,15 @@
 -- A second count of the bit dictionary, so that code and table cannot be changed together unseen: for each message the widths and the
 -- bits of each bitfield byte, its length in all, its columns of widths and kinds, and that its lines stand in order of byte and bit.
 -- The figures are counted from document 01's lists, Order Execution's narrowed by 000's Table 70, and of the rejections from 000's Tables 64, 67 and 69,
--- of Modify Order and Purge Orders from its Tables 60 and 61. All is computed. Assumes nothing.
+-- of Modify Order and Purge Orders from its Tables 60 and 61, of the options New Order from 002's table and 02's request 4. All is computed. Assumes nothing.
 use mathlib.Core.Path.{_≡_, refl}
 use mathlib.Core.Bool.{Bool, true, cond, _&&_}
 use mathlib.Core.List.{List, [], _∷_, map}
 use Prim.Native.Nat.{ℕ, _+_, _*_, _^_}
 use lib.Dec.{eqb, ltb}
 use Rattle.kinds.specs.declared.Kind.{Kind}
-use Rattle.kinds.specs.declared.Kind.the-variants.{Letters, Alphanumeric, Text, Binary, Price, FilledText}
-use Rattle.dictionary.specs.Dictionary.{Line, line, newOrder, cancelOrder, modifyOrder, purgeOrders, acknowledgments, executions, rejections, cancelRejections, listOf, indexOf}
+use Rattle.kinds.specs.declared.Kind.the-variants.{Letters, Alphanumeric, Text, Binary, Price, FilledText, Day}
+use Rattle.dictionary.specs.Dictionary.{Line, line, newOrder, optionsOrder, cancelOrder, modifyOrder, purgeOrders, acknowledgments, executions, rejections, cancelRejections, listOf, indexOf}
 
 -- the widths of a bitfield byte's lines, summed
 abbrev pub widthsIn : ℕ → List Line → ℕ
@@ -60,6 +60,25 @@ new-order-kinds = refl
 
 pub new-order-in-order : inOrder 0 newOrder ≡ true
 new-order-in-order = refl
+
+-- The options New Order
+pub options-order-sums : map (λ b. widthsIn b optionsOrder) bytes ≡ 27 ∷ 13 ∷ 16 ∷ 14 ∷ 0 ∷ 0 ∷ 0 ∷ 0 ∷ 0 ∷ 0 ∷ 0 ∷ 0 ∷ 0 ∷ 0 ∷ 0 ∷ 0 ∷ 0 ∷ 0 ∷ 0 ∷ []
+options-order-sums = refl
+
+pub options-order-masks : map (λ b. bitsIn b optionsOrder) bytes ≡ 255 ∷ 193 ∷ 1 ∷ 23 ∷ 0 ∷ 0 ∷ 0 ∷ 0 ∷ 0 ∷ 0 ∷ 0 ∷ 0 ∷ 0 ∷ 0 ∷ 0 ∷ 0 ∷ 0 ∷ 0 ∷ 0 ∷ []
+options-order-masks = refl
+
+pub options-order-length : layoutLength optionsOrder ≡ 70
+options-order-length = refl
+
+pub options-order-widths : map lineWidth optionsOrder ≡ 4 ∷ 4 ∷ 8 ∷ 1 ∷ 1 ∷ 1 ∷ 4 ∷ 4 ∷ 8 ∷ 1 ∷ 4 ∷ 16 ∷ 4 ∷ 8 ∷ 1 ∷ 1 ∷ []
+options-order-widths = refl
+
+pub options-order-kinds : map lineKind optionsOrder ≡ Letters ∷ Text ∷ Price ∷ Text ∷ Alphanumeric ∷ Alphanumeric ∷ Binary ∷ Binary ∷ Alphanumeric ∷ Letters ∷ Text ∷ Text ∷ Day ∷ Price ∷ Alphanumeric ∷ Alphanumeric ∷ []
+options-order-kinds = refl
+
+pub options-order-in-order : inOrder 0 optionsOrder ≡ true
+options-order-in-order = refl
 
 -- Cancel Order
 pub cancel-order-sums : map (λ b. widthsIn b cancelOrder) bytes ≡ 4 ∷ 0 ∷ 0 ∷ 0 ∷ 0 ∷ 0 ∷ 0 ∷ 0 ∷ 0 ∷ 0 ∷ 0 ∷ 0 ∷ 0 ∷ 0 ∷ 0 ∷ 0 ∷ 0 ∷ 0 ∷ 0 ∷ []

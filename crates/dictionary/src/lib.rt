@@ -1,4 +1,5 @@
-// The bit dictionary: what a bit of a bitfield byte selects in a message. Bytes count from 1, bits from 0, the lowest.
+// The bit dictionary: what a bit of a bitfield byte selects in a message. Bytes count from 1, bits from 0, the lowest. The options New Order, which has the
+// type byte of the equities' one, is told by a number of its own, B8.
 ghost use mathlib.Core.Path.{_≡_};
 ghost use Rattle.dictionary.specs.Dictionary.{entryOf};
 ghost use Rattle.dictionary.specs.declared.Entry.the-variants.{Field};
@@ -55,6 +56,43 @@ fn new_order(byte: u8, bit: u8) -> Entry
         },
         10 => match bit {
             1 => field(4, Kind::Letters, 150), // LocateBroker
+            _ => Entry::Refused,
+        },
+        _ => Entry::Refused,
+    }
+}
+
+// A bit of the options New Order.
+fn options_order(byte: u8, bit: u8) -> Entry
+    ensures { λ r. ⌜ r ≡ entryOf 0xB8 byte bit ⌝ }
+{
+    match byte {
+        1 => match bit {
+            0 => field(4, Kind::Letters, 0), // ClearingFirm
+            1 => field(4, Kind::Text, 4), // ClearingAccount
+            2 => field(8, Kind::Price, 8), // Price
+            3 => field(1, Kind::Text, 16), // ExecInst
+            4 => field(1, Kind::Alphanumeric, 17), // OrdType
+            5 => field(1, Kind::Alphanumeric, 18), // TimeInForce
+            6 => field(4, Kind::Binary, 19), // MinQty
+            7 => field(4, Kind::Binary, 23), // MaxFloor
+            _ => Entry::Refused,
+        },
+        2 => match bit {
+            0 => field(8, Kind::Alphanumeric, 27), // Symbol
+            6 => field(1, Kind::Letters, 35), // Capacity
+            7 => field(4, Kind::Text, 36), // RoutingInst
+            _ => Entry::Refused,
+        },
+        3 => match bit {
+            0 => field(16, Kind::Text, 40), // Account
+            _ => Entry::Refused,
+        },
+        4 => match bit {
+            0 => field(4, Kind::Day, 56), // MaturityDate
+            1 => field(8, Kind::Price, 60), // StrikePrice
+            2 => field(1, Kind::Alphanumeric, 68), // PutOrCall
+            4 => field(1, Kind::Alphanumeric, 69), // OpenClose
             _ => Entry::Refused,
         },
         _ => Entry::Refused,
@@ -262,6 +300,7 @@ pub fn entry_of(message: u8, byte: u8, bit: u8) -> Entry
         0x2B => cancel_rejection(byte, bit),
         0x3A => modify_order(byte, bit),
         0x47 => purge_orders(byte, bit),
+        0xB8 => options_order(byte, bit),
         _ => Entry::Refused,
     }
 }

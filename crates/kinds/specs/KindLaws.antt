@@ -7,9 +7,11 @@ use native.Mathlib.Nat.{not-suc-le-zero}
 use native.Mathlib.Omega.{arith}
 use lib.Dec.{eqb}
 use lib.ListN.{length, getD}
-use borrow.Author.Tests.{not-true, eqb-true, eq-eqb}
+use Rattle.numbers.specs.Numbers.{numberAt}
+use Rattle.calendar.specs.Calendar.{isDay}
+use borrow.Author.Tests.{not-true, eqb-true, eq-eqb, ne-eqb}
 use Rattle.kinds.specs.declared.Kind.{Kind}
-use Rattle.kinds.specs.declared.Kind.the-variants.{Letters, Alphanumeric, Text, Identifier, Binary, Price, FilledText}
+use Rattle.kinds.specs.declared.Kind.the-variants.{Letters, Alphanumeric, Text, Identifier, Binary, Price, FilledText, Day}
 use Rattle.kinds.specs.Kinds.{allowed, blankTaken, allNul, agreesText, agreesOf, agreesFilledOf, steady}
 
 first-holds : (t u v : Bool) → t && u ≡ true → cond t u v ≡ true
@@ -21,7 +23,22 @@ pub blank-text : (k : Kind) (bs : List ℕ) → allNul bs ≡ true → agreesTex
 blank-text k [] h = refl
 blank-text k (b ∷ bs) h = first-holds (eqb b 0) (allNul bs) _ h
 
--- a blank field agrees with every kind but the one that is never blank
+-- 0 is no day, so four bytes NUL are none
+no-day-blank : (bs : List ℕ) → allNul bs ≡ true → (eqb (length bs) 4 && isDay (numberAt 4 0 bs)) ≡ false
+unfolding isDay
+no-day-blank [] h = refl
+no-day-blank (a ∷ []) h = refl
+no-day-blank (a ∷ b ∷ []) h = refl
+no-day-blank (a ∷ b ∷ c ∷ []) h = refl
+no-day-blank (a ∷ b ∷ c ∷ d ∷ []) h =
+    let p = and-eq-true-iff (eqb a 0) _ .0 h in
+    let q = and-eq-true-iff (eqb b 0) _ .0 (p .1) in
+    let r = and-eq-true-iff (eqb c 0) _ .0 (q .1) in
+    let s = and-eq-true-iff (eqb d 0) _ .0 (r .1) in
+    rw (eqb-true a 0 (p .0), eqb-true b 0 (q .0), eqb-true c 0 (r .0), eqb-true d 0 (s .0))
+no-day-blank (a ∷ b ∷ c ∷ d ∷ e ∷ bs) h = rw (ne-eqb (length (a ∷ b ∷ c ∷ d ∷ e ∷ bs)) 4 (λ q. omega (arith, q)))
+
+-- a blank field agrees with every kind but those that are never blank
 pub blank-agrees : (k : Kind) (bs : List ℕ) → allNul bs ≡ true → agreesOf k bs ≡ blankTaken k
 blank-agrees Letters bs h = blank-text Letters bs h
 blank-agrees Alphanumeric bs h = blank-text Alphanumeric bs h
@@ -30,10 +47,15 @@ blank-agrees Identifier bs h = blank-text Identifier bs h
 blank-agrees Binary bs h = refl
 blank-agrees Price bs h = refl
 blank-agrees FilledText bs h = rw h
+blank-agrees Day bs h = no-day-blank bs h
 
 -- a field of the kind that is never blank is a text that is never blank
 pub filled-text : (bs : List ℕ) → agreesOf FilledText bs ≡ agreesFilledOf Text bs
 filled-text bs = refl
+
+-- a day is four bytes whose number is one
+pub day-is : (bs : List ℕ) → length bs ≡ 4 → agreesOf Day bs ≡ isDay (numberAt 4 0 bs)
+day-is bs e = rw (eq-eqb (length bs) 4 e)
 
 -- a field that agrees and is not blank agrees
 pub filled-agrees : (k : Kind) (bs : List ℕ) → agreesFilledOf k bs ≡ true → agreesOf k bs ≡ true
@@ -80,6 +102,10 @@ or-any : (c : Bool) → true ≡ cond c true true
 or-any true = refl
 or-any false = refl
 
+or-none : (c : Bool) → false ≡ cond c false false
+or-none true = refl
+or-none false = refl
+
 one-filled : (c d : Bool) → (not (c && true) && cond c true (d && true)) ≡ cond c false d
 one-filled true d = refl
 one-filled false true = refl
@@ -93,6 +119,7 @@ one-agrees Identifier b = one-by (eqb b 0) (allowed Identifier b)
 one-agrees Binary b = or-any (eqb b 0)
 one-agrees Price b = or-any (eqb b 0)
 one-agrees FilledText b = one-filled (eqb b 0) (allowed Text b)
+one-agrees Day b = or-none (eqb b 0)
 
 -- bytes that are one byte
 pub one-byte : (bs : List ℕ) → length bs ≡ 1 → bs ≡ getD bs 0 0 ∷ []

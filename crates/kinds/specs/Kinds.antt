@@ -3,8 +3,11 @@ use Prim.Native.Nat.{ℕ}
 use mathlib.Core.Bool.{Bool, true, false, cond, not, _&&_, _||_}
 use mathlib.Core.List.{List, [], _∷_}
 use lib.Dec.{leb, eqb}
+use lib.ListN.{length}
+use Rattle.numbers.specs.Numbers.{numberAt}
+use Rattle.calendar.specs.Calendar.{isDay}
 use Rattle.kinds.specs.declared.Kind.{Kind}
-use Rattle.kinds.specs.declared.Kind.the-variants.{Letters, Alphanumeric, Text, Identifier, Binary, Price, FilledText}
+use Rattle.kinds.specs.declared.Kind.the-variants.{Letters, Alphanumeric, Text, Identifier, Binary, Price, FilledText, Day}
 
 -- a byte from low to high, both included
 abbrev pub within : ℕ → ℕ → ℕ → Bool
@@ -43,7 +46,8 @@ abbrev pub excepted : ℕ → Bool
 excepted b = eqb b comma || eqb b semicolon || eqb b pipe || eqb b atSign || eqb b doubleQuote
 
 -- 01, Wire basics: A is letters, N letters and digits, T the bytes 32 to 126; the identifiers use the bytes 33 to 126 except these five;
--- B and P take any value. 02, request 1: MassCancelInst is T, and a blank one is refused.
+-- B and P take any value. 02, request 1: MassCancelInst is T, and a blank one is refused. Request 4: a maturity is a calendar day, a number and no
+-- text, so it has no characters.
 abbrev pub allowed : Kind → ℕ → Bool
 allowed Letters b = letter b
 allowed Alphanumeric b = digit b || letter b
@@ -52,6 +56,7 @@ allowed Identifier b = within 33 126 b && not (excepted b)
 allowed Binary b = true
 allowed Price b = true
 allowed FilledText b = within 32 126 b
+allowed Day b = false
 
 -- whether a blank field agrees with a kind
 abbrev pub blankTaken : Kind → Bool
@@ -62,6 +67,7 @@ blankTaken Identifier = true
 blankTaken Binary = true
 blankTaken Price = true
 blankTaken FilledText = false
+blankTaken Day = false
 
 -- an all-NUL field is blank
 abbrev pub allNul : List ℕ → Bool
@@ -73,7 +79,7 @@ abbrev pub agreesText : Kind → List ℕ → Bool
 agreesText k [] = true
 agreesText k (b ∷ bs) = cond (eqb b 0) (allNul bs) (allowed k b && agreesText k bs)
 
--- whether a field's bytes agree with its kind
+-- whether a field's bytes agree with its kind. 02, request 4: a day is one of those under 19, as a number of four bytes; 0 is none
 abbrev pub agreesOf : Kind → List ℕ → Bool
 agreesOf Letters bs = agreesText Letters bs
 agreesOf Alphanumeric bs = agreesText Alphanumeric bs
@@ -82,6 +88,7 @@ agreesOf Identifier bs = agreesText Identifier bs
 agreesOf Binary bs = true
 agreesOf Price bs = true
 agreesOf FilledText bs = not (allNul bs) && agreesText Text bs
+agreesOf Day bs = eqb (length bs) 4 && isDay (numberAt 4 0 bs)
 
 -- never blank: some byte is not NUL, and the bytes agree with the kind
 abbrev pub agreesFilledOf : Kind → List ℕ → Bool

@@ -10,7 +10,8 @@ ghost use Rattle.numbers.specs.Numbers.{bytesOf};
 ghost use Rattle.kinds.specs.Kinds.{within, letter, excepted, allowed, blankTaken, allNul, allAllowed, follows, agreesText, agreesOf, agreesFilledOf};
 ghost use Rattle.kinds.specs.Words.{kindOf, Low, Marks};
 
-// A field's kind: document 01's A, N, T, the characters of ClOrdID and OrigClOrdID, B and P; and T that is never blank, as MassCancelInst is.
+// A field's kind: document 01's A, N, T, the characters of ClOrdID and OrigClOrdID, B and P; T that is never blank, as MassCancelInst is; and a calendar
+// day, as MaturityDate is.
 pub enum Kind {
     Letters,
     Alphanumeric,
@@ -19,6 +20,7 @@ pub enum Kind {
     Binary,
     Price,
     FilledText,
+    Day,
 }
 
 // The kinds of texts whose characters are tested a word at a time: A, N and T.
@@ -89,6 +91,7 @@ fn is_allowed(kind: Kind, b: u8) -> bool
         Kind::Binary => true,
         Kind::Price => true,
         Kind::FilledText => is_within(32, 126, b),
+        Kind::Day => false,
     }
 }
 
@@ -143,6 +146,7 @@ fn takes_blank(kind: Kind) -> bool
         Kind::Binary => true,
         Kind::Price => true,
         Kind::FilledText => false,
+        Kind::Day => false,
     }
 }
 
@@ -313,6 +317,17 @@ fn filled_agrees(n: usize, s: &[u8]) -> bool
     text_agrees(Plain::OfT, n, s)
 }
 
+// Whether the n bytes of a field are the number of a calendar day: four bytes, YYYYMMDD.
+fn day_agrees(n: usize, s: &[u8]) -> bool
+    requires { ⌜ n ≡ length (now s) ⌝ }
+    ensures { λ r. ⌜ r ≡ agreesOf Kind.Day (now (s .entry)) ⌝ }
+{
+    if n != 4 {
+        return false;
+    }
+    calendar::is_day(numbers::read_u32(s, 0))
+}
+
 // Whether the n bytes of a field agree with its kind.
 fn sized_agrees(kind: Kind, n: usize, s: &[u8]) -> bool
     requires { ⌜ n ≡ length (now s) ⌝ }
@@ -329,10 +344,11 @@ fn sized_agrees(kind: Kind, n: usize, s: &[u8]) -> bool
         Kind::Binary => true,
         Kind::Price => true,
         Kind::FilledText => filled_agrees(n, s),
+        Kind::Day => day_agrees(n, s),
     }
 }
 
-// Whether a field's bytes agree with its kind. A blank field does, but for the kind that is never blank. The length is an argument below, so that a literal one is folded.
+// Whether a field's bytes agree with its kind. A blank field does, but for the kinds that are never blank. The length is an argument below, so that a literal one is folded.
 pub fn agrees(kind: Kind, s: &[u8]) -> bool
     ensures { λ r. ⌜ r ≡ agreesOf kind (now (s .entry)) ⌝ }
 {

@@ -18,6 +18,7 @@ use borrow.Author.Tests.{eq-eqb, eqb-true, le-leb, ltb-true, ltb-false}
 use Rattle.kinds.specs.Kinds.{allNul, agreesOf}
 use Rattle.numbers.specs.Numbers.{numberAt, bytesOf, patched}
 use Rattle.wire.specs.HeaderLaws.{Bytes}
+use Rattle.dictionary.specs.Dictionary.{isNewOrder}
 use Rattle.block.specs.Slots.{takes, sum, agreeHeld, zeroElsewhere}
 use Rattle.block.specs.SlotLaws.{takes-below, both-true}
 use Rattle.block.specs.Places.{selectedAt, entryAt, slotsFrom, slotsOf, newOrderHas, modifyOrderHas, purgeOrdersHas, hasRequired}
@@ -37,7 +38,7 @@ use Rattle.messages.specs.Messages.{carries, recordSizeOf, ownWrite, wri
 use Rattle.messages.specs.MessageLaws.{order-size, own-write}
 use Rattle.messages.specs.RoundTrip.{read-again}
 use Rattle.messages.specs.OrderPlaces.{isOrder, countIn, layoutIn, orderMost, setInRecord}
-use Rattle.messages.specs.FieldPlace.{set-same, selected-small, not-session}
+use Rattle.messages.specs.FieldPlace.{set-same, selected-small, by-type, not-session}
 use Rattle.messages.specs.ByteLaws.{bytes-front, bytes-append, number-bytes}
 use Rattle.messages.specs.Taken.{TakenBothWays}
 use Rattle.messages.specs.ValidOrders.{orderOf, UnitFits, Required, NeedsMet, betweenIn, Valid, messageSize, betweenOf, GoodFixed, GoodBits, chosenFields, chosenRecord}
@@ -47,15 +48,10 @@ use Rattle.messages.specs.ChosenFields.{not-late, fields-long, fields-by
 
 -- what holds of each type holds of every order of a direction
 pub by-direction : (direction message : ℕ) → orderOf direction message ≡ true → (P : ℕ → ℕ → Type 0) → P 0 0x38 → P 0 0x39 → P 0 0x3A → P 0 0x47 → P 1 0x25 → P 1 0x2C → P 1 0x26 → P 1 0x29
-    → P 1 0x2B → P direction message
-by-direction direction message o P a b h i c d e f g =
-    either (eqb direction 0 && (eqb message 0x38 || (eqb message 0x39 || (eqb message 0x3A || eqb message 0x47))))
-    (λ q.
-    let p = both-true (eqb direction 0) _ q in
-    either (eqb message 0x38) (at 0 0x38 a (p .0))
-    (either (eqb message 0x39) (at 0 0x39 b (p .0))
-    (either (eqb message 0x3A) (at 0 0x3A h (p .0))
-    (at 0 0x47 i (p .0)))) (p .1))
+    → P 1 0x2B → P 2 0xB8 → P 2 0x39 → P 2 0x3A → P 2 0x47 → P direction message
+by-direction direction message o P a b h i c d e f g j k l m =
+    either (eqb direction 0 && (eqb message 0x38 || (eqb message 0x39 || (eqb message 0x3A || eqb message 0x47)))) (of-market 0 0x38 a b h i)
+    (either (eqb direction 1 && (eqb message 0x25 || (eqb message 0x2C || (eqb message 0x26 || (eqb message 0x29 || eqb message 0x2B)))))
     (λ q.
     let p = both-true (eqb direction 1) _ q in
     either (eqb message 0x25) (at 1 0x25 c (p .0))
@@ -63,28 +59,39 @@ by-direction direction message o P a b h i c d e f g =
     (either (eqb message 0x26) (at 1 0x26 e (p .0))
     (either (eqb message 0x29) (at 1 0x29 f (p .0))
     (at 1 0x2B g (p .0))))) (p .1))
+    (of-market 2 0xB8 j k l m))
     o
   where
     at : (n x : ℕ) → P n x → eqb direction n ≡ true → eqb message x ≡ true → P direction message
     at n x h e f = subst (λ (i : ℕ). P i message) (sym (eqb-true direction n e)) (subst (P n) (sym (eqb-true message x f)) h)
 
+    -- a member's, of which the first is the market's New Order
+    of-market : (n new : ℕ) → P n new → P n 0x39 → P n 0x3A → P n 0x47 → (eqb direction n && (eqb message new || (eqb message 0x39 || (eqb message 0x3A || eqb message 0x47)))) ≡ true → P direction message
+    of-market n new x y z w q =
+        let p = both-true (eqb direction n) _ q in
+        either (eqb message new) (at n new x (p .0))
+        (either (eqb message 0x39) (at n 0x39 y (p .0))
+        (either (eqb message 0x3A) (at n 0x3A z (p .0))
+        (at n 0x47 w (p .0)))) (p .1)
+
 -- the direction has the type, the type is known, and it takes the units and numbers that fit it
-record Known (direction message : ℕ) : Type 0 where
-  is-order : isOrder message ≡ true
+pub record Known (direction message : ℕ) : Type 0 where
+  pub is-order : isOrder message ≡ true
   known : (ofMember message || ofVenue message) ≡ true
   carried : carries direction message ≡ true
   unit-taken : (unit number : ℕ) → UnitFits message unit number → unitGood message unit number ≡ true
 
-known-type : (direction message : ℕ) → orderOf direction message ≡ true → Known direction message
+pub known-type : (direction message : ℕ) → orderOf direction message ≡ true → Known direction message
 unfolding carries unitGood
 known-type direction message o =
-    by-direction direction message o Known (member 0x38 refl refl refl refl (λ u n. refl)) (member 0x39 refl refl refl refl (λ u n. refl))
-    (member 0x3A refl refl refl refl (λ u n. refl)) (member 0x47 refl refl refl refl (λ u n. refl))
+    by-direction direction message o Known (member 0 0x38 refl refl refl refl (λ u n. refl)) (member 0 0x39 refl refl refl refl (λ u n. refl))
+    (member 0 0x3A refl refl refl refl (λ u n. refl)) (member 0 0x47 refl refl refl refl (λ u n. refl))
     (counted 0x25 refl refl refl refl (λ u n. refl)) (counted 0x2C refl refl refl refl (λ u n. refl))
     (aside 0x26 refl refl refl refl (λ u n. refl)) (aside 0x29 refl refl refl refl (λ u n. refl)) (aside 0x2B refl refl refl refl (λ u n. refl))
+    (member 2 0xB8 refl refl refl refl (λ u n. refl)) (member 2 0x39 refl refl refl refl (λ u n. refl)) (member 2 0x3A refl refl refl refl (λ u n. refl)) (member 2 0x47 refl refl refl refl (λ u n. refl))
   where
-    member : (x : ℕ) → isOrder x ≡ true → (ofMember x || ofVenue x) ≡ true → carries 0 x ≡ true → ofMember x ≡ true → ((u n : ℕ) → unitGood x u n ≡ eqb u 0) → Known 0 x
-    member x i k c m g = record { is-order = i; known = k; carried = c; unit-taken = λ u n f. g u n ∙ eq-eqb u 0 (f .of-member m) }
+    member : (d x : ℕ) → isOrder x ≡ true → (ofMember x || ofVenue x) ≡ true → carries d x ≡ true → ofMember x ≡ true → ((u n : ℕ) → unitGood x u n ≡ eqb u 0) → Known d x
+    member d x i k c m g = record { is-order = i; known = k; carried = c; unit-taken = λ u n f. g u n ∙ eq-eqb u 0 (f .of-member m) }
 
     counted : (x : ℕ) → isOrder x ≡ true → (ofMember x || ofVenue x) ≡ true → carries 1 x ≡ true → sequenced x ≡ true → ((u n : ℕ) → unitGood x u n ≡ (leb 1 u && leb u 32)) → Known 1 x
     counted x i k c m g = record {
@@ -129,11 +136,11 @@ part-of-front w (suc p) (suc n) (x ∷ l) h = part-of-front w p n l (omega arith
 
 required-set : (message count : ℕ) (bits : List ℕ) → Required message (selectedAt count bits) → hasRequired message count bits ≡ true
 unfolding hasRequired
-required-set message count bits q = by (eqb message 0x38) (eqb message 0x3A) (eqb message 0x47) refl refl refl
+required-set message count bits q = by (isNewOrder message) (eqb message 0x3A) (eqb message 0x47) refl refl refl
   where
-    by : (a b c : Bool) → eqb message 0x38 ≡ a → eqb message 0x3A ≡ b → eqb message 0x47 ≡ c
+    by : (a b c : Bool) → isNewOrder message ≡ a → eqb message 0x3A ≡ b → eqb message 0x47 ≡ c
         → cond a (newOrderHas count bits) (cond b (modifyOrderHas count bits) (cond c (purgeOrdersHas count bits) true)) ≡ true
-    by true b c e f g = let o = eqb-true message 0x38 e in rw (q .symbol o, q .capacity o, q .price-or-type o)
+    by true b c e f g = rw (q .symbol e, q .capacity e, q .price-or-type e)
     by false true c e f g = let o = eqb-true message 0x3A f in rw (q .quantity o, q .new-price-or-type o)
     by false false true e f g = q .instruction (eqb-true message 0x47 g)
     by false false false e f g = refl
@@ -279,11 +286,12 @@ a-valid-record-is-taken direction r out bytes long v room =
 
 -- types and units are bytes
 type-byte : (direction message : ℕ) → orderOf direction message ≡ true → message < 256
-type-byte direction message o = by-direction direction message o (λ (d x : ℕ). x < 256) (omega arith) (omega arith) (omega arith) (omega arith) (omega arith) (omega arith) (omega arith) (omega arith) (omega arith)
+type-byte direction message o = by-type message (known-type direction message o .is-order) (λ (x : ℕ). x < 256) (omega arith) (omega arith) (omega arith) (omega arith) (omega arith) (omega arith) (omega arith) (omega arith) (omega arith) (omega arith)
 
 unit-byte : (direction message unit number : ℕ) → orderOf direction message ≡ true → UnitFits message unit number → unit < 256
 unit-byte direction message unit number o =
-    by-direction direction message o (λ (d x : ℕ). UnitFits x unit number → unit < 256) (λ f. none (f .of-member refl)) (λ f. none (f .of-member refl)) (λ f. none (f .of-member refl)) (λ f. none (f .of-member refl)) (λ f. some (f .at-most refl)) (λ f. some (f .at-most refl))
+    by-type message (known-type direction message o .is-order) (λ (x : ℕ). UnitFits x unit number → unit < 256)
+    (λ f. none (f .of-member refl)) (λ f. none (f .of-member refl)) (λ f. none (f .of-member refl)) (λ f. none (f .of-member refl)) (λ f. none (f .of-member refl)) (λ f. some (f .at-most refl)) (λ f. some (f .at-most refl))
     (λ f. none (f .no-unit refl)) (λ f. none (f .no-unit refl)) (λ f. none (f .no-unit refl))
   where
     none : unit ≡ 0 → unit < 256
@@ -404,9 +412,9 @@ module _ (direction message unit number : ℕ) (fixed : List ℕ) (count : ℕ) 
     count = rw (count-is, type-is) (b .few);
     listed = λ k e q. b .listed k (sym (set-is k) ∙ e) (ap (λ (x : ℕ). entryAt x k) (sym type-is) ∙ q);
     required = record {
-      symbol = λ o. set-is 8 ∙ b .required .symbol (sym type-is ∙ o);
-      capacity = λ o. set-is 14 ∙ b .required .capacity (sym type-is ∙ o);
-      price-or-type = λ o. ap₂ (λ (x y : Bool). x || y) (set-is 2) (set-is 4) ∙ b .required .price-or-type (sym type-is ∙ o);
+      symbol = λ o. set-is 8 ∙ b .required .symbol (ap isNewOrder (sym type-is) ∙ o);
+      capacity = λ o. set-is 14 ∙ b .required .capacity (ap isNewOrder (sym type-is) ∙ o);
+      price-or-type = λ o. ap₂ (λ (x y : Bool). x || y) (set-is 2) (set-is 4) ∙ b .required .price-or-type (ap isNewOrder (sym type-is) ∙ o);
       quantity = λ o. set-is 2 ∙ b .required .quantity (sym type-is ∙ o);
       new-price-or-type = λ o. ap₂ (λ (x y : Bool). x || y) (set-is 3) (set-is 4) ∙ b .required .new-price-or-type (sym type-is ∙ o);
       instruction = λ o. set-is 2 ∙ b .required .instruction (sym type-is ∙ o);

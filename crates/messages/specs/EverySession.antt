@@ -4,7 +4,7 @@
 --     blank-values-are-good                                         and there are good fixed parts: blank ones
 -- Assumes nothing.
 use mathlib.Core.Path.{_≡_, refl, sym, ap, _∙_, subst}
-use mathlib.Core.Bool.{Bool, true, false, _&&_, _||_, false≢true}
+use mathlib.Core.Bool.{true}
 use mathlib.Core.List.{List, [], _∷_, _++_}
 use Prim.Native.Nat.{ℕ, _+_, _≤_, _<_}
 use native.Mathlib.Omega.{arith}
@@ -18,14 +18,17 @@ use Rattle.wire.specs.HeaderLaws.{Bytes, header-length, header-number, header-t
 use Rattle.wire.specs.Frame.{frameRefusal, framed}
 use Rattle.wire.specs.FrameLaws.{accepted, framed-is}
 use Rattle.block.specs.Slots.{zeros}
+use Rattle.block.specs.SlotLaws.{both-true}
+use Rattle.orders.specs.OrderLaws.{either}
 use Rattle.session_groups.specs.Values.{Pair, pairsBytes, PairsInOrder, Group, groupsBytes, GroupsInOrder}
 use Rattle.session_messages.specs.Sessions as sessions
 use Rattle.session_messages.specs.SessionLaws.{header-alone}
 use Rattle.session_messages.specs.SessionMeaning.{a-value-is-a-request, a-value-is-a-response, a-value-is-a-logout}
 use Rattle.session_messages.specs.SessionTrip as sessionTrip
 use Rattle.session_messages.specs.Sizes.{sessionRecordSize}
-use Rattle.messages.specs.Messages.{isSession, carries, ownRefusal, readRefusal, readCall}
+use Rattle.messages.specs.Messages.{isSession, carries, heard, ownRefusal, readRefusal, readCall}
 use Rattle.messages.specs.MessageLaws.{size-at-most, own-refusal, own-size-suffices}
+use Rattle.messages.specs.Heard.{session-wired, heard-again}
 use Rattle.messages.specs.RoundTrip.{taken-again, written-again}
 use Rattle.messages.specs.ByteLaws.{bytes-front, bytes-append, number-bytes}
 use Rattle.messages.specs.Taken.{TakenAsSaid, said, headerOf}
@@ -51,15 +54,20 @@ module _ (direction message : ℕ) (b : List ℕ) (carried : carries direction m
   unfolding ownRefusal
   own-said = rw session z
 
+  heard-as-said : (t : List ℕ) → heard direction (said message b ++ t) ≡ said message b
+  heard-as-said t =
+      ap (λ (x : List ℕ). heard direction (x ++ t)) (sym (session-wired (said message b) (omega arith) session))
+      ∙ heard-again direction (said message b) t (omega arith) carried (frames t) (framed-as-said t)
+
   is-read : (t : List ℕ) → readRefusal direction (said message b ++ t) ≡ 0
   is-read t =
-      own-refusal direction (said message b ++ t) [] (frames t) (ap (λ (x : List ℕ). carries direction (typeOf x)) (framed-as-said t) ∙ carried)
-      ∙ ap ownRefusal (framed-as-said t)
+      own-refusal direction (said message b ++ t) [] (frames t) (ap (λ (x : List ℕ). carries direction (typeOf x)) (heard-as-said t) ∙ carried)
+      ∙ ap ownRefusal (heard-as-said t)
       ∙ own-said
 
   is-taken : (t buffer : List ℕ) → sessionRecordSize ≤ length buffer → readCall direction (said message b ++ t) (length buffer) ≡ 0
   is-taken t buffer h =
-      own-size-suffices direction (said message b ++ t) (length buffer) (omega (arith, size-at-most (typeOf (framed (said message b ++ t))), h)) ∙ is-read t
+      own-size-suffices direction (said message b ++ t) (length buffer) (omega (arith, size-at-most (typeOf (heard direction (said message b ++ t))), h)) ∙ is-read t
 
   all-bytes : (t : List ℕ) → Bytes t → Bytes (said message b ++ t)
   all-bytes t k =
@@ -81,12 +89,11 @@ module _ (direction message : ℕ) (b : List ℕ) (carried : carries direction m
         ∙ ap (patched out 0) (framed-as-said t);
   }
 
--- A REQUEST IS TAKEN: a Login Request of 19 bytes, the count of groups last, and any groups in order
-pub a-request-is-taken : (p : List ℕ) (gs : List Group) → Bytes (p ++ groupsBytes gs) → length p ≡ 19 → sessions.valuesGood 0x37 p ≡ true → getD p 18 0 ≡ length gs → GroupsInOrder gs
-    → TakenAsSaid 0 (said 0x37 (p ++ groupsBytes gs))
-unfolding carries
-a-request-is-taken p gs bytes n v c o =
-    is-taken-as-said 0 0x37 (p ++ groupsBytes gs) refl refl (omega arith) bytes (a-value-is-a-request (8 + length (p ++ groupsBytes gs)) p gs n v c o)
+-- A REQUEST IS TAKEN, in a direction that has it: a Login Request of 19 bytes, the count of groups last, and any groups in order
+pub a-request-is-taken : (direction : ℕ) → carries direction 0x37 ≡ true → (p : List ℕ) (gs : List Group) → Bytes (p ++ groupsBytes gs) → length p ≡ 19 → sessions.valuesGood 0x37 p ≡ true → getD p 18 0 ≡ length gs
+    → GroupsInOrder gs → TakenAsSaid direction (said 0x37 (p ++ groupsBytes gs))
+a-request-is-taken direction carried p gs bytes n v c o =
+    is-taken-as-said direction 0x37 (p ++ groupsBytes gs) carried refl (omega arith) bytes (a-value-is-a-request (8 + length (p ++ groupsBytes gs)) p gs n v c o)
 
 -- A RESPONSE IS TAKEN: a Login Response of 67 bytes with flag 0 or 1, the count of pairs last, any pairs in order, a count of groups and any groups in order
 pub a-response-is-taken : (p : List ℕ) (ps : List Pair) (gs : List Group) → Bytes (p ++ (pairsBytes ps ++ (length gs ∷ groupsBytes gs))) → length p ≡ 67 → sessions.valuesGood 0x24 p ≡ true → getD p 61 0 < 2
@@ -108,26 +115,20 @@ no-bytes i = omega arith
 
 -- A HEADER IS TAKEN: Client Heartbeat, Server Heartbeat, Replay Complete
 pub a-header-is-taken : (direction message : ℕ) → headerOf direction message ≡ true → TakenAsSaid direction (said message [])
-unfolding carries sessions.fixedSize
-a-header-is-taken direction message o = by (eqb direction 0) refl (eqb direction 1) refl (eqb message 0x03) refl (eqb message 0x09) refl (eqb message 0x13) refl o
+unfolding sessions.fixedSize
+a-header-is-taken direction message o =
+    let p = both-true (carries direction message) _ o in
+    either (eqb message 0x03) (at 0x03 refl (omega arith) refl (p .0))
+    (either (eqb message 0x09) (at 0x09 refl (omega arith) refl (p .0))
+    (at 0x13 refl (omega arith) refl (p .0))) (p .1)
   where
-    alone : (d x : ℕ) → carries d x ≡ true → isSession x ≡ true → x < 256 → sessions.fixedSize x ≡ 0 → TakenAsSaid d (said x [])
-    alone d x c s h f = is-taken-as-said d x [] c s h no-bytes (header-alone (said x []) s refl (header-number 8 x 0 0 [] (omega arith)) f)
+    alone : (x : ℕ) → isSession x ≡ true → x < 256 → sessions.fixedSize x ≡ 0 → carries direction x ≡ true → TakenAsSaid direction (said x [])
+    alone x s h f c = is-taken-as-said direction x [] c s h no-bytes (header-alone (said x []) s refl (header-number 8 x 0 0 [] (omega arith)) f)
 
-    at : (d x : ℕ) → TakenAsSaid d (said x []) → eqb direction d ≡ true → eqb message x ≡ true → TakenAsSaid direction (said message [])
-    at d x h e f = subst (λ (i : ℕ). TakenAsSaid i (said message [])) (sym (eqb-true direction d e)) (subst (λ (i : ℕ). TakenAsSaid d (said i [])) (sym (eqb-true message x f)) h)
-
-    by : (g : Bool) → eqb direction 0 ≡ g → (h : Bool) → eqb direction 1 ≡ h → (x : Bool) → eqb message 0x03 ≡ x → (y : Bool) → eqb message 0x09 ≡ y → (v : Bool) → eqb message 0x13 ≡ v
-        → ((g && x) || (h && (y || v))) ≡ true → TakenAsSaid direction (said message [])
-    by true eg h eh true ex y ey v ev q = at 0 0x03 (alone 0 0x03 refl refl (omega arith) refl) eg ex
-    by true eg true eh false ex true ey v ev q = at 1 0x09 (alone 1 0x09 refl refl (omega arith) refl) eh ey
-    by true eg true eh false ex false ey true ev q = at 1 0x13 (alone 1 0x13 refl refl (omega arith) refl) eh ev
-    by true eg true eh false ex false ey false ev q = absurd (false≢true q)
-    by true eg false eh false ex y ey v ev q = absurd (false≢true q)
-    by false eg true eh x ex true ey v ev q = at 1 0x09 (alone 1 0x09 refl refl (omega arith) refl) eh ey
-    by false eg true eh x ex false ey true ev q = at 1 0x13 (alone 1 0x13 refl refl (omega arith) refl) eh ev
-    by false eg true eh x ex false ey false ev q = absurd (false≢true q)
-    by false eg false eh x ex y ey v ev q = absurd (false≢true q)
+    at : (x : ℕ) → isSession x ≡ true → x < 256 → sessions.fixedSize x ≡ 0 → carries direction message ≡ true → eqb message x ≡ true → TakenAsSaid direction (said message [])
+    at x s h f c e =
+        let k : message ≡ x = eqb-true message x e in
+        subst (λ (i : ℕ). TakenAsSaid direction (said i [])) (sym k) (alone x s h f (ap (carries direction) (sym k) ∙ c))
 
 -- not empty: blank values are good, and blank fixed parts count no pairs and no groups
 pub blank-values-are-good : (sessions.valuesGood 0x37 (zeros 19) ≡ true) × ((sessions.valuesGood 0x24 (zeros 67) ≡ true) × (sessions.valuesGood 0x08 (zeros 66) ≡ true))

@@ -6,7 +6,7 @@
 -- earlier set bits on; and these are the bytes of its place in the record's buffer. Assumes nothing.
 use mathlib.Core.Path.{_≡_, refl, sym, ap, ap₂, _∙_, subst}
 use mathlib.Core.Bool.{Bool, true, false, cond, _&&_}
-use mathlib.Core.List.{List, [], _∷_, _++_, append-assoc, append-nil}
+use mathlib.Core.List.{List, [], _∷_, _++_, append-assoc}
 use Prim.Native.Nat.{ℕ, _+_, _*_, _-_, _/_, _%_, _≤_, _<_}
 use native.Mathlib.Omega.{arith}
 use lib.Dec.{ltb, eqb}
@@ -18,8 +18,8 @@ use Rattle.dictionary.specs.declared.Entry.the-variants.{Field}
 use Rattle.numbers.specs.NumberLaws.{bytes-first}
 use Rattle.wire.specs.Header.{headerBytes, typeOf, totalOf}
 use Rattle.wire.specs.HeaderLaws.{Bytes}
-use Rattle.wire.specs.Frame.{frameRefusal, framed}
-use Rattle.wire.specs.FrameLaws.{whole, framed-is, framed-length, framed-accepted, framed-again}
+use Rattle.wire.specs.Frame.{frameRefusal}
+use Rattle.wire.specs.FrameLaws.{whole, framed-is, framed-length}
 use Rattle.block.specs.Slots.{takes, sum, gathered}
 use Rattle.block.specs.SlotLaws.{gathered-length, both-true}
 use Rattle.block.specs.Places.{bitSet, selectedAt, entryAt, slotsOf}
@@ -33,12 +33,15 @@ use Rattle.orders.specs.Orders.{writeSlots, writeRest, writeMiddle, sizeOf, ord
 use Rattle.orders.specs.OrderLaws.{count-bounds, most-bound, middle-fits, middle-kept, fit, either}
 use Rattle.orders.specs.RoundTrip.{parts-count, parts-bits, parts-rest, Sound, bytes-length, framed-after, framed-as-written}
 use Rattle.orders.specs.RoundTrip as orderTrip
+use Rattle.orders.specs.Markets.{wireType, typed, onWire}
+use Rattle.orders.specs.MarketLaws.{total-alike}
 use Rattle.orders.specs.Orders as orders
 use Rattle.orders.specs.declared.Record.{Record}
 use Rattle.order_records.specs.Records.{recordBytes, recordAt}
 use Rattle.order_records.specs.RecordTrip.{record-again, at-sound, bytes-again}
-use Rattle.messages.specs.Messages.{isSession, ownRefusal, recordOf, readCall, readRecord, ownWrite, messageOf, writeCall, writeOut}
+use Rattle.messages.specs.Messages.{isSession, typeIn, heard, ownRefusal, recordOf, readCall, readRecord, ownWrite, messageOf, writeCall, writeOut}
 use Rattle.messages.specs.MessageLaws.{order-size}
+use Rattle.messages.specs.Heard.{heard-alone, heard-exact, heard-bytes, heard-type, wired-again}
 use Rattle.messages.specs.RoundTrip.{Accepted, accepted, taken, given, record-stored, message-stored}
 use Rattle.messages.specs.OrderPlaces.{isOrder, countIn, layoutIn, setIn, setInMessage, setInRecord, between, fieldAt, Stands}
 
@@ -63,7 +66,7 @@ selected-small c bits k e h =
 
 -- ---- a record that the writer takes, its message and its bytes, with anything after each
 
-module _ (r : Record) (room : ℕ) (ok : Sound r) (z : writeRefusal r room ≡ 0) (m b t u : List ℕ) (is-message : m ≡ orderBytes r ++ t) (is-record : b ≡ recordBytes r ++ u) where
+module _ (r : Record) (room : ℕ) (ok : Sound r) (z : writeRefusal r room ≡ 0) (m b t u : List ℕ) (is-message : m ≡ onWire (orderBytes r) ++ t) (is-record : b ≡ recordBytes r ++ u) where
   low : 10 ≤ countAt (r .message)
   low = omega (arith, count-bounds (r .message) .low)
 
@@ -97,10 +100,10 @@ module _ (r : Record) (room : ℕ) (ok : Sound r) (z : writeRefusal r room ≡ 0
   unfolding middle
   middle-long = length-take-le (writeMiddle r) (writeRest r) middle-within
 
-  as-parts : m ≡ headerBytes (sizeOf r - 2) (r .message) (r .unit) (r .number) ++ (take (countAt (r .message) - 10) (r .fixed) ++ (r .count ∷ (take (r .count) (r .bits) ++ (middle ++ (optional ++ t)))))
-  unfolding orderBytes writeSlots optional middle
+  as-parts : m ≡ headerBytes (sizeOf r - 2) (wireType (r .message)) (r .unit) (r .number) ++ (take (countAt (r .message) - 10) (r .fixed) ++ (r .count ∷ (take (r .count) (r .bits) ++ (middle ++ (optional ++ t)))))
+  unfolding typed orderBytes writeSlots optional middle
   as-parts =
-      let h = headerBytes (sizeOf r - 2) (r .message) (r .unit) (r .number) in
+      let h = headerBytes (sizeOf r - 2) (wireType (r .message)) (r .unit) (r .number) in
       let f = take (countAt (r .message) - 10) (r .fixed) in
       let s = take (r .count) (r .bits) in
       let g = middle ++ optional in
@@ -108,31 +111,27 @@ module _ (r : Record) (room : ℕ) (ok : Sound r) (z : writeRefusal r room ≡ 0
       ∙ append-assoc h (f ++ (r .count ∷ (s ++ g))) t
       ∙ ap (λ (x : List ℕ). h ++ x) (append-assoc f (r .count ∷ (s ++ g)) t ∙ ap (λ (x : List ℕ). f ++ (r .count ∷ x)) (append-assoc s g t ∙ ap (λ (x : List ℕ). s ++ x) (append-assoc middle optional t)))
 
-  type-is : typeOf m ≡ r .message
-  type-is = ap (λ (l : List ℕ). typeOf l) as-parts
-
   count-there : getD m (countAt (r .message)) 0 ≡ r .count
   count-there =
       ap (λ (l : List ℕ). getD l (countAt (r .message)) 0) as-parts
-      ∙ parts-count (headerBytes (sizeOf r - 2) (r .message) (r .unit) (r .number)) (take (countAt (r .message) - 10) (r .fixed)) (r .count) (take (r .count) (r .bits)) (middle ++ (optional ++ t)) (countAt (r .message)) refl fixed-long bits-long low
+      ∙ parts-count (headerBytes (sizeOf r - 2) (wireType (r .message)) (r .unit) (r .number)) (take (countAt (r .message) - 10) (r .fixed)) (r .count) (take (r .count) (r .bits)) (middle ++ (optional ++ t)) (countAt (r .message)) refl fixed-long bits-long low
 
   bits-there : take (r .count) (drop (countAt (r .message) + 1) m) ≡ take (r .count) (r .bits)
   bits-there =
       ap (λ (l : List ℕ). take (r .count) (drop (countAt (r .message) + 1) l)) as-parts
-      ∙ parts-bits (headerBytes (sizeOf r - 2) (r .message) (r .unit) (r .number)) (take (countAt (r .message) - 10) (r .fixed)) (r .count) (take (r .count) (r .bits)) (middle ++ (optional ++ t)) (countAt (r .message)) refl fixed-long bits-long low
+      ∙ parts-bits (headerBytes (sizeOf r - 2) (wireType (r .message)) (r .unit) (r .number)) (take (countAt (r .message) - 10) (r .fixed)) (r .count) (take (r .count) (r .bits)) (middle ++ (optional ++ t)) (countAt (r .message)) refl fixed-long bits-long low
 
   rest-there : drop (countAt (r .message) + 1 + r .count) m ≡ middle ++ (optional ++ t)
   rest-there =
       ap (λ (l : List ℕ). drop (countAt (r .message) + 1 + r .count) l) as-parts
-      ∙ parts-rest (headerBytes (sizeOf r - 2) (r .message) (r .unit) (r .number)) (take (countAt (r .message) - 10) (r .fixed)) (r .count) (take (r .count) (r .bits)) (middle ++ (optional ++ t)) (countAt (r .message)) refl fixed-long bits-long low
+      ∙ parts-rest (headerBytes (sizeOf r - 2) (wireType (r .message)) (r .unit) (r .number)) (take (countAt (r .message) - 10) (r .fixed)) (r .count) (take (r .count) (r .bits)) (middle ++ (optional ++ t)) (countAt (r .message)) refl fixed-long bits-long low
 
   -- what stands between bitfields and fields is the middle
-  between-is : between m ≡ writeMiddle r
+  between-is : between (r .message) m ≡ writeMiddle r
   unfolding between middleSize middle
   between-is =
       let here : countAt (r .message) + 1 + r .count ≡ countAt (r .message) + 1 + r .count + 0 = omega arith in
-      ap (λ (x : ℕ). cond (eqb x 0x47) (1 + 2 * getD m (countAt x + 1 + getD m (countAt x) 0) 0) 0) type-is
-      ∙ ap (λ (c : ℕ). cond (eqb (r .message) 0x47) (1 + 2 * getD m (countAt (r .message) + 1 + c) 0) 0) count-there
+      ap (λ (c : ℕ). cond (eqb (r .message) 0x47) (1 + 2 * getD m (countAt (r .message) + 1 + c) 0) 0) count-there
       ∙ ap (λ (x : ℕ). cond (eqb (r .message) 0x47) (1 + 2 * x) 0) (ap (λ (i : ℕ). getD m i 0) here ∙ sym (getD-drop (countAt (r .message) + 1 + r .count) m 0 0) ∙ ap (λ (l : List ℕ). getD l 0 0) rest-there)
       ∙ middle-kept (r .message) (r .count) (r .bits) (writeRest r) (optional ++ t) middle-within
 
@@ -175,18 +174,18 @@ module _ (r : Record) (room : ℕ) (ok : Sound r) (z : writeRefusal r room ≡ 0
       ∙ ap (λ (l : List ℕ). getD l j 0) bits-held)
 
   total-is : totalOf m ≡ countAt (r .message) + 1 + r .count + (writeMiddle r + sum takes (slotsOf (r .message) (r .count) (r .bits)))
-  unfolding sizeOf writeSlots
+  unfolding sizeOf writeSlots orderBytes
   total-is =
       ap (λ (l : List ℕ). totalOf l) is-message
+      ∙ total-alike (wireType (r .message)) (orderBytes r) t (omega (arith, bytes-length r room ok z, low))
       ∙ sym (framed-length (orderBytes r ++ t) (framed-after r room ok z t))
       ∙ ap length (framed-as-written r room ok z t)
       ∙ bytes-length r room ok z
 
-  starts : (k : ℕ) → fieldAt m k ≡ countAt (r .message) + 1 + r .count + writeMiddle r + widthsBefore (selectedAt (r .count) (r .bits)) (entryAt (r .message)) k
+  starts : (k : ℕ) → fieldAt (r .message) m k ≡ countAt (r .message) + 1 + r .count + writeMiddle r + widthsBefore (selectedAt (r .count) (r .bits)) (entryAt (r .message)) k
   unfolding fieldAt
   starts k =
-      ap (λ (x : ℕ). countAt x + 1 + getD m (countAt x) 0 + between m + widthsBefore (setIn (countAt x) m) (entryAt x) k) type-is
-      ∙ ap (λ (b : ℕ). countAt (r .message) + 1 + getD m (countAt (r .message)) 0 + b + widthsBefore (setIn (countAt (r .message)) m) (entryAt (r .message)) k) between-is
+      ap (λ (b : ℕ). countAt (r .message) + 1 + getD m (countAt (r .message)) 0 + b + widthsBefore (setIn (countAt (r .message)) m) (entryAt (r .message)) k) between-is
       ∙ ap₂ (λ (c n : ℕ). countAt (r .message) + 1 + c + writeMiddle r + n) count-there (widths-same (setIn (countAt (r .message)) m) (selectedAt (r .count) (r .bits)) (entryAt (r .message)) set-there k)
 
   module _ (k : ℕ) (chosen : selectedAt (r .count) (r .bits) k ≡ true) {w p : ℕ} {kind : Kind} (listed : Field w kind p ≡ entryAt (r .message) k) where
@@ -206,22 +205,22 @@ module _ (r : Record) (room : ℕ) (ok : Sound r) (z : writeRefusal r room ≡ 0
         ∙ take-append-le w (drop p (r .slots)) rest (omega arith))
 
     -- a part of the optional bytes is a part of the message
-    in-fields : take w (drop (fieldAt m k) m) ≡ take w (drop p (r .slots))
+    in-fields : take w (drop (fieldAt (r .message) m k) m) ≡ take w (drop p (r .slots))
     unfolding optional
     in-fields =
         let n : ℕ = widthsBefore (selectedAt (r .count) (r .bits)) (entryAt (r .message)) k in
         let fits = field-sent (r .message) (r .count) (r .bits) k small chosen listed in
         let g : length optional ≡ sum takes (slotsOf (r .message) (r .count) (r .bits)) = optional-long in
         let d : length (drop n optional) ≡ length optional - n = length-drop n optional in
-        let q : drop (fieldAt m k) m ≡ drop n optional ++ t =
+        let q : drop (fieldAt (r .message) m k) m ≡ drop n optional ++ t =
         ap (λ (i : ℕ). drop i m) (starts k) ∙ sym (drop-drop n (countAt (r .message) + 1 + r .count + writeMiddle r) m) ∙ ap (drop n) fields-there ∙ drop-append-le n optional t (omega arith) in
         ap (take w) q
         ∙ take-append-le w (drop n optional) t (omega arith)
         ∙ field-stands (r .message) (r .count) (r .bits) k small chosen listed (r .slots) (omega (arith, ok .slots-length))
 
-    pub stands : Stands m b k w p
+    pub stands : Stands (r .message) m b k w p
     stands = record {
-      in-message = ap (λ (x : ℕ). setIn (countAt x) m k) type-is ∙ set-there k ∙ chosen;
+      in-message = set-there k ∙ chosen;
       in-record = set-held k ∙ chosen;
       within-message = let fits = field-sent (r .message) (r .count) (r .bits) k small chosen listed in omega (arith, starts k, total-is);
       within-record = let fits = field-held (r .message) (r .count) (r .bits) k small chosen listed in omega arith;
@@ -231,9 +230,10 @@ module _ (r : Record) (room : ℕ) (ok : Sound r) (z : writeRefusal r room ≡ 0
 -- ---- the types
 
 -- what holds of each type holds of every order
-pub by-type : (message : ℕ) → isOrder message ≡ true → (P : ℕ → Type 0) → P 0x38 → P 0x39 → P 0x3A → P 0x47 → P 0x25 → P 0x2C → P 0x26 → P 0x29 → P 0x2B → P message
-by-type message o P a b h i c d e f g =
+pub by-type : (message : ℕ) → isOrder message ≡ true → (P : ℕ → Type 0) → P 0x38 → P 0xB8 → P 0x39 → P 0x3A → P 0x47 → P 0x25 → P 0x2C → P 0x26 → P 0x29 → P 0x2B → P message
+by-type message o P a j b h i c d e f g =
     either (eqb message 0x38) (at 0x38 a)
+    (either (eqb message 0xB8) (at 0xB8 j)
     (either (eqb message 0x39) (at 0x39 b)
     (either (eqb message 0x3A) (at 0x3A h)
     (either (eqb message 0x47) (at 0x47 i)
@@ -241,66 +241,72 @@ by-type message o P a b h i c d e f g =
     (either (eqb message 0x2C) (at 0x2C d)
     (either (eqb message 0x26) (at 0x26 e)
     (either (eqb message 0x29) (at 0x29 f)
-    (at 0x2B g)))))))) o
+    (at 0x2B g))))))))) o
   where
     at : (x : ℕ) → P x → eqb message x ≡ true → P message
     at x h e = subst P (sym (eqb-true message x e)) h
 
 -- an order is no session message
 pub not-session : (message : ℕ) → isOrder message ≡ true → isSession message ≡ false
-not-session message o = by-type message o (λ (x : ℕ). isSession x ≡ false) refl refl refl refl refl refl refl refl refl
+not-session message o = by-type message o (λ (x : ℕ). isSession x ≡ false) refl refl refl refl refl refl refl refl refl refl
 
 -- ---- READING
 
-module _ (direction : ℕ) (s buffer : List ℕ) (bytes : Bytes s) (z : readCall direction s (length buffer) ≡ 0) (order : isOrder (typeOf s) ≡ true) where
+module _ (direction : ℕ) (s buffer : List ℕ) (bytes : Bytes s) (z : readCall direction s (length buffer) ≡ 0) (order : isOrder (typeIn direction (typeOf s)) ≡ true) where
   it : Accepted direction s
   it = accepted direction s (taken direction s (length buffer) z .read)
 
-  alone : frameRefusal (framed s) ≡ 0
-  alone = ap frameRefusal (sym (append-nil (framed s))) ∙ framed-accepted s [] (it .frames)
+  alone : frameRefusal (heard direction s) ≡ 0
+  alone = heard-alone direction s (it .frames)
 
-  exact : length (framed s) ≡ totalOf (framed s)
-  exact = ap length (sym (ap framed (sym (append-nil (framed s))) ∙ framed-again s [] (it .frames))) ∙ framed-length (framed s) alone
+  exact : length (heard direction s) ≡ totalOf (heard direction s)
+  exact = heard-exact direction s (it .frames)
 
-  part-bytes : Bytes (framed s)
-  part-bytes = subst Bytes (sym (framed-is s (it .frames))) (bytes-first (totalOf s) s bytes)
+  part-bytes : Bytes (heard direction s)
+  part-bytes = heard-bytes direction s (it .frames) (subst Bytes (sym (framed-is s (it .frames))) (bytes-first (totalOf s) s bytes))
 
-  type-kept : typeOf (framed s) ≡ typeOf s
+  type-kept : typeOf (heard direction s) ≡ typeIn direction (typeOf s)
   unfolding totalOf
   type-kept =
-      ap (λ (l : List ℕ). getD l 4 0) (framed-is s (it .frames))
-      ∙ getD-take (totalOf s) s 4 0 (omega (arith, whole s (it .frames) .least))
+      heard-type direction s (it .frames)
+      ∙ ap (λ (l : List ℕ). typeIn direction (getD l 4 0)) (framed-is s (it .frames))
+      ∙ ap (typeIn direction) (getD-take (totalOf s) s 4 0 (omega (arith, whole s (it .frames) .least)))
 
-  no-session : isSession (typeOf (framed s)) ≡ false
-  no-session = ap (λ (x : ℕ). isSession x) type-kept ∙ not-session (typeOf s) order
+  no-session : isSession (typeOf (heard direction s)) ≡ false
+  no-session = ap (λ (x : ℕ). isSession x) type-kept ∙ not-session (typeIn direction (typeOf s)) order
 
-  own-read : orders.readRefusal (framed s) ≡ 0
+  own-read : orders.readRefusal (heard direction s) ≡ 0
   unfolding ownRefusal
   own-read = rw no-session at (it .owns)
 
-  is-stored : readRecord direction s buffer ≡ recordBytes (orders.recordOf (framed s)) ++ drop (length (recordOf (framed s))) buffer
+  is-stored : readRecord direction s buffer ≡ recordBytes (orders.recordOf (heard direction s)) ++ drop (length (recordOf (heard direction s))) buffer
   unfolding recordOf
   is-stored =
-      let e : recordOf (framed s) ≡ recordBytes (orders.recordOf (framed s)) = rw no-session in
-      record-stored direction s buffer bytes z ∙ ap (λ (l : List ℕ). l ++ drop (length (recordOf (framed s))) buffer) e
+      let e : recordOf (heard direction s) ≡ recordBytes (orders.recordOf (heard direction s)) = rw no-session in
+      record-stored direction s buffer bytes z ∙ ap (λ (l : List ℕ). l ++ drop (length (recordOf (heard direction s))) buffer) e
 
-  is-said : s ≡ orderBytes (orders.recordOf (framed s)) ++ drop (totalOf s) s
+  is-said : s ≡ onWire (orderBytes (orders.recordOf (heard direction s))) ++ drop (totalOf s) s
   is-said =
       sym (take-append-drop (totalOf s) s)
-      ∙ ap (λ (l : List ℕ). l ++ drop (totalOf s) s) (sym (framed-is s (it .frames)) ∙ sym (orderTrip.written-again (framed s) part-bytes (whole (framed s) alone) exact own-read))
+      ∙ ap (λ (l : List ℕ). l ++ drop (totalOf s) s)
+      (sym (framed-is s (it .frames))
+      ∙ sym (wired-again direction s (it .frames) (it .carried))
+      ∙ ap onWire (sym (orderTrip.written-again (heard direction s) part-bytes (whole (heard direction s) alone) exact own-read)))
 
   -- A FIELD IS READ AT ITS PLACE: any selected optional field of a listed bit, in any message that is accepted, whatever bytes follow it
-  pub a-field-is-read-at-its-place : {w p : ℕ} {kind : Kind} (k : ℕ) → setInMessage s k ≡ true → Field w kind p ≡ entryAt (typeOf s) k → Stands s (readRecord direction s buffer) k w p
+  pub a-field-is-read-at-its-place : {w p : ℕ} {kind : Kind} (k : ℕ) → setInMessage (typeIn direction (typeOf s)) s k ≡ true → Field w kind p ≡ entryAt (typeIn direction (typeOf s)) k
+      → Stands (typeIn direction (typeOf s)) s (readRecord direction s buffer) k w p
   unfolding orders.recordOf
   a-field-is-read-at-its-place {w} {p} {kind} k chosen listed =
-      let r = orders.recordOf (framed s) in
-      let sound = orderTrip.read-sound (framed s) part-bytes own-read in
-      let fits = orderTrip.taken-again (framed s) part-bytes (whole (framed s) alone) exact own-read (length (framed s)) (omega arith) in
-      let there : setIn (countAt (typeOf (framed s))) s k ≡ selectedAt (r .count) (r .bits) k =
-      set-there r (length (framed s)) sound fits s (readRecord direction s buffer) (drop (totalOf s) s) (drop (length (recordOf (framed s))) buffer) is-said is-stored k in
-      stands r (length (framed s)) sound fits s (readRecord direction s buffer) (drop (totalOf s) s) (drop (length (recordOf (framed s))) buffer) is-said is-stored k
+      let r = orders.recordOf (heard direction s) in
+      let sound = orderTrip.read-sound (heard direction s) part-bytes own-read in
+      let fits = orderTrip.taken-again (heard direction s) part-bytes (whole (heard direction s) alone) exact own-read (length (heard direction s)) (omega arith) in
+      let there : setIn (countAt (typeOf (heard direction s))) s k ≡ selectedAt (r .count) (r .bits) k =
+      set-there r (length (heard direction s)) sound fits s (readRecord direction s buffer) (drop (totalOf s) s) (drop (length (recordOf (heard direction s))) buffer) is-said is-stored k in
+      subst (λ (x : ℕ). Stands x s (readRecord direction s buffer) k w p) type-kept
+      (stands r (length (heard direction s)) sound fits s (readRecord direction s buffer) (drop (totalOf s) s) (drop (length (recordOf (heard direction s))) buffer) is-said is-stored k
       (sym there ∙ ap (λ (x : ℕ). setIn (countAt x) s k) type-kept ∙ chosen)
-      (listed ∙ ap (λ (x : ℕ). entryAt x k) (sym type-kept))
+      (listed ∙ ap (λ (x : ℕ). entryAt x k) (sym type-kept)))
 
 -- ---- WRITING
 
@@ -315,17 +321,17 @@ module _ (direction : ℕ) (r out : List ℕ) (bytes : Bytes r) (z : writeCall d
   long : recordSize ≤ length r
   long = omega (arith, given direction r (length out) z .long, order-size (getD r 0 0) no-session-kept)
 
-  is-written-out : writeOut direction r out ≡ orderBytes (recordAt r) ++ drop (length (messageOf r)) out
+  is-written-out : writeOut direction r out ≡ onWire (orderBytes (recordAt r)) ++ drop (length (messageOf r)) out
   unfolding messageOf
   is-written-out =
-      let e : messageOf r ≡ orderBytes (recordAt r) = rw no-session-kept in
+      let e : messageOf r ≡ onWire (orderBytes (recordAt r)) = rw no-session-kept in
       message-stored direction r out bytes z ∙ ap (λ (l : List ℕ). l ++ drop (length (messageOf r)) out) e
 
   is-held : r ≡ recordBytes (recordAt r) ++ drop recordSize r
   is-held = sym (take-append-drop recordSize r) ∙ ap (λ (l : List ℕ). l ++ drop recordSize r) (sym (bytes-again r bytes long))
 
   -- A FIELD IS WRITTEN AT ITS PLACE: any optional field of a listed bit that a record selects which the writer takes, whatever the output buffer held
-  pub a-field-is-written-at-its-place : {w p : ℕ} {kind : Kind} (k : ℕ) → setInRecord r k ≡ true → Field w kind p ≡ entryAt (getD r 0 0) k → Stands (writeOut direction r out) r k w p
+  pub a-field-is-written-at-its-place : {w p : ℕ} {kind : Kind} (k : ℕ) → setInRecord r k ≡ true → Field w kind p ≡ entryAt (getD r 0 0) k → Stands (getD r 0 0) (writeOut direction r out) r k w p
   unfolding recordAt
   a-field-is-written-at-its-place {w} {p} {kind} k chosen listed =
       let v = recordAt r in

@@ -1,6 +1,7 @@
 pub mod Messages
 pub mod Stages
 pub mod MessageLaws
+pub mod Heard
 pub mod RoundTrip
 pub mod ByteLaws
 pub mod OrderPlaces

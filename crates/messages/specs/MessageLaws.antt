@@ -11,12 +11,14 @@ use Rattle.numbers.specs.Numbers.{patched}
 use Rattle.wire.specs.Header.{typeOf}
 use Rattle.wire.specs.Frame.{frameRefusal, framed}
 use Rattle.orders.specs.Shapes as orderTypes
+use Rattle.orders.specs.declared.Market.the-variants.{Equities, Options}
+use Rattle.orders.specs.Markets.{ofMarket, onWire}
 use Rattle.orders.specs.Orders as orders
 use Rattle.order_records.specs.Records.{recordBytes, recordAt}
 use Rattle.session_messages.specs.Sessions as sessions
 use Rattle.session_messages.specs.Sizes.{sessionRecordSize}
 use Rattle.block.specs.Sizes.{recordSize}
-use Rattle.messages.specs.Messages.{isSession, carries, recordSizeOf, sessionRecordBytes, sessionAt, ownRefusal, recordOf, readRefusal, readCall, readRecord, ownWrite, messageOf, writeCall, writeOut}
+use Rattle.messages.specs.Messages.{isSession, carries, heard, recordSizeOf, sessionRecordBytes, sessionAt, ownRefusal, recordOf, readRefusal, readCall, readRecord, ownWrite, messageOf, writeCall, writeOut}
 use Rattle.messages.specs.Stages.{placedRefusal, placedRecord, sizeRefusal, sizeOut}
 
 pub or-yes : (a b : Bool) → a ≡ true → (a || b) ≡ true
@@ -27,7 +29,7 @@ or-no a b e = rw e
 
 -- ---- the directions
 
-pub from-member : (direction message : ℕ) → direction ≡ 0 → carries direction message ≡ (orderTypes.ofMember message || sessions.ofMember message)
+pub from-member : (direction message : ℕ) → direction ≡ 0 → carries direction message ≡ (ofMarket Equities message || sessions.ofMember message)
 unfolding carries
 from-member direction message e = rw (eq-eqb direction 0 e)
 
@@ -35,9 +37,13 @@ pub from-venue : (direction message : ℕ) → (direction ≡ 0 → ⊥) → dir
 unfolding carries
 from-venue direction message n e = rw (ne-eqb direction 0 n, eq-eqb direction 1 e)
 
-pub from-neither : (direction message : ℕ) → (direction ≡ 0 → ⊥) → (direction ≡ 1 → ⊥) → carries direction message ≡ false
+pub from-options-member : (direction message : ℕ) → (direction ≡ 0 → ⊥) → (direction ≡ 1 → ⊥) → direction ≡ 2 → carries direction message ≡ (ofMarket Options message || sessions.ofMember message)
 unfolding carries
-from-neither direction message n k = rw (ne-eqb direction 0 n, ne-eqb direction 1 k)
+from-options-member direction message n k e = rw (ne-eqb direction 0 n, ne-eqb direction 1 k, eq-eqb direction 2 e)
+
+pub from-none : (direction message : ℕ) → (direction ≡ 0 → ⊥) → (direction ≡ 1 → ⊥) → (direction ≡ 2 → ⊥) → carries direction message ≡ false
+unfolding carries
+from-none direction message n k o = rw (ne-eqb direction 0 n, ne-eqb direction 1 k, ne-eqb direction 2 o)
 
 -- ---- the size of a type's record
 
@@ -88,54 +94,54 @@ module _ (direction : ℕ) (s buffer : List ℕ) where
       refused q k
 
   module _ (z : frameRefusal s ≡ 0) where
-    pub type-stops : carries direction (typeOf (framed s)) ≡ false → Answers direction s buffer 4 buffer
+    pub type-stops : carries direction (typeOf (heard direction s)) ≡ false → Answers direction s buffer 4 buffer
     unfolding readRefusal
     type-stops e =
         let q : 4 ≡ readRefusal direction s = rw (eq-eqb (frameRefusal s) 0 z, e) in
         refused q (λ x. omega (arith, x))
 
-    module _ (e : carries direction (typeOf (framed s)) ≡ true) where
-      pub own-refusal : readRefusal direction s ≡ ownRefusal (framed s)
+    module _ (e : carries direction (typeOf (heard direction s)) ≡ true) where
+      pub own-refusal : readRefusal direction s ≡ ownRefusal (heard direction s)
       unfolding readRefusal
       own-refusal = rw (eq-eqb (frameRefusal s) 0 z, e)
 
       -- what the reading of a message answers, by its own refusal and record
-      own-reads : (size refusal : ℕ) (bytes : List ℕ) → recordSizeOf (typeOf (framed s)) ≡ size → ownRefusal (framed s) ≡ refusal → recordOf (framed s) ≡ bytes → {n : ℕ} {out : List ℕ}
+      own-reads : (size refusal : ℕ) (bytes : List ℕ) → recordSizeOf (typeOf (heard direction s)) ≡ size → ownRefusal (heard direction s) ≡ refusal → recordOf (heard direction s) ≡ bytes → {n : ℕ} {out : List ℕ}
           → (n ≡ placedRefusal refusal size (length buffer)) × (out ≡ placedRecord refusal size bytes buffer) → Answers direction s buffer n out
       unfolding readCall readRecord placedRefusal placedRecord
       own-reads size refusal bytes k r m h =
           let q : readRefusal direction s ≡ refusal = own-refusal ∙ r in
           (h .0 ∙ rw (q, k), h .1 ∙ rw (q, k, m))
 
-      pub session-reads : isSession (typeOf (framed s)) ≡ true → {n : ℕ} {out : List ℕ}
-          → (n ≡ placedRefusal (sessions.readRefusal (framed s)) sessionRecordSize (length buffer))
-          × (out ≡ placedRecord (sessions.readRefusal (framed s)) sessionRecordSize (sessionRecordBytes (sessions.recordOf (framed s))) buffer)
+      pub session-reads : isSession (typeOf (heard direction s)) ≡ true → {n : ℕ} {out : List ℕ}
+          → (n ≡ placedRefusal (sessions.readRefusal (heard direction s)) sessionRecordSize (length buffer))
+          × (out ≡ placedRecord (sessions.readRefusal (heard direction s)) sessionRecordSize (sessionRecordBytes (sessions.recordOf (heard direction s))) buffer)
           → Answers direction s buffer n out
       unfolding ownRefusal recordOf
       session-reads b h =
-          own-reads sessionRecordSize (sessions.readRefusal (framed s)) (sessionRecordBytes (sessions.recordOf (framed s))) (session-size (typeOf (framed s)) b) (rw b) (rw b) h
+          own-reads sessionRecordSize (sessions.readRefusal (heard direction s)) (sessionRecordBytes (sessions.recordOf (heard direction s))) (session-size (typeOf (heard direction s)) b) (rw b) (rw b) h
 
-      pub order-reads : isSession (typeOf (framed s)) ≡ false → {n : ℕ} {out : List ℕ}
-          → (n ≡ placedRefusal (orders.readRefusal (framed s)) recordSize (length buffer))
-          × (out ≡ placedRecord (orders.readRefusal (framed s)) recordSize (recordBytes (orders.recordOf (framed s))) buffer)
+      pub order-reads : isSession (typeOf (heard direction s)) ≡ false → {n : ℕ} {out : List ℕ}
+          → (n ≡ placedRefusal (orders.readRefusal (heard direction s)) recordSize (length buffer))
+          × (out ≡ placedRecord (orders.readRefusal (heard direction s)) recordSize (recordBytes (orders.recordOf (heard direction s))) buffer)
           → Answers direction s buffer n out
       unfolding ownRefusal recordOf
       order-reads b h =
-          own-reads recordSize (orders.readRefusal (framed s)) (recordBytes (orders.recordOf (framed s))) (order-size (typeOf (framed s)) b) (rw b) (rw b) h
+          own-reads recordSize (orders.readRefusal (heard direction s)) (recordBytes (orders.recordOf (heard direction s))) (order-size (typeOf (heard direction s)) b) (rw b) (rw b) h
 
 -- a buffer of the size of the message's own record is never too short
-pub own-size-suffices : (direction : ℕ) (s : List ℕ) (room : ℕ) → recordSizeOf (typeOf (framed s)) ≤ room → readCall direction s room ≡ readRefusal direction s
+pub own-size-suffices : (direction : ℕ) (s : List ℕ) (room : ℕ) → recordSizeOf (typeOf (heard direction s)) ≤ room → readCall direction s room ≡ readRefusal direction s
 unfolding readCall
-own-size-suffices direction s room h = rw (le-ltb room (recordSizeOf (typeOf (framed s))) h) (by (eqb (readRefusal direction s) 0) refl)
+own-size-suffices direction s room h = rw (le-ltb room (recordSizeOf (typeOf (heard direction s))) h) (by (eqb (readRefusal direction s) 0) refl)
   where
     by : (b : Bool) → eqb (readRefusal direction s) 0 ≡ b → cond b 0 (readRefusal direction s) ≡ readRefusal direction s
     by true q = sym (eqb-true (readRefusal direction s) 0 q)
     by false q = refl
 
 -- and one byte less is, where the message is accepted
-pub short-is-no-room : (direction : ℕ) (s : List ℕ) (room : ℕ) → readRefusal direction s ≡ 0 → room < recordSizeOf (typeOf (framed s)) → readCall direction s room ≡ 13
+pub short-is-no-room : (direction : ℕ) (s : List ℕ) (room : ℕ) → readRefusal direction s ≡ 0 → room < recordSizeOf (typeOf (heard direction s)) → readCall direction s room ≡ 13
 unfolding readCall
-short-is-no-room direction s room z h = rw (eq-eqb (readRefusal direction s) 0 z, lt-ltb room (recordSizeOf (typeOf (framed s))) h)
+short-is-no-room direction s room z h = rw (eq-eqb (readRefusal direction s) 0 z, lt-ltb room (recordSizeOf (typeOf (heard direction s))) h)
 
 -- ---- writing
 
@@ -205,4 +211,4 @@ module _ (direction : ℕ) (s out : List ℕ) where
           × (out′ ≡ sizeOut recordSize (length s) (orders.writeBuffer (recordAt s) out) out) → Writes direction s out n out′
       unfolding ownWrite messageOf orders.writeBuffer
       order-writes b w =
-          own-writes recordSize (orders.writeRefusal (recordAt s) (length out)) (orders.orderBytes (recordAt s)) (order-size (getD s 0 0) b) (rw b) (rw b) w
+          own-writes recordSize (orders.writeRefusal (recordAt s) (length out)) (onWire (orders.orderBytes (recordAt s))) (order-size (getD s 0 0) b) (rw b) (rw b) w

@@ -10,6 +10,8 @@ use Rattle.numbers.specs.Numbers.{numberAt, bytesOf, patched}
 use Rattle.wire.specs.Header.{typeOf}
 use Rattle.wire.specs.Frame.{frameRefusal, framed}
 use Rattle.orders.specs.Shapes as orderTypes
+use Rattle.orders.specs.declared.Market.the-variants.{Equities, Options}
+use Rattle.orders.specs.Markets.{ofMarket, recordType, heardIn, onWire}
 use Rattle.orders.specs.Orders as orders
 use Rattle.order_records.specs.Records.{recordBytes, recordAt}
 use Rattle.session_messages.specs.Sessions as sessions
@@ -23,12 +25,22 @@ use Rattle.block.specs.Sizes.{recordSize}
 abbrev pub isSession : ℕ → Bool
 isSession message = sessions.ofMember message || sessions.ofVenue message
 
--- direction 0 is from the member, 1 from the venue; any other has no types
+-- direction 0 is from the member of an equities market, 1 from the venue, 2 from the member of an options market; any other has no types. The types are
+-- those that records have: 02, request 4
 unfoldable pub carries : ℕ → ℕ → Bool
 carries direction message =
-    cond (eqb direction 0) (orderTypes.ofMember message || sessions.ofMember message)
+    cond (eqb direction 0) (ofMarket Equities message || sessions.ofMember message)
     (cond (eqb direction 1) (orderTypes.ofVenue message || sessions.ofVenue message)
-    false)
+    (cond (eqb direction 2) (ofMarket Options message || sessions.ofMember message)
+    false))
+
+-- the type that a record has in a direction, by its message's type on the wire
+abbrev pub typeIn : ℕ → ℕ → ℕ
+typeIn direction type = cond (eqb direction 2) (recordType Options type) type
+
+-- the first whole message of s as it is read in a direction: under its record's type
+abbrev pub heard : ℕ → List ℕ → List ℕ
+heard direction s = cond (eqb direction 2) (heardIn Options (framed s)) (framed s)
 
 -- the size of a type's record: that of a session message's, or of an order's
 unfoldable pub recordSizeOf : ℕ → ℕ
@@ -54,23 +66,23 @@ ownRefusal m = cond (isSession (typeOf m)) (sessions.readRefusal m) (orders.read
 unfoldable pub recordOf : List ℕ → List ℕ
 recordOf m = cond (isSession (typeOf m)) (sessionRecordBytes (sessions.recordOf m)) (recordBytes (orders.recordOf m))
 
--- 1, 2, 3; 4 by the direction; then the message's own
+-- 1, 2, 3; 4 by the direction; then the message's own, under its record's type
 unfoldable pub readRefusal : ℕ → List ℕ → ℕ
 readRefusal direction s =
     cond (eqb (frameRefusal s) 0)
-    (cond (carries direction (typeOf (framed s))) (ownRefusal (framed s)) unknownType)
+    (cond (carries direction (typeOf (heard direction s))) (ownRefusal (heard direction s)) unknownType)
     (frameRefusal s)
 
 -- then 13 if the record's buffer is under the size of this message's record
 unfoldable pub readCall : ℕ → List ℕ → ℕ → ℕ
 readCall direction s room =
     cond (eqb (readRefusal direction s) 0)
-    (cond (ltb room (recordSizeOf (typeOf (framed s)))) noRoom 0)
+    (cond (ltb room (recordSizeOf (typeOf (heard direction s)))) noRoom 0)
     (readRefusal direction s)
 
 -- the record's buffer after it
 unfoldable pub readRecord : ℕ → List ℕ → List ℕ → List ℕ
-readRecord direction s buffer = cond (eqb (readCall direction s (length buffer)) 0) (patched buffer 0 (recordOf (framed s))) buffer
+readRecord direction s buffer = cond (eqb (readCall direction s (length buffer)) 0) (patched buffer 0 (recordOf (heard direction s))) buffer
 
 -- ---- writing a record s
 
@@ -78,9 +90,9 @@ readRecord direction s buffer = cond (eqb (readCall direction s (length buffer))
 unfoldable pub ownWrite : List ℕ → ℕ → ℕ
 ownWrite s room = cond (isSession (getD s 0 0)) (sessions.recordRefusal (sessionAt s) room) (orders.writeRefusal (recordAt s) room)
 
--- the bytes of its message
+-- the bytes of its message, as it stands on the wire
 unfoldable pub messageOf : List ℕ → List ℕ
-messageOf s = cond (isSession (getD s 0 0)) (sessions.sessionBytes (sessionAt s)) (orders.orderBytes (recordAt s))
+messageOf s = cond (isSession (getD s 0 0)) (sessions.sessionBytes (sessionAt s)) (onWire (orders.orderBytes (recordAt s)))
 
 -- 13 if there is no type byte; 4 by the direction; 13 if the record is under its type's size; then the record's own
 unfoldable pub writeCall : ℕ → List ℕ → ℕ → ℕ

@@ -18,6 +18,7 @@ use Rattle.wire.specs.Frame.{frameRefusal, framed}
 use Rattle.wire.specs.FrameLaws.{Whole, whole, framed-is, framed-length, framed-accepted, framed-again}
 use Rattle.block.specs.Slots.{zeros}
 use Rattle.block.specs.SlotLaws.{length-zeros}
+use Rattle.orders.specs.Markets.{onWire}
 use Rattle.orders.specs.Orders as orders
 use Rattle.orders.specs.RoundTrip as orderTrip
 use Rattle.orders.specs.declared.Record as orderRecords
@@ -28,8 +29,9 @@ use Rattle.session_messages.specs.SessionTrip as sessionTrip
 use Rattle.session_messages.specs.declared.Record as sessionRecords
 use Rattle.session_messages.specs.Sizes.{sessionRecordSize}
 use Rattle.block.specs.Sizes.{recordSize}
-use Rattle.messages.specs.Messages.{isSession, carries, recordSizeOf, sessionRecordBytes, sessionAt, ownRefusal, recordOf, readRefusal, readCall, readRecord, ownWrite, messageOf, writeCall, writeOut, heldIn}
+use Rattle.messages.specs.Messages.{isSession, carries, heard, recordSizeOf, sessionRecordBytes, sessionAt, ownRefusal, recordOf, readRefusal, readCall, readRecord, ownWrite, messageOf, writeCall, writeOut, heldIn}
 use Rattle.messages.specs.MessageLaws.{session-size, order-size, size-not-zero, own-refusal, own-size-suffices, own-write}
+use Rattle.messages.specs.Heard.{heard-alone, heard-exact, heard-long, heard-bytes, wired-again, session-wired, heard-again, wired-frames, wired-framed}
 
 -- bytes put at the front, and what stood after them
 front : (xs bs : List ℕ) → patched xs 0 bs ≡ bs ++ drop (length bs) xs
@@ -59,15 +61,15 @@ session-bytes-again s k h = ap (λ (x : List ℕ). x ++ take 433 (drop 6 s)) (he
 
 pub record Accepted (direction : ℕ) (s : List ℕ) : Type 0 where
   pub frames : frameRefusal s ≡ 0
-  pub carried : carries direction (typeOf (framed s)) ≡ true
-  pub owns : ownRefusal (framed s) ≡ 0
+  pub carried : carries direction (typeOf (heard direction s)) ≡ true
+  pub owns : ownRefusal (heard direction s) ≡ 0
 
 pub accepted : (direction : ℕ) (s : List ℕ) → readRefusal direction s ≡ 0 → Accepted direction s
 unfolding readRefusal
-accepted direction s z = by (eqb (frameRefusal s) 0) refl (carries direction (typeOf (framed s))) refl z
+accepted direction s z = by (eqb (frameRefusal s) 0) refl (carries direction (typeOf (heard direction s))) refl z
   where
-    by : (b : Bool) → eqb (frameRefusal s) 0 ≡ b → (k : Bool) → carries direction (typeOf (framed s)) ≡ k
-        → cond b (cond k (ownRefusal (framed s)) 4) (frameRefusal s) ≡ 0 → Accepted direction s
+    by : (b : Bool) → eqb (frameRefusal s) 0 ≡ b → (k : Bool) → carries direction (typeOf (heard direction s)) ≡ k
+        → cond b (cond k (ownRefusal (heard direction s)) 4) (frameRefusal s) ≡ 0 → Accepted direction s
     by true p true q y = record { frames = eqb-true (frameRefusal s) 0 p; carried = q; owns = y }
     by true p false q y = absurd (omega (arith, y))
     by false p k q y = absurd (eqb-false (frameRefusal s) 0 p y)
@@ -75,15 +77,15 @@ accepted direction s z = by (eqb (frameRefusal s) 0) refl (carries direction (ty
 -- a call that answers 0 has room for this message's record, and its message is accepted
 pub record Taken (direction : ℕ) (s : List ℕ) (room : ℕ) : Type 0 where
   pub read : readRefusal direction s ≡ 0
-  pub roomy : recordSizeOf (typeOf (framed s)) ≤ room
+  pub roomy : recordSizeOf (typeOf (heard direction s)) ≤ room
 
 pub taken : (direction : ℕ) (s : List ℕ) (room : ℕ) → readCall direction s room ≡ 0 → Taken direction s room
 unfolding readCall
-taken direction s room z = by (eqb (readRefusal direction s) 0) refl (ltb room (recordSizeOf (typeOf (framed s)))) refl z
+taken direction s room z = by (eqb (readRefusal direction s) 0) refl (ltb room (recordSizeOf (typeOf (heard direction s)))) refl z
   where
-    by : (b : Bool) → eqb (readRefusal direction s) 0 ≡ b → (k : Bool) → ltb room (recordSizeOf (typeOf (framed s))) ≡ k
+    by : (b : Bool) → eqb (readRefusal direction s) 0 ≡ b → (k : Bool) → ltb room (recordSizeOf (typeOf (heard direction s))) ≡ k
         → cond b (cond k 13 0) (readRefusal direction s) ≡ 0 → Taken direction s room
-    by true p false q y = record { read = eqb-true (readRefusal direction s) 0 p; roomy = ltb-false room (recordSizeOf (typeOf (framed s))) q }
+    by true p false q y = record { read = eqb-true (readRefusal direction s) 0 p; roomy = ltb-false room (recordSizeOf (typeOf (heard direction s))) q }
     by true p true q y = absurd (omega (arith, y))
     by false p k q y = absurd (eqb-false (readRefusal direction s) 0 p y)
 
@@ -134,17 +136,20 @@ module _ (m : List ℕ) (bytes : Bytes m) (w : Whole m) (exact : length m ≡ to
         by true q y = ap (λ (r : sessionRecords.Record). sessions.recordRefusal r room) (session-held y t) ∙ sessionTrip.taken-again m y room h
         by false q y = ap (λ (r : orderRecords.Record). orders.writeRefusal r room) (order-held y t) ∙ orderTrip.taken-again m bytes w exact y room h
 
-    own-written : messageOf (recordOf m ++ t) ≡ m
-    unfolding messageOf recordOf ownRefusal
+    own-written : messageOf (recordOf m ++ t) ≡ onWire m
+    unfolding messageOf recordOf ownRefusal totalOf
     own-written =
-        ap (λ (x : ℕ). cond (isSession x) (sessions.sessionBytes (sessionAt (recordOf m ++ t))) (orders.orderBytes (recordAt (recordOf m ++ t)))) type-first
+        ap (λ (x : ℕ). cond (isSession x) (sessions.sessionBytes (sessionAt (recordOf m ++ t))) (onWire (orders.orderBytes (recordAt (recordOf m ++ t))))) type-first
         ∙ by (isSession (typeOf m)) refl z
       where
         by : (b : Bool) → isSession (typeOf m) ≡ b → cond b (sessions.readRefusal m) (orders.readRefusal m) ≡ 0
             → cond b (sessions.sessionBytes (sessionAt (cond b (sessionRecordBytes (sessions.recordOf m)) (recordBytes (orders.recordOf m)) ++ t)))
-            (orders.orderBytes (recordAt (cond b (sessionRecordBytes (sessions.recordOf m)) (recordBytes (orders.recordOf m)) ++ t))) ≡ m
-        by true q y = ap (λ (r : sessionRecords.Record). sessions.sessionBytes r) (session-held y t) ∙ sessionTrip.written-again m bytes w exact y
-        by false q y = ap (λ (r : orderRecords.Record). orders.orderBytes r) (order-held y t) ∙ orderTrip.written-again m bytes w exact y
+            (onWire (orders.orderBytes (recordAt (cond b (sessionRecordBytes (sessions.recordOf m)) (recordBytes (orders.recordOf m)) ++ t)))) ≡ onWire m
+        by true q y =
+            ap (λ (r : sessionRecords.Record). sessions.sessionBytes r) (session-held y t)
+            ∙ sessionTrip.written-again m bytes w exact y
+            ∙ sym (session-wired m (omega (arith, exact, w .least)) q)
+        by false q y = ap onWire (ap (λ (r : orderRecords.Record). orders.orderBytes r) (order-held y t) ∙ orderTrip.written-again m bytes w exact y)
 
 -- a record of its type's size has a type byte
 not-empty : (s : List ℕ) → recordSizeOf (getD s 0 0) ≤ length s → length s ≡ 0 → ⊥
@@ -153,41 +158,38 @@ not-empty s h z = omega (arith, h, z, size-not-zero (getD s 0 0))
 -- ---- WRITTEN AGAIN
 
 module _ (direction : ℕ) (s buffer : List ℕ) (bytes : Bytes s) (z : readCall direction s (length buffer) ≡ 0) where
-  message : List ℕ
-  message = framed s
-
   it : Accepted direction s
   it = accepted direction s (taken direction s (length buffer) z .read)
 
-  alone : frameRefusal (framed s) ≡ 0
-  alone = ap frameRefusal (sym (append-nil (framed s))) ∙ framed-accepted s [] (it .frames)
+  alone : frameRefusal (heard direction s) ≡ 0
+  alone = heard-alone direction s (it .frames)
 
-  exact : length (framed s) ≡ totalOf (framed s)
-  exact = ap length (sym (ap framed (sym (append-nil (framed s))) ∙ framed-again s [] (it .frames))) ∙ framed-length (framed s) alone
+  exact : length (heard direction s) ≡ totalOf (heard direction s)
+  exact = heard-exact direction s (it .frames)
 
-  part-bytes : Bytes (framed s)
-  part-bytes = subst Bytes (sym (framed-is s (it .frames))) (bytes-first (totalOf s) s bytes)
+  part-bytes : Bytes (heard direction s)
+  part-bytes = heard-bytes direction s (it .frames) (subst Bytes (sym (framed-is s (it .frames))) (bytes-first (totalOf s) s bytes))
 
   -- what the record's buffer holds: the record, and after it what stood there
-  pub record-stored : readRecord direction s buffer ≡ recordOf (framed s) ++ drop (length (recordOf (framed s))) buffer
+  pub record-stored : readRecord direction s buffer ≡ recordOf (heard direction s) ++ drop (length (recordOf (heard direction s))) buffer
   unfolding readRecord
-  record-stored = rw (eq-eqb (readCall direction s (length buffer)) 0 z) (front buffer (recordOf (framed s)))
+  record-stored = rw (eq-eqb (readCall direction s (length buffer)) 0 z) (front buffer (recordOf (heard direction s)))
 
-  record-size : length (recordOf (framed s)) ≡ recordSizeOf (typeOf (framed s))
-  record-size = recorded-exactly (framed s) part-bytes (whole (framed s) alone) exact (it .owns)
+  record-size : length (recordOf (heard direction s)) ≡ recordSizeOf (typeOf (heard direction s))
+  record-size = recorded-exactly (heard direction s) part-bytes (whole (heard direction s) alone) exact (it .owns)
 
-  type-kept : getD (readRecord direction s buffer) 0 0 ≡ typeOf (framed s)
+  type-kept : getD (readRecord direction s buffer) 0 0 ≡ typeOf (heard direction s)
   type-kept =
       ap (λ (l : List ℕ). getD l 0 0) record-stored
-      ∙ type-first (framed s) part-bytes (whole (framed s) alone) exact (it .owns) (drop (length (recordOf (framed s))) buffer)
+      ∙ type-first (heard direction s) part-bytes (whole (heard direction s) alone) exact (it .owns) (drop (length (recordOf (heard direction s))) buffer)
 
   long : recordSizeOf (getD (readRecord direction s buffer) 0 0) ≤ length (readRecord direction s buffer)
   unfolding readRecord
   long =
-      let r : recordSizeOf (typeOf (framed s)) ≤ length buffer = taken direction s (length buffer) z .roomy in
-      let n : length (patched buffer 0 (recordOf (framed s))) ≡ length buffer = patched-length buffer 0 (recordOf (framed s)) (omega (arith, record-size, r)) in
+      let r : recordSizeOf (typeOf (heard direction s)) ≤ length buffer = taken direction s (length buffer) z .roomy in
+      let n : length (patched buffer 0 (recordOf (heard direction s))) ≡ length buffer = patched-length buffer 0 (recordOf (heard direction s)) (omega (arith, record-size, r)) in
       let k : length (readRecord direction s buffer) ≡ length buffer = rw (eq-eqb (readCall direction s (length buffer)) 0 z) n in
-      let e : recordSizeOf (getD (readRecord direction s buffer) 0 0) ≡ recordSizeOf (typeOf (framed s)) = ap recordSizeOf type-kept in
+      let e : recordSizeOf (getD (readRecord direction s buffer) 0 0) ≡ recordSizeOf (typeOf (heard direction s)) = ap recordSizeOf type-kept in
       omega (arith, r, k, e)
 
   -- the writer takes the record, if it has room for the message
@@ -195,7 +197,7 @@ module _ (direction : ℕ) (s buffer : List ℕ) (bytes : Bytes s) (z : readCall
   taken-again room h =
       own-write direction (readRecord direction s buffer) [] (not-empty (readRecord direction s buffer) long) (ap (carries direction) type-kept ∙ it .carried) long room
       ∙ ap (λ (l : List ℕ). ownWrite l room) record-stored
-      ∙ own-taken (framed s) part-bytes (whole (framed s) alone) exact (it .owns) (drop (length (recordOf (framed s))) buffer) room h
+      ∙ own-taken (heard direction s) part-bytes (whole (heard direction s) alone) exact (it .owns) (drop (length (recordOf (heard direction s))) buffer) room (omega (arith, h, heard-long direction s (it .frames)))
 
   -- WRITTEN AGAIN: into any buffer that has room, it writes the bytes that were read, and leaves the rest of the buffer as it was
   pub written-again : (out : List ℕ) → length (framed s) ≤ length out → writeOut direction (readRecord direction s buffer) out ≡ patched out 0 (framed s)
@@ -203,7 +205,7 @@ module _ (direction : ℕ) (s buffer : List ℕ) (bytes : Bytes s) (z : readCall
   written-again out h =
       rw (eq-eqb (writeCall direction (readRecord direction s buffer) (length out)) 0 (taken-again (length out) h))
       (ap (patched out 0)
-      (ap messageOf record-stored ∙ own-written (framed s) part-bytes (whole (framed s) alone) exact (it .owns) (drop (length (recordOf (framed s))) buffer)))
+      (ap messageOf record-stored ∙ own-written (heard direction s) part-bytes (whole (heard direction s) alone) exact (it .owns) (drop (length (recordOf (heard direction s))) buffer) ∙ wired-again direction s (it .frames) (it .carried)))
 
 -- ---- a record that the writer takes
 
@@ -223,21 +225,36 @@ given direction s room z = by (eqb (length s) 0) (carries direction (getD s 0 0)
     by false false q b p y = absurd (omega (arith, y))
     by true k q b p y = absurd (omega (arith, y))
 
--- what its message is, with any bytes after it
-pub record Message (s t : List ℕ) : Type 0 where
+-- what its message is, with any bytes after it, and what is heard of it
+pub record Message (direction : ℕ) (s t : List ℕ) : Type 0 where
   pub frames : frameRefusal (messageOf s ++ t) ≡ 0
   pub framed-is-it : framed (messageOf s ++ t) ≡ messageOf s
-  pub type-is : typeOf (messageOf s) ≡ getD s 0 0
-  pub reads : ownRefusal (messageOf s) ≡ 0
-  pub record-is : recordOf (messageOf s) ≡ heldIn s
+  pub type-is : typeOf (heard direction (messageOf s ++ t)) ≡ getD s 0 0
+  pub reads : ownRefusal (heard direction (messageOf s ++ t)) ≡ 0
+  pub record-is : recordOf (heard direction (messageOf s ++ t)) ≡ heldIn s
 
-module _ (s : List ℕ) (bytes : Bytes s) (room : ℕ) (h : recordSizeOf (getD s 0 0) ≤ length s) (t : List ℕ) where
+module _ (direction : ℕ) (s : List ℕ) (bytes : Bytes s) (room : ℕ) (h : recordSizeOf (getD s 0 0) ≤ length s) (carried : carries direction (getD s 0 0) ≡ true) (t : List ℕ) where
+  -- of a message m under its record's type, which stands on the wire as w
+  of-heard : (m w : List ℕ) → messageOf s ≡ w → w ≡ onWire m → frameRefusal (m ++ t) ≡ 0 → framed (m ++ t) ≡ m → typeOf m ≡ getD s 0 0 → ownRefusal m ≡ 0 → recordOf m ≡ heldIn s → Message direction s t
+  unfolding totalOf
+  of-heard m w e f frames framed-is-it type reads held =
+      let l : 5 ≤ length m = omega (arith, ap length framed-is-it, framed-length (m ++ t) frames, whole (m ++ t) frames .least) in
+      let c : carries direction (typeOf m) ≡ true = ap (carries direction) type ∙ carried in
+      let q : heard direction (messageOf s ++ t) ≡ m = ap (λ (x : List ℕ). heard direction (x ++ t)) (e ∙ f) ∙ heard-again direction m t l c frames framed-is-it in
+      record {
+        frames = ap (λ (x : List ℕ). frameRefusal (x ++ t)) (e ∙ f) ∙ wired-frames direction m t l c frames framed-is-it;
+        framed-is-it = ap (λ (x : List ℕ). framed (x ++ t)) (e ∙ f) ∙ wired-framed direction m t l c frames framed-is-it ∙ sym (e ∙ f);
+        type-is = ap (λ (x : List ℕ). typeOf x) q ∙ type;
+        reads = ap ownRefusal q ∙ reads;
+        record-is = ap recordOf q ∙ held;
+      }
+
   session-sound : sessionRecordSize ≤ length s → sessionTrip.Sound (sessionAt s)
   unfolding sessionAt
   session-sound k = record { body-length = let d : length (drop 6 s) ≡ length s - 6 = length-drop 6 s in length-take-le 433 (drop 6 s) (omega arith) }
 
-  session-message : isSession (getD s 0 0) ≡ true → sessions.recordRefusal (sessionAt s) room ≡ 0 → Message s t
-  unfolding messageOf ownRefusal recordOf heldIn sessionAt
+  session-message : isSession (getD s 0 0) ≡ true → sessions.recordRefusal (sessionAt s) room ≡ 0 → Message direction s t
+  unfolding messageOf ownRefusal recordOf heldIn sessionAt totalOf
   session-message b z =
       let r = sessionAt s in
       let size = session-size (getD s 0 0) b in
@@ -248,15 +265,12 @@ module _ (s : List ℕ) (bytes : Bytes s) (room : ℕ) (h : recordSizeOf (getD s
       let e : messageOf s ≡ m = rw b in
       let type : typeOf m ≡ getD s 0 0 = ap (λ (x : sessionRecords.Record). x .message) again in
       let kind : isSession (typeOf m) ≡ true = ap isSession type ∙ b in
-      record {
-        frames = ap (λ (x : List ℕ). frameRefusal (x ++ t)) e ∙ sessionTrip.framed-after r room sound z t;
-        framed-is-it = ap (λ (x : List ℕ). framed (x ++ t)) e ∙ sessionTrip.framed-as-written r room sound z t ∙ sym e;
-        type-is = ap typeOf e ∙ type;
-        reads = ap ownRefusal e ∙ rw kind (sessionTrip.read-accepts r room sound z);
-        record-is = ap recordOf e ∙ rw (b, size) (ap sessionRecordBytes again ∙ session-bytes-again s bytes k);
-      }
+      let f = sessionTrip.framed-after r room sound z t in
+      let g = sessionTrip.framed-as-written r room sound z t in
+      let l : 10 ≤ length m = omega (arith, ap length g, framed-length (m ++ t) f, whole (m ++ t) f .least) in
+      of-heard m m e (sym (session-wired m l kind)) f g type (rw kind (sessionTrip.read-accepts r room sound z)) (rw (b, size) (ap sessionRecordBytes again ∙ session-bytes-again s bytes k))
 
-  order-message : isSession (getD s 0 0) ≡ false → orders.writeRefusal (recordAt s) room ≡ 0 → Message s t
+  order-message : isSession (getD s 0 0) ≡ false → orders.writeRefusal (recordAt s) room ≡ 0 → Message direction s t
   unfolding messageOf ownRefusal recordOf heldIn orders.recordOf recordAt
   order-message b z =
       let r = recordAt s in
@@ -265,22 +279,16 @@ module _ (s : List ℕ) (bytes : Bytes s) (room : ℕ) (h : recordSizeOf (getD s
       let sound = at-sound s bytes k in
       let again = orderTrip.read-again r room sound z in
       let m = orders.orderBytes r in
-      let e : messageOf s ≡ m = rw b in
+      let e : messageOf s ≡ onWire m = rw b in
       let type : typeOf m ≡ getD s 0 0 = ap (λ (x : orderRecords.Record). x .message) again in
       let kind : isSession (typeOf m) ≡ false = ap isSession type ∙ b in
-      record {
-        frames = ap (λ (x : List ℕ). frameRefusal (x ++ t)) e ∙ orderTrip.framed-after r room sound z t;
-        framed-is-it = ap (λ (x : List ℕ). framed (x ++ t)) e ∙ orderTrip.framed-as-written r room sound z t ∙ sym e;
-        type-is = ap typeOf e ∙ type;
-        reads = ap ownRefusal e ∙ rw kind (orderTrip.read-accepts r room sound z);
-        record-is = ap recordOf e ∙ rw (kind, size) (ap recordBytes again ∙ bytes-again s bytes k);
-      }
+      of-heard m (onWire m) e refl (orderTrip.framed-after r room sound z t) (orderTrip.framed-as-written r room sound z t) type (rw kind (orderTrip.read-accepts r room sound z)) (rw (kind, size) (ap recordBytes again ∙ bytes-again s bytes k))
 
-  its-message : ownWrite s room ≡ 0 → Message s t
+  its-message : ownWrite s room ≡ 0 → Message direction s t
   unfolding ownWrite
   its-message z = by (isSession (getD s 0 0)) refl z
     where
-      by : (b : Bool) → isSession (getD s 0 0) ≡ b → cond b (sessions.recordRefusal (sessionAt s) room) (orders.writeRefusal (recordAt s) room) ≡ 0 → Message s t
+      by : (b : Bool) → isSession (getD s 0 0) ≡ b → cond b (sessions.recordRefusal (sessionAt s) room) (orders.writeRefusal (recordAt s) room) ≡ 0 → Message direction s t
       by true q y = session-message q y
       by false q y = order-message q y
 
@@ -291,20 +299,18 @@ module _ (direction : ℕ) (s out : List ℕ) (bytes : Bytes s) (z : writeCall d
   pub accepted-after : (t : List ℕ) → readRefusal direction (messageOf s ++ t) ≡ 0
   accepted-after t =
       let g = given direction s (length out) z in
-      let m = its-message s bytes (length out) (g .long) t (g .owns) in
-      own-refusal direction (messageOf s ++ t) [] (m .frames) (ap (λ (x : List ℕ). carries direction (typeOf x)) (m .framed-is-it) ∙ ap (carries direction) (m .type-is) ∙ g .carried)
-      ∙ ap ownRefusal (m .framed-is-it)
-      ∙ m .reads
+      let m = its-message direction s bytes (length out) (g .long) (g .carried) t (g .owns) in
+      own-refusal direction (messageOf s ++ t) [] (m .frames) (ap (carries direction) (m .type-is) ∙ g .carried) ∙ m .reads
 
   pub read-after : (t buffer : List ℕ) → recordSizeOf (getD s 0 0) ≤ length buffer
       → (readCall direction (messageOf s ++ t) (length buffer) ≡ 0) × (readRecord direction (messageOf s ++ t) buffer ≡ patched buffer 0 (heldIn s))
   unfolding readRecord
   read-after t buffer h =
       let g = given direction s (length out) z in
-      let m = its-message s bytes (length out) (g .long) t (g .owns) in
-      let size : recordSizeOf (typeOf (framed (messageOf s ++ t))) ≡ recordSizeOf (getD s 0 0) = ap (λ (x : List ℕ). recordSizeOf (typeOf x)) (m .framed-is-it) ∙ ap recordSizeOf (m .type-is) in
+      let m = its-message direction s bytes (length out) (g .long) (g .carried) t (g .owns) in
+      let size : recordSizeOf (typeOf (heard direction (messageOf s ++ t))) ≡ recordSizeOf (getD s 0 0) = ap recordSizeOf (m .type-is) in
       let q : readCall direction (messageOf s ++ t) (length buffer) ≡ 0 = own-size-suffices direction (messageOf s ++ t) (length buffer) (omega (arith, h, size)) ∙ accepted-after t in
-      (q, rw (eq-eqb (readCall direction (messageOf s ++ t) (length buffer)) 0 q) (ap (λ (x : List ℕ). patched buffer 0 (recordOf x)) (m .framed-is-it) ∙ ap (patched buffer 0) (m .record-is)))
+      (q, rw (eq-eqb (readCall direction (messageOf s ++ t) (length buffer)) 0 q) (ap (patched buffer 0) (m .record-is)))
 
   -- what the output buffer holds: the message, and after it what stood there
   pub message-stored : writeOut direction s out ≡ messageOf s ++ drop (length (messageOf s)) out
@@ -364,7 +370,7 @@ module _ (s : List ℕ) (bytes : Bytes s) (h : recordSizeOf (getD s 0 0) ≤ len
 
   message-cut : messageOf (heldIn s) ≡ messageOf s
   unfolding messageOf
-  message-cut = alike sessions.sessionBytes orders.orderBytes
+  message-cut = alike sessions.sessionBytes (λ (r : orderRecords.Record). onWire (orders.orderBytes r))
 
   module _ (direction : ℕ) where
     whole-record : (l : List ℕ) → recordSizeOf (getD l 0 0) ≤ length l → (room : ℕ) → writeCall direction l room ≡ cond (not (carries direction (getD l 0 0))) 4 (ownWrite l room)

@@ -11,7 +11,7 @@ use native.Mathlib.Omega.{arith}
 use lib.ListN.{length, getD}
 use Rattle.dictionary.specs.declared.Entry.{Entry}
 use Rattle.dictionary.specs.declared.Entry.the-variants.{Refused}
-use Rattle.dictionary.specs.Dictionary.{entryOf}
+use Rattle.dictionary.specs.Dictionary.{entryOf, isNewOrder}
 use Rattle.wire.specs.HeaderLaws.{Bytes}
 use Rattle.block.specs.Slots.{zeros, slot, badSlot, anyBad}
 use Rattle.block.specs.Places.{selectedAt, entryAt, slotsFrom, slotsOf}
@@ -22,8 +22,8 @@ use Rattle.messages.specs.ByteLaws.{bytes-front, bytes-append, zero-byte
 use Rattle.messages.specs.OrderPlaces.{orderMost}
 use Rattle.messages.specs.Taken.{TakenBothWays}
 use Rattle.messages.specs.ValidOrders.{orderOf, UnitFits, GoodFixed, GoodBits, chosenRecord, sampleFixed, allBits}
-use Rattle.messages.specs.FieldPlace.{selected-small}
-use Rattle.messages.specs.EveryChoice.{by-direction, every-choice-is-taken}
+use Rattle.messages.specs.FieldPlace.{selected-small, by-type}
+use Rattle.messages.specs.EveryChoice.{known-type, every-choice-is-taken}
 
 venue-bytes : Bytes (zeros 8 ++ (65 ∷ zeros (fixedSize - 9)))
 venue-bytes = bytes-append (zeros 8) (65 ∷ zeros (fixedSize - 9)) (bytes-zeros 8) (bytes-front 65 (zeros (fixedSize - 9)) (omega arith) (bytes-zeros (fixedSize - 9)))
@@ -32,14 +32,8 @@ venue-bytes = bytes-append (zeros 8) (65 ∷ zeros (fixedSize - 9)) (bytes-zeros
 pub a-fixed-part-is-good : (direction message : ℕ) → orderOf direction message ≡ true → GoodFixed message (sampleFixed message)
 unfolding fixedGood countAt
 a-fixed-part-is-good direction message o =
-    by-direction direction message o (λ (d x : ℕ). GoodFixed x (sampleFixed x))
-    (record {
-      whole = refl;
-      bytes = bytes-append (65 ∷ zeros 19) (49 ∷ 1 ∷ zeros (fixedSize - 22)) (bytes-front 65 (zeros 19) (omega arith) (bytes-zeros 19)) (bytes-front 49 (1 ∷ zeros (fixedSize - 22)) (omega arith) (bytes-front 1 (zeros (fixedSize - 22)) (omega arith) (bytes-zeros (fixedSize - 22))));
-      good = refl;
-      groups = λ o. absurd (omega (arith, o));
-      ends = λ i h. ends-at 25 (fixedSize - 25) (65 ∷ zeros 19 ++ (49 ∷ 1 ∷ zeros (fixedSize - 22))) refl i (omega arith);
-    })
+    by-type message (known-type direction message o .is-order) (λ (x : ℕ). GoodFixed x (sampleFixed x))
+    (new-order 0x38 refl refl refl (λ o. omega (arith, o))) (new-order 0xB8 refl refl refl (λ o. omega (arith, o)))
     (record {
       whole = refl;
       bytes = bytes-front 65 (zeros (fixedSize - 1)) (omega arith) (bytes-zeros (fixedSize - 1));
@@ -77,6 +71,16 @@ a-fixed-part-is-good direction message o =
     })
     (rejection 0x26 refl refl refl (λ o. omega (arith, o))) (rejection 0x29 refl refl refl (λ o. omega (arith, o))) (rejection 0x2B refl refl refl (λ o. omega (arith, o)))
   where
+    -- a New Order, of either market
+    new-order : (x : ℕ) → sampleFixed x ≡ 65 ∷ zeros 19 ++ (49 ∷ 1 ∷ zeros (fixedSize - 22)) → fixedGood x (sampleFixed x) ≡ true → countAt x ≡ 35 → (x ≡ 0x47 → ⊥) → GoodFixed x (sampleFixed x)
+    new-order x e g n o = record {
+      whole = ap length e;
+      bytes = subst Bytes (sym e) (bytes-append (65 ∷ zeros 19) (49 ∷ 1 ∷ zeros (fixedSize - 22)) (bytes-front 65 (zeros 19) (omega arith) (bytes-zeros 19)) (bytes-front 49 (1 ∷ zeros (fixedSize - 22)) (omega arith) (bytes-front 1 (zeros (fixedSize - 22)) (omega arith) (bytes-zeros (fixedSize - 22)))));
+      good = g;
+      groups = λ q. absurd (o q);
+      ends = λ i h. ap (λ (l : List ℕ). getD l i 0) e ∙ ends-at 25 (fixedSize - 25) (65 ∷ zeros 19 ++ (49 ∷ 1 ∷ zeros (fixedSize - 22))) refl i (omega (arith, n, h));
+    }
+
     -- a rejection: its fixed part is the longest
     rejection : (x : ℕ) → sampleFixed x ≡ zeros 8 ++ (65 ∷ zeros (fixedSize - 9)) → fixedGood x (sampleFixed x) ≡ true → countAt x ≡ fixedEnd → (x ≡ 0x47 → ⊥) → GoodFixed x (sampleFixed x)
     rejection x e g n o = record {
@@ -112,13 +116,13 @@ all-listed message count bits few z k e q =
 
 -- a type that requires no field
 abbrev Plain : ℕ → Type 0
-Plain x = (x ≡ 0x38 → ⊥) × (x ≡ 0x3A → ⊥) × (x ≡ 0x47 → ⊥)
+Plain x = (isNewOrder x ≡ true → ⊥) × (x ≡ 0x3A → ⊥) × (x ≡ 0x47 → ⊥)
 
 -- ALL LISTED BITS at once are a choice, of each type
 pub all-listed-bits-are-a-choice : (direction message : ℕ) → orderOf direction message ≡ true → GoodBits message (mostOf message) (allBits message)
 unfolding mostOf selectedAt entryAt entryOf slotsFrom
 all-listed-bits-are-a-choice direction message o =
-    by-direction direction message o (λ (d x : ℕ). GoodBits x (mostOf x) (allBits x))
+    by-type message (known-type direction message o .is-order) (λ (x : ℕ). GoodBits x (mostOf x) (allBits x))
     (record {
       whole = refl;
       bytes = bytes-below (allBits 0x38) refl;
@@ -127,14 +131,22 @@ all-listed-bits-are-a-choice direction message o =
       listed = all-listed 0x38 10 (allBits 0x38) (omega arith) refl;
       required = record { symbol = λ q. refl; capacity = λ q. refl; price-or-type = λ q. refl; quantity = λ q. absurd (omega (arith, q)); new-price-or-type = λ q. absurd (omega (arith, q)); instruction = λ q. absurd (omega (arith, q)) };
     })
-    (without 0x39 2 refl (λ q. omega (arith, q), λ q. omega (arith, q), λ q. omega (arith, q)) (omega arith) refl refl (ends-at 2 (mostBitfields - 2) (allBits 0x39) refl) refl)
+    (record {
+      whole = refl;
+      bytes = bytes-below (allBits 0xB8) refl;
+      few = omega arith;
+      ends = ends-at 10 (mostBitfields - 10) (allBits 0xB8) refl;
+      listed = all-listed 0xB8 10 (allBits 0xB8) (omega arith) refl;
+      required = record { symbol = λ q. refl; capacity = λ q. refl; price-or-type = λ q. refl; quantity = λ q. absurd (omega (arith, q)); new-price-or-type = λ q. absurd (omega (arith, q)); instruction = λ q. absurd (omega (arith, q)) };
+    })
+    (without 0x39 2 refl (λ q. false≢true q, λ q. omega (arith, q), λ q. omega (arith, q)) (omega arith) refl refl (ends-at 2 (mostBitfields - 2) (allBits 0x39) refl) refl)
     (record {
       whole = refl;
       bytes = bytes-below (allBits 0x3A) refl;
       few = omega arith;
       ends = ends-at 2 (mostBitfields - 2) (allBits 0x3A) refl;
       listed = all-listed 0x3A 2 (allBits 0x3A) (omega arith) refl;
-      required = record { symbol = λ q. absurd (omega (arith, q)); capacity = λ q. absurd (omega (arith, q)); price-or-type = λ q. absurd (omega (arith, q)); quantity = λ q. refl; new-price-or-type = λ q. refl; instruction = λ q. absurd (omega (arith, q)) };
+      required = record { symbol = λ q. absurd (false≢true q); capacity = λ q. absurd (false≢true q); price-or-type = λ q. absurd (false≢true q); quantity = λ q. refl; new-price-or-type = λ q. refl; instruction = λ q. absurd (omega (arith, q)) };
     })
     (record {
       whole = refl;
@@ -142,13 +154,13 @@ all-listed-bits-are-a-choice direction message o =
       few = omega arith;
       ends = ends-at 2 (mostBitfields - 2) (allBits 0x47) refl;
       listed = all-listed 0x47 2 (allBits 0x47) (omega arith) refl;
-      required = record { symbol = λ q. absurd (omega (arith, q)); capacity = λ q. absurd (omega (arith, q)); price-or-type = λ q. absurd (omega (arith, q)); quantity = λ q. absurd (omega (arith, q)); new-price-or-type = λ q. absurd (omega (arith, q)); instruction = λ q. refl };
+      required = record { symbol = λ q. absurd (false≢true q); capacity = λ q. absurd (false≢true q); price-or-type = λ q. absurd (false≢true q); quantity = λ q. absurd (omega (arith, q)); new-price-or-type = λ q. absurd (omega (arith, q)); instruction = λ q. refl };
     })
-    (without 0x25 15 refl (λ q. omega (arith, q), λ q. omega (arith, q), λ q. omega (arith, q)) (omega arith) refl refl (ends-at 15 (mostBitfields - 15) (allBits 0x25) refl) refl)
-    (without 0x2C 15 refl (λ q. omega (arith, q), λ q. omega (arith, q), λ q. omega (arith, q)) (omega arith) refl refl (ends-at 15 (mostBitfields - 15) (allBits 0x2C) refl) refl)
-    (without 0x26 19 refl (λ q. omega (arith, q), λ q. omega (arith, q), λ q. omega (arith, q)) (omega arith) refl refl (ends-at 19 (mostBitfields - 19) (allBits 0x26) refl) refl)
-    (without 0x29 19 refl (λ q. omega (arith, q), λ q. omega (arith, q), λ q. omega (arith, q)) (omega arith) refl refl (ends-at 19 (mostBitfields - 19) (allBits 0x29) refl) refl)
-    (without 0x2B 19 refl (λ q. omega (arith, q), λ q. omega (arith, q), λ q. omega (arith, q)) (omega arith) refl refl (ends-at 19 (mostBitfields - 19) (allBits 0x2B) refl) refl)
+    (without 0x25 15 refl (λ q. false≢true q, λ q. omega (arith, q), λ q. omega (arith, q)) (omega arith) refl refl (ends-at 15 (mostBitfields - 15) (allBits 0x25) refl) refl)
+    (without 0x2C 15 refl (λ q. false≢true q, λ q. omega (arith, q), λ q. omega (arith, q)) (omega arith) refl refl (ends-at 15 (mostBitfields - 15) (allBits 0x2C) refl) refl)
+    (without 0x26 19 refl (λ q. false≢true q, λ q. omega (arith, q), λ q. omega (arith, q)) (omega arith) refl refl (ends-at 19 (mostBitfields - 19) (allBits 0x26) refl) refl)
+    (without 0x29 19 refl (λ q. false≢true q, λ q. omega (arith, q), λ q. omega (arith, q)) (omega arith) refl refl (ends-at 19 (mostBitfields - 19) (allBits 0x29) refl) refl)
+    (without 0x2B 19 refl (λ q. false≢true q, λ q. omega (arith, q), λ q. omega (arith, q)) (omega arith) refl refl (ends-at 19 (mostBitfields - 19) (allBits 0x2B) refl) refl)
   where
     -- a type that requires no field
     without : (x count : ℕ) → mostOf x ≡ count → Plain x → count ≤ mostBitfields → length (allBits x) ≡ mostBitfields → below (allBits x) ≡ true → ((i : ℕ) → count ≤ i → getD (allBits x) i 0 ≡ 0)

@@ -10,7 +10,7 @@ use Rattle.wire.specs.Header.{headerBytes}
 use Rattle.wire.specs.HeaderLaws.{Bytes}
 use Rattle.block.specs.Sizes.{recordSize}
 use Rattle.session_messages.specs.Sizes.{sessionRecordSize}
-use Rattle.messages.specs.Messages.{readCall, readRecord, writeCall, writeOut}
+use Rattle.messages.specs.Messages.{carries, readCall, readRecord, writeCall, writeOut}
 
 -- an order's record that the writer takes; and the reader takes what it wrote, whatever the output buffer held, into any record's buffer, as the same
 -- record
@@ -30,6 +30,6 @@ pub record TakenAsSaid (direction : ℕ) (m : List ℕ) : Type 0 where
 abbrev pub said : ℕ → List ℕ → List ℕ
 said message b = headerBytes (8 + length b) message 0 0 ++ b
 
--- the messages that are a header alone: Client Heartbeat of direction 0; Server Heartbeat and Replay Complete of direction 1
+-- the messages that are a header alone, in a direction that has them: Client Heartbeat; Server Heartbeat and Replay Complete
 abbrev pub headerOf : ℕ → ℕ → Bool
-headerOf direction message = (eqb direction 0 && eqb message 0x03) || (eqb direction 1 && (eqb message 0x09 || eqb message 0x13))
+headerOf direction message = carries direction message && (eqb message 0x03 || (eqb message 0x09 || eqb message 0x13))

@@ -8,6 +8,7 @@ use lib.Dec.{eqb}
 use lib.ListN.{length, getD, take, drop}
 use Rattle.numbers.specs.Numbers.{numberAt}
 use Rattle.wire.specs.HeaderLaws.{Bytes}
+use Rattle.dictionary.specs.Dictionary.{isNewOrder}
 use Rattle.block.specs.Slots.{zeros}
 use Rattle.block.specs.Places.{selectedAt, entryAt}
 use Rattle.block.specs.FieldPlaces.{widthsBefore, AllListed, AllAgree, Unselected}
@@ -16,12 +17,14 @@ use Rattle.orders.specs.Shapes.{ofMember, sequenced, unsequenced, countAt, most
 use Rattle.order_records.specs.Records.{recordBytes}
 use Rattle.messages.specs.OrderPlaces.{countIn, layoutIn, setInRecord}
 
--- the types with bitfields of a direction: of 0, the member's, New Order, Cancel Order, Modify Order and Purge Orders; of 1, the venue's, Order Acknowledgment and Order Execution,
--- which are sequenced, and Order Rejected, User Modify Rejected and Cancel Rejected, which are not
+-- the types with bitfields of a direction: of 0, the equities member's, New Order, Cancel Order, Modify Order and Purge Orders; of 1, the venue's, Order
+-- Acknowledgment and Order Execution, which are sequenced, and Order Rejected, User Modify Rejected and Cancel Rejected, which are not; of 2, the options
+-- member's, the options New Order, Cancel Order, Modify Order and Purge Orders
 abbrev pub orderOf : ℕ → ℕ → Bool
 orderOf direction message =
     (eqb direction 0 && (eqb message 0x38 || (eqb message 0x39 || (eqb message 0x3A || eqb message 0x47))))
-    || (eqb direction 1 && (eqb message 0x25 || (eqb message 0x2C || (eqb message 0x26 || (eqb message 0x29 || eqb message 0x2B)))))
+    || (eqb direction 1 && (eqb message 0x25 || (eqb message 0x2C || (eqb message 0x26 || (eqb message 0x29 || eqb message 0x2B))))
+    || (eqb direction 2 && (eqb message 0xB8 || (eqb message 0x39 || (eqb message 0x3A || eqb message 0x47)))))
 
 -- a member's message has unit 0 and any number; a sequenced one of the venue's a unit 1 to 32 and any number; an unsequenced one unit 0 and number 0
 pub record UnitFits (message unit number : ℕ) : Type 0 where
@@ -31,12 +34,12 @@ pub record UnitFits (message unit number : ℕ) : Type 0 where
   pub no-unit : unsequenced message ≡ true → unit ≡ 0
   pub no-number : unsequenced message ≡ true → number ≡ 0
 
--- New Order requires Symbol (byte 2, bit 1), Capacity (byte 2, bit 64), and Price or OrdType (byte 1, bits 4 and 16); Modify Order OrderQty (byte 1,
+-- New Order, of either market, requires Symbol (byte 2, bit 1), Capacity (byte 2, bit 64), and Price or OrdType (byte 1, bits 4 and 16); Modify Order OrderQty (byte 1,
 -- bit 4), and Price or OrdType (byte 1, bits 8 and 16); Purge Orders MassCancelInst (byte 1, bit 4)
 pub record Required (message : ℕ) (set : ℕ → Bool) : Type 0 where
-  pub symbol : message ≡ 0x38 → set 8 ≡ true
-  pub capacity : message ≡ 0x38 → set 14 ≡ true
-  pub price-or-type : message ≡ 0x38 → (set 2 || set 4) ≡ true
+  pub symbol : isNewOrder message ≡ true → set 8 ≡ true
+  pub capacity : isNewOrder message ≡ true → set 14 ≡ true
+  pub price-or-type : isNewOrder message ≡ true → (set 2 || set 4) ≡ true
   pub quantity : message ≡ 0x3A → set 2 ≡ true
   pub new-price-or-type : message ≡ 0x3A → (set 3 || set 4) ≡ true
   pub instruction : message ≡ 0x47 → set 2 ≡ true
@@ -100,28 +103,32 @@ pub record GoodBits (message count : ℕ) (bits : List ℕ) : Type 0 where
   pub required : Required message (selectedAt count bits)
 
 -- the layout of such a choice: every optional field, selected or not, is blank or zero, but OrdType of a Modify Order, where it is selected, is 1, the
--- market value, and MassCancelInst of a Purge Orders is A
+-- market value, MassCancelInst of a Purge Orders is A, and MaturityDate of an options New Order, where it is selected, is the first day, 19700101
 abbrev pub marketType : List ℕ
 marketType = zeros 16 ++ (0x31 ∷ zeros (layoutSize - 17))
 
 abbrev pub cancelAll : List ℕ
 cancelAll = zeros 4 ++ (0x41 ∷ zeros (layoutSize - 5))
 
+abbrev pub firstDay : List ℕ
+firstDay = zeros 56 ++ (0x85 ∷ 0x99 ∷ 0x2C ∷ 0x01 ∷ zeros (layoutSize - 60))
+
 unfoldable pub chosenFields : ℕ → ℕ → List ℕ → List ℕ
 chosenFields message count bits =
     cond (eqb message 0x3A && selectedAt count bits 4) marketType
     (cond (eqb message 0x47) cancelAll
-    (zeros layoutSize))
+    (cond (eqb message 0xB8 && selectedAt count bits 24) firstDay
+    (zeros layoutSize)))
 
 -- the record of such a choice
 unfoldable pub chosenRecord : ℕ → ℕ → ℕ → List ℕ → ℕ → List ℕ → List ℕ
 chosenRecord message unit number fixed count bits =
     recordBytes (record { message = message; unit = unit; number = number; fixed = fixed; count = count; bits = bits; slots = chosenFields message count bits })
 
--- a fixed part of each type: the identifier A, in Modify Order twice, in Purge Orders none, and in New Order the side 1 and the quantity 1; all else zero
+-- a fixed part of each type: the identifier A, in Modify Order twice, in Purge Orders none, and in New Order of either market the side 1 and the quantity 1; all else zero
 abbrev pub sampleFixed : ℕ → List ℕ
 sampleFixed message =
-    cond (eqb message 0x38) (65 ∷ zeros 19 ++ (49 ∷ 1 ∷ zeros (fixedSize - 22)))
+    cond (isNewOrder message) (65 ∷ zeros 19 ++ (49 ∷ 1 ∷ zeros (fixedSize - 22)))
     (cond (eqb message 0x39) (65 ∷ zeros (fixedSize - 1))
     (cond (eqb message 0x3A) (65 ∷ zeros 19 ++ (65 ∷ zeros (fixedSize - 21)))
     (cond (eqb message 0x47) (zeros fixedSize)
@@ -138,4 +145,5 @@ allBits message =
     (cond (eqb message 0x2B) (127 ∷ 67 ∷ 0 ∷ 0 ∷ 0 ∷ 0 ∷ 0 ∷ 6 ∷ zeros (mostBitfields - 8))
     (cond (eqb message 0x3A) (253 ∷ 131 ∷ zeros (mostBitfields - 2))
     (cond (eqb message 0x47) (21 ∷ 131 ∷ zeros (mostBitfields - 2))
-    (zeros mostBitfields))))))))
+    (cond (eqb message 0xB8) (255 ∷ 193 ∷ 1 ∷ 23 ∷ zeros (mostBitfields - 4))
+    (zeros mostBitfields)))))))))

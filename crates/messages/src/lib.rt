@@ -1,18 +1,22 @@
-// The two directions: one reader and one writer each, over all types of that direction. Direction 0 is from the member, 1 from the venue.
+// The directions: one reader and one writer each, over all types of that direction. Direction 0 is from the member of an equities market, 1 from the venue,
+// 2 from the member of an options market. New Order has the type 38 in both markets; the record of the options' one has the type B8.
 // A record is the first bytes of a lent buffer, as many as its type's record has: session_messages::RECORD of a session message, block::RECORD of an order.
 ghost use mathlib.Core.Path.{_≡_};
 ghost use mathlib.Core.List.{_++_};
+ghost use mathlib.Core.Bool.{_||_};
 ghost use Prim.Native.Nat.{_-_, _≤_};
 ghost use lib.ListN.{length};
 ghost use Rattle.numbers.specs.Numbers.{patched};
 ghost use Rattle.block.specs.Slots.{zeros};
 ghost use Rattle.block.specs.Sizes.{recordSize};
+ghost use Rattle.orders.specs.Markets.{ofMarket, typed};
 ghost use Rattle.orders.specs.Orders as orders;
 ghost use Rattle.order_records.specs.Records.{recordBytes, recordAt};
 ghost use Rattle.session_messages.specs.Sessions as sessions;
 ghost use Rattle.session_messages.specs.Sizes.{sessionRecordSize};
-ghost use Rattle.messages.specs.Messages.{isSession, carries, sessionRecordBytes, sessionAt, readRefusal, readCall, readRecord, writeCall, writeOut};
+ghost use Rattle.messages.specs.Messages.{isSession, carries, typeIn, sessionRecordBytes, sessionAt, readRefusal, readCall, readRecord, writeCall, writeOut};
 ghost use Rattle.messages.specs.Stages.{placedRefusal, placedRecord, sizeRefusal, sizeOut};
+use orders::Market;
 
 // Whether a type is a session message's.
 fn is_session(message: u8) -> bool
@@ -24,15 +28,22 @@ fn is_session(message: u8) -> bool
     session_messages::of_venue(message)
 }
 
-// Whether a direction has a type.
+// Whether a record's type is one that a member of a market sends.
+fn of_member(market: Market, message: u8) -> bool
+    ensures { λ r. ⌜ r ≡ (ofMarket market message || sessions.ofMember message) ⌝ }
+{
+    if orders::of_market(market, message) {
+        return true;
+    }
+    session_messages::of_member(message)
+}
+
+// Whether a direction has a record's type.
 fn carries(direction: u8, message: u8) -> bool
     ensures { λ r. ⌜ r ≡ carries direction message ⌝ }
 {
     if direction == 0 {
-        if orders::of_member(message) {
-            return true;
-        }
-        return session_messages::of_member(message);
+        return of_member(Market::Equities, message);
     }
     if direction == 1 {
         if orders::of_venue(message) {
@@ -40,7 +51,20 @@ fn carries(direction: u8, message: u8) -> bool
         }
         return session_messages::of_venue(message);
     }
+    if direction == 2 {
+        return of_member(Market::Options, message);
+    }
     false
+}
+
+// The type that a record has in a direction, by its message's type on the wire.
+fn type_in(direction: u8, message: u8) -> u8
+    ensures { λ r. ⌜ r ≡ typeIn direction message ⌝ }
+{
+    if direction != 2 {
+        return message;
+    }
+    orders::record_type(Market::Options, message)
 }
 
 // A body into the front of a lent tail, with zeros after it.
@@ -80,14 +104,15 @@ fn read_session(m: &[u8], buffer: &mut [u8]) -> u32
     0
 }
 
-// The same of an order message.
-fn read_order(m: &[u8], buffer: &mut [u8]) -> u32
-    ensures { λ r. ⌜ (r ≡ placedRefusal (orders.readRefusal (now (m .entry))) recordSize (length (now (buffer .entry)))) × (now (buffer .exit) ≡ placedRecord (orders.readRefusal (now (m .entry))) recordSize (recordBytes (orders.recordOf (now (m .entry)))) (now (buffer .entry))) ⌝ }
+// The same of an order message, under its record's type.
+fn read_order(message: u8, m: &[u8], buffer: &mut [u8]) -> u32
+    requires { ⌜ 5 ≤ length (now m) ⌝ }
+    ensures { λ r. ⌜ (r ≡ placedRefusal (orders.readRefusal (typed message (now (m .entry)))) recordSize (length (now (buffer .entry)))) × (now (buffer .exit) ≡ placedRecord (orders.readRefusal (typed message (now (m .entry)))) recordSize (recordBytes (orders.recordOf (typed message (now (m .entry))))) (now (buffer .entry))) ⌝ }
 {
     if block::RECORD <= buffer.len() {
-        return order_reader::read_order(m, buffer);
+        return order_reader::read_as(message, m, buffer);
     }
-    let refusal = order_reader::order_refusal(m);
+    let refusal = order_reader::refusal_as(message, m);
     if refusal != 0 {
         return refusal;
     }
@@ -105,14 +130,14 @@ pub fn read(direction: u8, bytes: &[u8], buffer: &mut [u8]) -> u32
         return refusal;
     }
     let m = wire::frame(bytes);
-    let message = wire::header::type_of(m);
+    let message = type_in(direction, wire::header::type_of(m));
     if !carries(direction, message) {
         return refusals::UNKNOWN_TYPE;
     }
     if is_session(message) {
         return read_session(m, buffer);
     }
-    read_order(m, buffer)
+    read_order(message, m, buffer)
 }
 
 // The refusal of the first whole message of any bytes (1 to 11), or 0: the scratch has room for any record. Bytes after it play no part.

@@ -8,6 +8,7 @@ pub mod execution;
 pub mod modify_order;
 pub mod modify_rejection;
 pub mod new_order;
+pub mod options_order;
 pub mod purge_orders;
 mod reading;
 pub mod rejection;

@@ -3,17 +3,19 @@
 use mathlib.Core.Path.{_≡_, sym, ap, ap₂, _∙_}
 use mathlib.Core.Bool.{Bool, true, false, cond, not, _||_}
 use mathlib.Core.List.{List}
-use Prim.Native.Nat.{ℕ, _+_, _≤_}
+use Prim.Native.Nat.{ℕ, _+_, _≤_, _<_}
 use native.Mathlib.Omega.{arith}
 use lib.Dec.{leb, ltb}
-use lib.ListN.{length, getD}
+use lib.ListN.{length, getD, List·getD-eq-default}
 use borrow.Author.Tests.{ltb-false, ne-eqb}
 use Rattle.refusals.specs.Names.{unknownType, badUnit}
 use Rattle.refusals.specs.ToldLaws.{passed-told}
 use Rattle.wire.specs.Header.{typeOf, unitOf, numberOf}
 use Rattle.wire.specs.FrameLaws.{passed}
 use Rattle.orders.specs.Shapes.{ofMember, ofVenue, countAt, mostOf, unitGood}
-use Rattle.orders.specs.Orders.{headRefusal, countOf}
+use Rattle.orders.specs.Markets.{typed}
+use Rattle.orders.specs.MarketLaws.{same-but}
+use Rattle.orders.specs.Orders.{headRefusal, readRefusal, countOf}
 use Rattle.orders.specs.OrderLaws.{count-bounds, most-bound}
 use Rattle.order_reader.specs.Stages.{countRefusal, typeHead}
 use Rattle.block.specs.Sizes.{fixedEnd, mostBitfields}
@@ -29,17 +31,37 @@ module _ (m : List ℕ) (message : ℕ) (e : message ≡ typeOf m) where
   unfolding headRefusal typeHead countRefusal
   head-is = ap (λ (x : ℕ). headBy (ofMember x || ofVenue x) (typeHead x (countAt x) (mostOf x) m)) e
 
-  pub known-type : (kind : ℕ) → message ≡ kind → (ofMember kind || ofVenue kind) ≡ true → typeHead kind (countAt kind) (mostOf kind) m ≡ headRefusal m
+  known-type : (kind : ℕ) → message ≡ kind → (ofMember kind || ofVenue kind) ≡ true → typeHead kind (countAt kind) (mostOf kind) m ≡ headRefusal m
   known-type kind f known =
       ap (λ (b : Bool). headBy b (typeHead kind (countAt kind) (mostOf kind) m)) (sym known)
       ∙ ap (λ (x : ℕ). headBy (ofMember x || ofVenue x) (typeHead x (countAt x) (mostOf x) m)) (sym f)
       ∙ head-is
 
-  pub unknown-type : (message ≡ 0x38 → ⊥) → (message ≡ 0x39 → ⊥) → (message ≡ 0x25 → ⊥) → (message ≡ 0x2C → ⊥) → (message ≡ 0x26 → ⊥) → (message ≡ 0x29 → ⊥) → (message ≡ 0x2B → ⊥) → (message ≡ 0x3A → ⊥) → (message ≡ 0x47 → ⊥)
+  unknown-type : (message ≡ 0x38 → ⊥) → (message ≡ 0x39 → ⊥) → (message ≡ 0x25 → ⊥) → (message ≡ 0x2C → ⊥) → (message ≡ 0x26 → ⊥) → (message ≡ 0x29 → ⊥) → (message ≡ 0x2B → ⊥) → (message ≡ 0x3A → ⊥) → (message ≡ 0x47 → ⊥) → (message ≡ 0xB8 → ⊥)
       → unknownType ≡ headRefusal m
-  unknown-type a b c d e f g h i =
-      let none : (ofMember message || ofVenue message) ≡ false = rw (ne-eqb message 0x38 a, ne-eqb message 0x39 b, ne-eqb message 0x25 c, ne-eqb message 0x2C d, ne-eqb message 0x26 e, ne-eqb message 0x29 f, ne-eqb message 0x2B g, ne-eqb message 0x3A h, ne-eqb message 0x47 i) in
+  unknown-type a b c d e f g h i j =
+      let none : (ofMember message || ofVenue message) ≡ false = rw (ne-eqb message 0x38 a, ne-eqb message 0x39 b, ne-eqb message 0x25 c, ne-eqb message 0x2C d, ne-eqb message 0x26 e, ne-eqb message 0x29 f, ne-eqb message 0x2B g, ne-eqb message 0x3A h, ne-eqb message 0x47 i, ne-eqb message 0xB8 j) in
       ap (λ (b : Bool). headBy b (typeHead message (countAt message) (mostOf message) m)) (sym none) ∙ head-is
+
+-- under its record's type
+module _ (m : List ℕ) (message : ℕ) (h : 5 ≤ length m) where
+  head-same : (kind at most : ℕ) → 5 ≤ at → typeHead kind at most (typed message m) ≡ typeHead kind at most m
+  unfolding typeHead countRefusal
+  head-same kind at most l = let s = same-but message m h in rw (s .unit, s .number, s .long, s .total, s .byte-after at l)
+
+  pub known-under : (kind : ℕ) → message ≡ kind → (ofMember kind || ofVenue kind) ≡ true → typeHead kind (countAt kind) (mostOf kind) m ≡ headRefusal (typed message m)
+  known-under kind f known =
+      sym (head-same kind (countAt kind) (mostOf kind) (omega (arith, count-bounds kind .low)))
+      ∙ known-type (typed message m) message (sym (same-but message m h .type-is)) kind f known
+
+  pub unknown-under : (message ≡ 0x38 → ⊥) → (message ≡ 0x39 → ⊥) → (message ≡ 0x25 → ⊥) → (message ≡ 0x2C → ⊥) → (message ≡ 0x26 → ⊥) → (message ≡ 0x29 → ⊥) → (message ≡ 0x2B → ⊥) → (message ≡ 0x3A → ⊥) → (message ≡ 0x47 → ⊥)
+      → (message ≡ 0xB8 → ⊥) → unknownType ≡ headRefusal (typed message m)
+  unknown-under = unknown-type (typed message m) message (sym (same-but message m h .type-is))
+
+-- a message that ends before its type is of no type
+pub no-type : (m : List ℕ) → length m < 5 → unknownType ≡ readRefusal m
+unfolding readRefusal headRefusal
+no-type m l = let e : typeOf m ≡ 0 = List·getD-eq-default m 0 (omega (arith, l)) in rw e
 
 -- ---- those of a message of a type, by its unit and number
 

@@ -14,6 +14,7 @@ use Rattle.numbers.specs.Numbers.{numberAt, patched}
 use Rattle.numbers.proofs.Tail.{tail-is}
 use Rattle.wire.specs.Header.{typeOf, unitOf, numberOf, totalOf}
 use Rattle.dictionary.specs.declared.Entry.{Entry}
+use Rattle.dictionary.specs.Dictionary.{isNewOrder}
 use Rattle.block.specs.Slots.{zeros, Slot, slot, takes, width, sum, spread}
 use Rattle.block.specs.SlotLaws.{length-zeros, drop-zeros}
 use Rattle.block.specs.Places.{bitSet, selectedAt, entryAt, slotsFrom, slotsOf, hasRequired}
@@ -112,7 +113,7 @@ module _ (x z : List ℕ) (n : ℕ) (h : n ≤ length x) where
 
   fields-front : (message : ℕ) → n ≡ countAt message - 10 → fixedFields message (take n x ++ z) ≡ fixedFields message x
   unfolding fixedFields countAt fields-by
-  fields-front message e = by-type (eqb message 0x38) (eqb message 0x39) (eqb message 0x25) (eqb message 0x2C) (eqb message 0x3A) (eqb message 0x47) e
+  fields-front message e = by-type (isNewOrder message) (eqb message 0x39) (eqb message 0x25) (eqb message 0x2C) (eqb message 0x3A) (eqb message 0x47) e
 
   pub wrong-front : (message : ℕ) → n ≡ countAt message - 10 → fixedWrong message (take n x ++ z) ≡ fixedWrong message x
   unfolding fixedWrong

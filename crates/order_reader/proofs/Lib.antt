@@ -4,3 +4,4 @@ pub mod Readings
 pub mod InPlace
 pub mod Fronts
 pub mod LateInPlace
+pub mod Typed

@@ -6,10 +6,11 @@ ghost use Prim.Native.Nat.{_+_, _-_, _≤_};
 ghost use lib.Dec.{ltb};
 ghost use lib.ListN.{length, getD, take, drop};
 ghost use Rattle.numbers.specs.Numbers.{patched};
-ghost use Rattle.wire.specs.Header.{typeOf, totalOf};
+ghost use Rattle.wire.specs.Header.{totalOf};
 ghost use Rattle.block.specs.Slots.{zeros, takes, sum};
 ghost use Rattle.block.specs.Places.{selectedAt, hasRequired, slotsOf};
 ghost use Rattle.orders.specs.Shapes.{countAt};
+ghost use Rattle.orders.specs.Markets.{typed};
 ghost use Rattle.orders.specs.Middle.{middleSize};
 ghost use Rattle.orders.specs.Late.{lateRefusal};
 ghost use Rattle.orders.specs.Orders.{headRefusal, bodyRefusal, layoutOf, readRefusal};
@@ -19,8 +20,8 @@ use block_judge::Judged;
 
 // 4; 5; 6 if the message ends before its count byte is whole; 7; 6 if the bitfields do not fit. Each type's numbers are literals.
 fn head_refusal(m: &[u8], message: u8) -> u32
-    requires { ⌜ message ≡ typeOf (now m) ⌝ }
-    ensures { λ r. ⌜ r ≡ headRefusal (now (m .entry)) ⌝ }
+    requires { ⌜ 5 ≤ length (now m) ⌝ }
+    ensures { λ r. ⌜ r ≡ headRefusal (typed message (now (m .entry))) ⌝ }
 {
     match message {
         0x38 => type_head(m, 0x38, 35, 10),
@@ -32,6 +33,7 @@ fn head_refusal(m: &[u8], message: u8) -> u32
         0x2B => type_head(m, 0x2B, 100, 19),
         0x3A => type_head(m, 0x3A, 50, 2),
         0x47 => type_head(m, 0x47, 11, 2),
+        0xB8 => type_head(m, 0xB8, 35, 10),
         _ => refusals::UNKNOWN_TYPE,
     }
 }
@@ -228,11 +230,11 @@ fn body_refusal(m: &[u8], message: u8, at: usize, count: u8) -> u32
     block_refusal(m, message, &m[start..end], count, &m[end..])
 }
 
-// The refusal of a whole message alone, 4 to 10 or 23, or 0, and from 6 to 10 its place: for callers that want no record.
-pub fn order_refusal(m: &[u8]) -> u32
-    ensures { λ r. ⌜ r ≡ readRefusal (now (m .entry)) ⌝ }
+// The refusal of a whole message alone, under its record's type, 4 to 10 or 23, or 0, and from 6 to 10 its place: for callers that want no record.
+pub fn refusal_as(message: u8, m: &[u8]) -> u32
+    requires { ⌜ 5 ≤ length (now m) ⌝ }
+    ensures { λ r. ⌜ r ≡ readRefusal (typed message (now (m .entry))) ⌝ }
 {
-    let message = wire::header::type_of(m);
     let at = orders::count_at(message);
     let refusal = head_refusal(m, message);
     if refusal != 0 {
@@ -240,6 +242,16 @@ pub fn order_refusal(m: &[u8]) -> u32
     }
     let count = numbers::byte_at(m, at);
     body_refusal(m, message, at, count)
+}
+
+// The same of a message whose type is its record's.
+pub fn order_refusal(m: &[u8]) -> u32
+    ensures { λ r. ⌜ r ≡ readRefusal (now (m .entry)) ⌝ }
+{
+    if m.len() < 5 {
+        return refusals::UNKNOWN_TYPE;
+    }
+    refusal_as(wire::header::type_of(m), m)
 }
 
 // The bitfields into the front of a lent tail, with zeros after them.
@@ -276,7 +288,7 @@ fn put_fixed(m: &[u8], message: u8, tail: &mut [u8])
     ensures { λ _. ⌜ now (tail .exit) ≡ patched (now (tail .entry)) 0 (take (countAt message - 10) (drop 10 (now (m .entry))) ++ zeros (fixedEnd - countAt message)) ⌝ }
 {
     match message {
-        0x38 => put_up_to(m, 35, tail),
+        0x38 | 0xB8 => put_up_to(m, 35, tail),
         0x39 => put_up_to(m, 30, tail),
         0x25 => put_up_to(m, 47, tail),
         0x2C => put_up_to(m, 69, tail),
@@ -362,19 +374,29 @@ fn put_there(m: &[u8], message: u8, at: usize, count: u8, buffer: &mut [u8])
     put_record(m, message, count, &m[start..end], &m[end..], buffer);
 }
 
-// Reads a whole message, as framing answers it, into a buffer that has room for its record: 0, and the record's bytes stand in the front of
-// the buffer; or the refusal (4 to 10, from 6 on with its place, or 23), and the buffer is as it was.
-pub fn read_order(m: &[u8], buffer: &mut [u8]) -> u32
-    requires { ⌜ recordSize ≤ length (now buffer) ⌝ }
-    ensures { λ r. ⌜ (r ≡ readRefusal (now (m .entry))) × (now (buffer .exit) ≡ readRecord (now (m .entry)) (now (buffer .entry))) ⌝ }
+// Reads a whole message, as framing answers it, under its record's type, into a buffer that has room for its record: 0, and the record's bytes stand in the
+// front of the buffer; or the refusal (4 to 10, from 6 on with its place, or 23), and the buffer is as it was.
+pub fn read_as(message: u8, m: &[u8], buffer: &mut [u8]) -> u32
+    requires { ⌜ (5 ≤ length (now m)) × (recordSize ≤ length (now buffer)) ⌝ }
+    ensures { λ r. ⌜ (r ≡ readRefusal (typed message (now (m .entry)))) × (now (buffer .exit) ≡ readRecord (typed message (now (m .entry))) (now (buffer .entry))) ⌝ }
 {
-    let refusal = order_refusal(m);
+    let refusal = refusal_as(message, m);
     if refusal != 0 {
         return refusal;
     }
-    let message = wire::header::type_of(m);
     let at = orders::count_at(message);
     let count = numbers::byte_at(m, at);
     put_there(m, message, at, count, buffer);
     0
+}
+
+// The same of a message whose type is its record's.
+pub fn read_order(m: &[u8], buffer: &mut [u8]) -> u32
+    requires { ⌜ recordSize ≤ length (now buffer) ⌝ }
+    ensures { λ r. ⌜ (r ≡ readRefusal (now (m .entry))) × (now (buffer .exit) ≡ readRecord (now (m .entry)) (now (buffer .entry))) ⌝ }
+{
+    if m.len() < 5 {
+        return refusals::UNKNOWN_TYPE;
+    }
+    read_as(wire::header::type_of(m), m, buffer)
 }

@@ -26,6 +26,7 @@ use Rattle.block.specs.Looks.{Looked, looked, cleared, zero-by-clearing}
 use Rattle.block_write.specs.declared.Seen.{Seen}
 use Rattle.block_write.specs.State.{looking, unseen, lookWalk}
 use Rattle.orders.specs.Shapes.{ofMember, ofVenue, countAt, mostOf, unitGood, fixedGood}
+use Rattle.orders.specs.Markets.{wireType, typed, onWire}
 use Rattle.orders.specs.Middle.{middleSize, middleGood}
 use Rattle.orders.specs.Late.{lateRefusal}
 use Rattle.orders.specs.Orders.{writeSlots, writeRest, writeMiddle, zeroUnused, sizeOf, orderBytes, writeRefusal, writeBuffer}
@@ -233,13 +234,14 @@ pub buffer-kept : (r : Record) (out : List ℕ) {n : ℕ} → n ≡ writeRefusal
 unfolding writeBuffer
 buffer-kept r out e n = rw (ne-eqb (writeRefusal r (length out)) 0 (λ z. n (e ∙ z)))
 
-pub buffer-written : (r : Record) (out : List ℕ) {out′ : List ℕ} → writeRefusal r (length out) ≡ 0 → out′ ≡ patched out 0 (orderBytes r) → out′ ≡ writeBuffer r out
+pub buffer-written : (r : Record) (out : List ℕ) {out′ : List ℕ} → writeRefusal r (length out) ≡ 0 → out′ ≡ patched out 0 (onWire (orderBytes r)) → out′ ≡ writeBuffer r out
 unfolding writeBuffer
 buffer-written r out z e = rw (eq-eqb (writeRefusal r (length out)) 0 z) e
 
-pub bytes-are : (r : Record) {n : ℕ} → n ≡ sizeOf r → headerBytes (n - 2) (r .message) (r .unit) (r .number) ++ restBytes (r .message) (r .count) (r .fixed) (r .bits) (r .slots) ≡ orderBytes r
-unfolding orderBytes restBytes fieldBytes afterBytes writeSlots writeRest
-bytes-are r e = ap (λ (x : ℕ). headerBytes (x - 2) (r .message) (r .unit) (r .number) ++ restBytes (r .message) (r .count) (r .fixed) (r .bits) (r .slots)) e
+pub bytes-are : (r : Record) {n : ℕ} → n ≡ sizeOf r
+    → headerBytes (n - 2) (wireType (r .message)) (r .unit) (r .number) ++ restBytes (r .message) (r .count) (r .fixed) (r .bits) (r .slots) ≡ onWire (orderBytes r)
+unfolding typed orderBytes restBytes fieldBytes afterBytes writeSlots writeRest
+bytes-are r e = ap (λ (x : ℕ). headerBytes (x - 2) (wireType (r .message)) (r .unit) (r .number) ++ restBytes (r .message) (r .count) (r .fixed) (r .bits) (r .slots)) e
 
 -- ---- the top
 

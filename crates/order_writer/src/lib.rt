@@ -10,6 +10,7 @@ ghost use Rattle.wire.specs.Header.{headerBytes};
 ghost use Rattle.block.specs.Slots.{takes, sum};
 ghost use Rattle.block.specs.Places.{slotsOf};
 ghost use Rattle.orders.specs.Shapes.{countAt};
+ghost use Rattle.orders.specs.Markets.{wireType};
 ghost use Rattle.orders.specs.Middle.{middleSize, middleGood};
 ghost use Rattle.orders.specs.Orders.{writeRefusal, writeBuffer};
 ghost use Rattle.order_records.specs.Records.{recordAt};
@@ -81,7 +82,7 @@ fn fixed_blank(message: u8, count: u8, bits: &[u8], fixed: &[u8]) -> bool
     ensures { λ r. ⌜ r ≡ allNul (drop (middleSize message count (now (bits .entry)) (drop (countAt message - 10) (now (fixed .entry)))) (drop (countAt message - 10) (now (fixed .entry)))) ⌝ }
 {
     match message {
-        0x38 => two_blank(&fixed[25..89], &fixed[74..block::FIXED]),
+        0x38 | 0xB8 => two_blank(&fixed[25..89], &fixed[74..block::FIXED]),
         0x39 => two_blank(&fixed[20..84], &fixed[74..block::FIXED]),
         0x25 => two_blank(&fixed[37..69], &fixed[58..block::FIXED]),
         0x2C => two_blank(&fixed[59..75], &fixed[74..block::FIXED]),
@@ -232,7 +233,7 @@ fn put_fixed(message: u8, fixed: &[u8], tail: &mut [u8])
     ensures { λ _. ⌜ now (tail .exit) ≡ patched (now (tail .entry)) 0 (take (countAt message - 10) (now (fixed .entry))) ⌝ }
 {
     match message {
-        0x38 => put_part(message, 25, fixed, tail),
+        0x38 | 0xB8 => put_part(message, 25, fixed, tail),
         0x39 => put_part(message, 20, fixed, tail),
         0x25 => put_part(message, 37, fixed, tail),
         0x2C => put_part(message, 59, fixed, tail),
@@ -252,7 +253,7 @@ fn put_rest(message: u8, count: u8, fixed: &[u8], bits: &[u8], slots: &[u8], tai
     put_count(message, count, bits, &fixed[n..], slots, &mut tail[n..]);
 }
 
-// The header, and these after it: the whole message of `size` bytes.
+// The header, with the type that the message has on the wire, and these after it: the whole message of `size` bytes.
 fn put_order(
     message: u8,
     unit: u8,
@@ -265,9 +266,10 @@ fn put_order(
     out: &mut [u8],
 )
     requires { ⌜ (count ≤ mostBitfields) × (length (now fixed) ≡ fixedSize) × (length (now slots) ≡ layoutSize) × (length (now bits) ≡ mostBitfields) × (middleSize message count (now bits) (drop (countAt message - 10) (now fixed)) ≤ length (drop (countAt message - 10) (now fixed))) × (size ≡ countAt message + 1 + count + (middleSize message count (now bits) (drop (countAt message - 10) (now fixed)) + sum takes (slotsOf message count (now bits)))) × (size ≤ length (now out)) × (size ≤ 2048) ⌝ }
-    ensures { λ _. ⌜ now (out .exit) ≡ patched (now (out .entry)) 0 (headerBytes (size - 2) message unit number ++ restBytes message count (now (fixed .entry)) (now (bits .entry)) (now (slots .entry))) ⌝ }
+    ensures { λ _. ⌜ now (out .exit) ≡ patched (now (out .entry)) 0 (headerBytes (size - 2) (wireType message) unit number ++ restBytes message count (now (fixed .entry)) (now (bits .entry)) (now (slots .entry))) ⌝ }
 {
-    wire::header::write_header(out, (size - 2) as u16, message, unit, number);
+    let named = orders::wire_type(message);
+    wire::header::write_header(out, (size - 2) as u16, named, unit, number);
     put_rest(message, count, fixed, bits, slots, &mut out[10..]);
 }
 

@@ -11,6 +11,7 @@ use Rattle.refusals.specs.FirstBadLaws.{First, first-bad-is-first, first-within
 use Rattle.kinds.specs.declared.Kind.the-variants.{Alphanumeric, Text, Identifier}
 use Rattle.kinds.specs.Kinds.{agreesOf, agreesFilledOf}
 use Rattle.numbers.specs.Numbers.{numberAt}
+use Rattle.dictionary.specs.Dictionary.{isNewOrder}
 use Rattle.orders.specs.Shapes.{countAt, newOrderGood, cancelOrderGood, modifyOrderGood, acknowledgmentGood, executionGood, rejectionGood, fixedGood}
 use Rattle.orders.specs.FixedFields.{newOrderFields, cancelOrderFields, modifyOrderFields, acknowledgmentFields, executionFields, rejectionFields, fixedFields, fixedWrong}
 
@@ -38,7 +39,7 @@ four-good p q r s false b c d = refl
 -- the fields are good where the part is
 pub fields-good : (message : ℕ) (f : List ℕ) → allGood (fixedFields message f) ≡ fixedGood message f
 unfolding fixedFields fixedGood
-fields-good message f = by (eqb message 0x38) (eqb message 0x39) (eqb message 0x25) (eqb message 0x2C) (eqb message 0x3A) (eqb message 0x47)
+fields-good message f = by (isNewOrder message) (eqb message 0x39) (eqb message 0x25) (eqb message 0x2C) (eqb message 0x3A) (eqb message 0x47)
   where
     by : (a b c d e g : Bool)
         → allGood (cond a (newOrderFields f) (cond b (cancelOrderFields f) (cond c (acknowledgmentFields f) (cond d (executionFields f) (cond e (modifyOrderFields f) (cond g [] (rejectionFields f)))))))
@@ -56,7 +57,7 @@ fields-good message f = by (eqb message 0x38) (eqb message 0x39) (eqb message 0x
 -- every place lies from byte 10 up to the count byte
 fields-within : (message : ℕ) (f : List ℕ) → placesWithin 10 (countAt message) (fixedFields message f) ≡ true
 unfolding fixedFields countAt
-fields-within message f = by (eqb message 0x38) (eqb message 0x39) (eqb message 0x25) (eqb message 0x2C) (eqb message 0x3A) (eqb message 0x47)
+fields-within message f = by (isNewOrder message) (eqb message 0x39) (eqb message 0x25) (eqb message 0x2C) (eqb message 0x3A) (eqb message 0x47)
   where
     by : (a b c d e g : Bool)
         → placesWithin 10 (cond a 35 (cond b 30 (cond c 47 (cond d 69 (cond e 50 (cond g 11 100))))))

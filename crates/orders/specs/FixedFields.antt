@@ -7,6 +7,7 @@ use lib.ListN.{take, drop}
 use Rattle.refusals.specs.FirstBad.{Tested, tested, firstBad}
 use Rattle.kinds.specs.declared.Kind.the-variants.{Alphanumeric, Text, Identifier}
 use Rattle.kinds.specs.Kinds.{agreesOf, agreesFilledOf}
+use Rattle.dictionary.specs.Dictionary.{isNewOrder}
 use Rattle.numbers.specs.Numbers.{numberAt}
 
 -- the fixed part f begins at byte 10 of the message.
@@ -53,7 +54,7 @@ rejectionFields f =
 -- those of a message of the type; Purge Orders has none
 unfoldable pub fixedFields : ℕ → List ℕ → List Tested
 fixedFields message f =
-    cond (eqb message 0x38) (newOrderFields f)
+    cond (isNewOrder message) (newOrderFields f)
     (cond (eqb message 0x39) (cancelOrderFields f)
     (cond (eqb message 0x25) (acknowledgmentFields f)
     (cond (eqb message 0x2C) (executionFields f)

@@ -90,6 +90,6 @@ modify-needs = refl
 
 -- ---- no other message is late, whatever it holds
 
-pub others-are-not : (count : ℕ) (bits slots : List ℕ) → map (λ message. lateRefusal message count bits slots) (0x38 ∷ 0x39 ∷ 0x25 ∷ 0x2C ∷ 0x26 ∷ 0x29 ∷ 0x2B ∷ []) ≡ 0 ∷ 0 ∷ 0 ∷ 0 ∷ 0 ∷ 0 ∷ 0 ∷ []
+pub others-are-not : (count : ℕ) (bits slots : List ℕ) → map (λ message. lateRefusal message count bits slots) (0x38 ∷ 0xB8 ∷ 0x39 ∷ 0x25 ∷ 0x2C ∷ 0x26 ∷ 0x29 ∷ 0x2B ∷ []) ≡ 0 ∷ 0 ∷ 0 ∷ 0 ∷ 0 ∷ 0 ∷ 0 ∷ 0 ∷ []
 unfolding lateRefusal lacks conflicts
 others-are-not count bits slots = refl

@@ -1,4 +1,6 @@
 pub mod Shapes
+pub mod Markets
+pub mod MarketLaws
 pub mod Rests
 pub mod FixedFields
 pub mod FixedFieldLaws

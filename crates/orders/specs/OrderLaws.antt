@@ -1,6 +1,7 @@
 -- What follows where a message with bitfields is read or written: the refusals one by one. Assumes nothing.
 use mathlib.Core.Path.{_≡_, refl, ap, _∙_}
 use mathlib.Core.Bool.{Bool, true, false, cond, not, _||_}
+use mathlib.Core.Logic.{_⊎_}
 use mathlib.Core.List.{List, [], _∷_, _++_}
 use Prim.Native.Nat.{ℕ, suc, _+_, _*_, _-_, _≤_}
 use native.Mathlib.Omega.{arith}
@@ -14,6 +15,8 @@ use Rattle.wire.specs.FrameLaws.{passed}
 use Rattle.block.specs.Slots.{takes, sum, anyBad, agreeSent, agreeHeld, zeroElsewhere}
 use Rattle.block.specs.SlotLaws.{both-true}
 use Rattle.block.specs.Places.{slotsOf, hasRequired}
+use Rattle.dictionary.specs.Dictionary.{isNewOrder}
+use Rattle.dictionary.specs.NewOrders.{a-new-order, no-new-order}
 use Rattle.orders.specs.Shapes.{ofMember, sequenced, unsequenced, ofVenue, countAt, mostOf, unitGood, fixedGood}
 use Rattle.orders.specs.Middle.{riskGroups, middleSize, middleGood}
 use Rattle.orders.specs.Late.{lateRefusal}
@@ -31,8 +34,8 @@ pub record CountBounds (message : ℕ) : Type 0 where
 pub count-bounds : (message : ℕ) → CountBounds message
 unfolding countAt
 count-bounds message = record {
-  low = low (eqb message 0x38) (eqb message 0x39) (eqb message 0x25) (eqb message 0x2C) (eqb message 0x3A) (eqb message 0x47);
-  high = high (eqb message 0x38) (eqb message 0x39) (eqb message 0x25) (eqb message 0x2C) (eqb message 0x3A) (eqb message 0x47);
+  low = low (isNewOrder message) (eqb message 0x39) (eqb message 0x25) (eqb message 0x2C) (eqb message 0x3A) (eqb message 0x47);
+  high = high (isNewOrder message) (eqb message 0x39) (eqb message 0x25) (eqb message 0x2C) (eqb message 0x3A) (eqb message 0x47);
 }
   where
     low : (a b c d e f : Bool) → 11 ≤ cond a 35 (cond b 30 (cond c 47 (cond d 69 (cond e 50 (cond f 11 fixedEnd)))))
@@ -56,7 +59,7 @@ count-bounds message = record {
 -- no type has more bitfields than a record
 pub most-bound : (message : ℕ) → mostOf message ≤ mostBitfields
 unfolding mostOf
-most-bound message = by (eqb message 0x38) (ofMember message) (sequenced message)
+most-bound message = by (isNewOrder message) (ofMember message) (sequenced message)
   where
     by : (a b c : Bool) → cond a 10 (cond b 2 (cond c 15 19)) ≤ mostBitfields
     by true b c = omega arith
@@ -87,9 +90,9 @@ unsequenced-types P p q r t = either (eqb t 0x26) (at 0x26 p) (either (eqb t 0x2
 
 -- ---- where the count stands, by type
 
-pub in-new-order : (message : ℕ) → message ≡ 0x38 → countAt message ≡ 35
+pub in-new-order : (message : ℕ) → (message ≡ 0x38) ⊎ (message ≡ 0xB8) → countAt message ≡ 35
 unfolding countAt
-in-new-order message e = rw e
+in-new-order message e = rw (a-new-order message e)
 
 pub in-cancel-order : (message : ℕ) → message ≡ 0x39 → countAt message ≡ 30
 unfolding countAt
@@ -111,10 +114,10 @@ pub in-purge-orders : (message : ℕ) → message ≡ 0x47 → countAt message �
 unfolding countAt
 in-purge-orders message e = rw e
 
-pub in-others : (message : ℕ) → (message ≡ 0x38 → ⊥) → (message ≡ 0x39 → ⊥) → (message ≡ 0x25 → ⊥) → (message ≡ 0x2C → ⊥) → (message ≡ 0x3A → ⊥) → (message ≡ 0x47 → ⊥)
+pub in-others : (message : ℕ) → ((message ≡ 0x38) ⊎ (message ≡ 0xB8) → ⊥) → (message ≡ 0x39 → ⊥) → (message ≡ 0x25 → ⊥) → (message ≡ 0x2C → ⊥) → (message ≡ 0x3A → ⊥) → (message ≡ 0x47 → ⊥)
     → countAt message ≡ fixedEnd
 unfolding countAt
-in-others message a b c d e f = rw (ne-eqb message 0x38 a, ne-eqb message 0x39 b, ne-eqb message 0x25 c, ne-eqb message 0x2C d, ne-eqb message 0x3A e, ne-eqb message 0x47 f)
+in-others message a b c d e f = rw (no-new-order message a, ne-eqb message 0x39 b, ne-eqb message 0x25 c, ne-eqb message 0x2C d, ne-eqb message 0x3A e, ne-eqb message 0x47 f)
 
 -- ---- the middle
 

@@ -15,10 +15,11 @@ use Rattle.orders.specs.Shapes.{ofMember, ofVenue, countAt, mostOf, unit
 use Rattle.orders.specs.FixedFields.{fixedWrong}
 use Rattle.orders.specs.Middle.{middleSize, middleGood}
 use Rattle.orders.specs.Late.{lateRefusal}
+use Rattle.orders.specs.Markets.{onWire}
 use Rattle.orders.specs.declared.Record.{Record}
 use Rattle.block.specs.Sizes.{fixedEnd, fixedSize, mostBitfields, layoutSize}
 
--- ---- reading a whole message m
+-- ---- reading a whole message m, whose type is its record's (Markets.antt)
 
 -- the count of bitfields
 abbrev pub countOf : List ℕ → ℕ
@@ -127,7 +128,7 @@ zeroUnused r =
 unfoldable pub sizeOf : Record → ℕ
 sizeOf r = countAt (r .message) + 1 + r .count + (writeMiddle r + sum takes (writeSlots r))
 
--- header, fixed part, count, bitfields, the middle, the selected fields
+-- its message under the record's type: header, fixed part, count, bitfields, the middle, the selected fields
 unfoldable pub orderBytes : Record → List ℕ
 orderBytes r =
     headerBytes (sizeOf r - 2) (r .message) (r .unit) (r .number)
@@ -152,6 +153,6 @@ writeRefusal r room =
     (cond (ltb room (sizeOf r)) noRoom
     0))))))))))
 
--- what the output buffer holds after it
+-- what the output buffer holds after it: the message as it stands on the wire
 unfoldable pub writeBuffer : Record → List ℕ → List ℕ
-writeBuffer r out = cond (eqb (writeRefusal r (length out)) 0) (patched out 0 (orderBytes r)) out
+writeBuffer r out = cond (eqb (writeRefusal r (length out)) 0) (patched out 0 (onWire (orderBytes r))) out

@@ -8,10 +8,11 @@ use lib.ListN.{take, drop}
 use Rattle.kinds.specs.declared.Kind.the-variants.{Alphanumeric, Text, Identifier}
 use Rattle.kinds.specs.Kinds.{agreesOf, agreesFilledOf}
 use Rattle.numbers.specs.Numbers.{numberAt}
+use Rattle.dictionary.specs.Dictionary.{isNewOrder}
 
 -- where the identifier stands in it: at 0 in the member's messages, at 8, after TransactionTime, in the venue's
 unfoldable pub nameAt : ℕ → ℕ
-nameAt message = cond (eqb message 0x38) 0 (cond (eqb message 0x39) 0 (cond (eqb message 0x3A) 0 8))
+nameAt message = cond (isNewOrder message) 0 (cond (eqb message 0x39) 0 (cond (eqb message 0x3A) 0 8))
 
 -- the first bad field of those that follow the identifier in New Order, in Modify Order, in Order Execution, and in the rejections
 abbrev pub newOrderRest : List ℕ → ℕ

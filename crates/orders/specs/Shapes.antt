@@ -7,10 +7,11 @@ use lib.ListN.{take, drop}
 use Rattle.kinds.specs.declared.Kind.the-variants.{Alphanumeric, Text, Identifier}
 use Rattle.kinds.specs.Kinds.{agreesOf, agreesFilledOf}
 use Rattle.numbers.specs.Numbers.{numberAt}
+use Rattle.dictionary.specs.Dictionary.{isNewOrder}
 
--- New Order, Cancel Order, Modify Order and Purge Orders from the member
+-- New Order of either market, Cancel Order, Modify Order and Purge Orders from the member. The options New Order is B8 here: Markets.antt
 abbrev pub ofMember : ℕ → Bool
-ofMember message = eqb message 0x38 || (eqb message 0x39 || (eqb message 0x3A || eqb message 0x47))
+ofMember message = isNewOrder message || (eqb message 0x39 || (eqb message 0x3A || eqb message 0x47))
 
 -- 000, List of Message Types: Order Acknowledgment and Order Execution from the venue are sequenced
 abbrev pub sequenced : ℕ → Bool
@@ -28,7 +29,7 @@ ofVenue message = sequenced message || unsequenced message
 -- the rejections 100
 unfoldable pub countAt : ℕ → ℕ
 countAt message =
-    cond (eqb message 0x38) 35
+    cond (isNewOrder message) 35
     (cond (eqb message 0x39) 30
     (cond (eqb message 0x25) 47
     (cond (eqb message 0x2C) 69
@@ -38,7 +39,7 @@ countAt message =
 
 -- the most bitfields: New Order 10, the other messages of the member 2, the sequenced ones of the venue 15, and 19 as the tables of the rejections print
 unfoldable pub mostOf : ℕ → ℕ
-mostOf message = cond (eqb message 0x38) 10 (cond (ofMember message) 2 (cond (sequenced message) 15 19))
+mostOf message = cond (isNewOrder message) 10 (cond (ofMember message) 2 (cond (sequenced message) 15 19))
 
 -- members' messages carry unit 0 and any number; 02, request 2: an unsequenced one from the venue carries unit 0 and number 0, a sequenced one a unit
 -- 1 to 32 and any number
@@ -49,7 +50,7 @@ unitGood message unit number =
     (leb 1 unit && leb unit 32))
 
 -- the values of the fixed part f, which begins at byte 10 of the message.
--- New Order: ClOrdID (20), never blank; Side (1), N, never blank; OrderQty (4), 1 to 999,999
+-- New Order, in either market: ClOrdID (20), never blank; Side (1), N, never blank; OrderQty (4), 1 to 999,999
 abbrev pub newOrderGood : List ℕ → Bool
 newOrderGood f =
     agreesFilledOf Identifier (take 20 f)
@@ -88,7 +89,7 @@ rejectionGood f =
 -- 10: the values of the fixed part of a message of the type. That of Purge Orders is a reserved byte
 unfoldable pub fixedGood : ℕ → List ℕ → Bool
 fixedGood message f =
-    cond (eqb message 0x38) (newOrderGood f)
+    cond (isNewOrder message) (newOrderGood f)
     (cond (eqb message 0x39) (cancelOrderGood f)
     (cond (eqb message 0x25) (acknowledgmentGood f)
     (cond (eqb message 0x2C) (executionGood f)

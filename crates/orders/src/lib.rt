@@ -1,4 +1,4 @@
-// Messages with bitfields, as records: New Order, Cancel Order, Modify Order and Purge Orders from the member; Order Acknowledgment, Order Execution, Order
+// Messages with bitfields, as records: New Order of either market, Cancel Order, Modify Order and Purge Orders from the member; Order Acknowledgment, Order Execution, Order
 // Rejected, Cancel Rejected and User Modify Rejected from the venue.
 ghost use mathlib.Core.Path.{_≡_};
 ghost use mathlib.Core.Bool.{not, _&&_, _||_};
@@ -8,6 +8,7 @@ ghost use lib.ListN.{length};
 ghost use Rattle.block.specs.Places.{selectedAt};
 ghost use Rattle.block.specs.Sizes.{layoutSize};
 ghost use Rattle.orders.specs.Shapes.{ofMember, sequenced, unsequenced, ofVenue, countAt, mostOf, unitGood};
+ghost use Rattle.orders.specs.Markets.{newOrderOf, ofMarket, recordType, wireType};
 ghost use Rattle.orders.specs.FixedFields.{fixedWrong};
 ghost use Rattle.orders.specs.Rests.{nameAt, newOrderRest, modifyOrderRest, executionRest, rejectionRest};
 ghost use Rattle.orders.specs.Middle.{middleSize, middleGood};
@@ -29,12 +30,75 @@ pub struct Record {
     pub slots: [u8; block::LAYOUT],
 }
 
+// The market that a member trades in. New Order has the type 38 in both, and a dictionary of its own in each; in a record that of the options market has the
+// type B8, so that a record tells its own dictionary.
+pub enum Market {
+    Equities,
+    Options,
+}
+
+// The type that a record of a market's New Order has.
+fn new_order_of(market: Market) -> u8
+    ensures { λ r. ⌜ r ≡ newOrderOf market ⌝ }
+{
+    match market {
+        Market::Equities => 0x38,
+        Market::Options => 0xB8,
+    }
+}
+
+// Whether a record's type is that of an order that a member of a market sends.
+pub fn of_market(market: Market, message: u8) -> bool
+    ensures { λ r. ⌜ r ≡ ofMarket market message ⌝ }
+{
+    if message == new_order_of(market) {
+        return true;
+    }
+    match message {
+        0x39 => true,
+        0x3A => true,
+        0x47 => true,
+        _ => false,
+    }
+}
+
+// The type that a record has in the options market, by the type of its message on the wire.
+fn options_type(message: u8) -> u8
+    ensures { λ r. ⌜ r ≡ recordType Market.Options message ⌝ }
+{
+    match message {
+        0x38 => 0xB8,
+        0xB8 => 0,
+        _ => message,
+    }
+}
+
+// The same in any market. In the options market 38 is B8, and B8, which no message has there, is none.
+pub fn record_type(market: Market, message: u8) -> u8
+    ensures { λ r. ⌜ r ≡ recordType market message ⌝ }
+{
+    match market {
+        Market::Equities => message,
+        Market::Options => options_type(message),
+    }
+}
+
+// The type that a record's message has on the wire.
+pub fn wire_type(message: u8) -> u8
+    ensures { λ r. ⌜ r ≡ wireType message ⌝ }
+{
+    if message == 0xB8 {
+        return 0x38;
+    }
+    message
+}
+
 // A type of the member's.
 pub fn of_member(message: u8) -> bool
     ensures { λ r. ⌜ r ≡ ofMember message ⌝ }
 {
     match message {
-        0x38 => true,
+        0x38 | 0xB8 => true,
         0x39 => true,
         0x3A => true,
         0x47 => true,
@@ -89,7 +153,7 @@ pub fn count_at(message: u8) -> usize
     ensures { λ r. ⌜ r ≡ countAt message ⌝ }
 {
     match message {
-        0x38 => 35,
+        0x38 | 0xB8 => 35,
         0x39 => 30,
         0x25 => 47,
         0x2C => 69,
@@ -104,7 +168,7 @@ pub fn most_of(message: u8) -> u8
     ensures { λ r. ⌜ r ≡ mostOf message ⌝ }
 {
     match message {
-        0x38 => 10,
+        0x38 | 0xB8 => 10,
         0x39 => 2,
         0x25 => 15,
         0x2C => 15,
@@ -142,7 +206,7 @@ fn name_at(message: u8) -> usize
     ensures { λ r. ⌜ r ≡ nameAt message ⌝ }
 {
     match message {
-        0x38 => 0,
+        0x38 | 0xB8 => 0,
         0x39 => 0,
         0x3A => 0,
         _ => 8,
@@ -223,7 +287,7 @@ pub fn fixed_wrong(message: u8, f: &[u8]) -> usize
         return 10 + at;
     }
     match message {
-        0x38 => new_order_rest(f),
+        0x38 | 0xB8 => new_order_rest(f),
         0x39 => 0,
         0x25 => 0,
         0x2C => execution_rest(f),

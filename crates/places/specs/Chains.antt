@@ -17,7 +17,7 @@ use Rattle.orders.specs.Orders.{countOf, bitsOf, restOf, optionalOf, fixedOf, l
 use Rattle.orders.specs.declared.Record.{Record}
 use Rattle.order_records.specs.Records.{recordAt}
 use Rattle.session_messages.specs.Sessions as sessions
-use Rattle.messages.specs.Messages.{isSession, carries, recordSizeOf, sessionAt}
+use Rattle.messages.specs.Messages.{heard, isSession, carries, recordSizeOf, sessionAt}
 
 -- ---- messages with bitfields
 
@@ -97,18 +97,18 @@ sessionWriteNumber message unit number b room =
 
 -- ---- the two directions
 
--- 1, 2, 3; 4 by the direction; then the message's own
+-- 1, 2, 3; 4 by the direction; then the message's own, under its record's type
 unfoldable pub readNumber : ℕ → List ℕ → ℕ
 readNumber direction s =
     cond (eqb (frameRefusal s) 0)
-    (cond (carries direction (typeOf (framed s))) (cond (isSession (typeOf (framed s))) (sessionNumber (framed s)) (orderNumber (framed s))) 4)
+    (cond (carries direction (typeOf (heard direction s))) (cond (isSession (typeOf (heard direction s))) (sessionNumber (heard direction s)) (orderNumber (heard direction s))) 4)
     (frameRefusal s)
 
 -- then 13
 unfoldable pub readCallNumber : ℕ → List ℕ → ℕ → ℕ
 readCallNumber direction s room =
     cond (eqb (readNumber direction s) 0)
-    (cond (ltb room (recordSizeOf (typeOf (framed s)))) 13 0)
+    (cond (ltb room (recordSizeOf (typeOf (heard direction s)))) 13 0)
     (readNumber direction s)
 
 -- 13 without a type byte; 4 by the direction; 13 for a record under its type's size; then the record's own

@@ -22,7 +22,7 @@ use Rattle.orders.specs.Orders as orders
 use Rattle.orders.specs.declared.Record.{Record}
 use Rattle.order_records.specs.Records.{recordAt}
 use Rattle.session_messages.specs.Sessions as sessions
-use Rattle.messages.specs.Messages.{isSession, carries, recordSizeOf, sessionAt, ownRefusal, readRefusal, readCall, ownWrite, writeCall}
+use Rattle.messages.specs.Messages.{heard, isSession, carries, recordSizeOf, sessionAt, ownRefusal, readRefusal, readCall, ownWrite, writeCall}
 use Rattle.book.specs.Books.{messageRefusal}
 use Rattle.places.specs.Chains.{headNumber, blockNumber, lateNumber, orderNumber, orderWriteNumber, sessionNumber, sessionWriteNumber, readNumber, readCallNumber, writeCallNumber, bookNumber}
 
@@ -144,11 +144,11 @@ pub read-was : (direction : ℕ) (s : List ℕ) → Was (readRefusal direction s
 unfolding readRefusal readNumber ownRefusal
 read-was direction s =
     then (frame-was s)
-    (either (carries direction (typeOf (framed s))) (either (isSession (typeOf (framed s))) (session-was (framed s)) (order-was (framed s))) (alone 4 (omega arith)))
+    (either (carries direction (typeOf (heard direction s))) (either (isSession (typeOf (heard direction s))) (session-was (heard direction s)) (order-was (heard direction s))) (alone 4 (omega arith)))
 
 read-call-was : (direction : ℕ) (s : List ℕ) (room : ℕ) → Was (readCall direction s room) (readCallNumber direction s room)
 unfolding readCall readCallNumber
-read-call-was direction s room = then (read-was direction s) (either (ltb room (recordSizeOf (typeOf (framed s)))) (alone 13 (omega arith)) (alone 0 (omega arith)))
+read-call-was direction s room = then (read-was direction s) (either (ltb room (recordSizeOf (typeOf (heard direction s)))) (alone 13 (omega arith)) (alone 0 (omega arith)))
 
 write-call-was : (direction : ℕ) (s : List ℕ) (room : ℕ) → Was (writeCall direction s room) (writeCallNumber direction s room)
 unfolding writeCall writeCallNumber ownWrite

@@ -16,6 +16,7 @@ use Rattle.refusals.specs.FirstBad.{Tested, allGood, firstBad, placesWithin}
 use Rattle.refusals.specs.FirstBadLaws.{First}
 use Rattle.kinds.specs.Kinds.{agreesOf}
 use Rattle.wire.specs.Header.{typeOf, unitOf, numberOf, totalOf}
+use Rattle.dictionary.specs.Dictionary.{isNewOrder}
 use Rattle.block.specs.Slots.{takes, sum, anyBad, badByte, agreeSent, wrongSent}
 use Rattle.block.specs.Places.{selectedAt, entryAt, slotsOf, hasRequired}
 use Rattle.block.specs.FirstBad.{BadBit, BadField, eight-names-the-first-bad-byte, ten-names-the-first-bad-field}
@@ -48,7 +49,7 @@ first-from least most (t ∷ ts) h g =
 
 fixed-places : (message : ℕ) (f : List ℕ) → placesWithin 10 fixedEnd (fixedFields message f) ≡ true
 unfolding fixedFields
-fixed-places message f = by (eqb message 0x38) (eqb message 0x39) (eqb message 0x25) (eqb message 0x2C) (eqb message 0x3A) (eqb message 0x47)
+fixed-places message f = by (isNewOrder message) (eqb message 0x39) (eqb message 0x25) (eqb message 0x2C) (eqb message 0x3A) (eqb message 0x47)
   where
     by : (a b c d e g : Bool)
         → placesWithin 10 fixedEnd (cond a (newOrderFields f) (cond b (cancelOrderFields f) (cond c (acknowledgmentFields f) (cond d (executionFields f) (cond e (modifyOrderFields f) (cond g [] (rejectionFields f))))))) ≡ true

@@ -1,13 +1,13 @@
 -- EACH PLACE LIES IN THE MESSAGE OR AT ITS END, and exactly 6 to 10 have one. Assumes nothing.
 use mathlib.Core.Logic.{_⊎_, inl, inr}
-use mathlib.Core.Path.{_≡_, refl, sym, ap, _∙_}
+use mathlib.Core.Path.{_≡_, refl, sym, ap, _∙_, subst}
 use mathlib.Core.Bool.{Bool, true, false, cond, not, _||_}
 use mathlib.Core.List.{List, [], _∷_, append-nil}
 use Prim.Native.Nat.{ℕ, _+_, _/_, _≤_, _<_}
 use native.Mathlib.Omega.{arith}
 use lib.Dec.{eqb, ltb}
-use lib.ListN.{length, drop}
-use borrow.Author.Tests.{ltb-true, eqb-true}
+use lib.ListN.{length, getD, drop}
+use borrow.Author.Tests.{ltb-true, eq-eqb, eqb-true}
 use Rattle.refusals.specs.Names.{unknownType, badUnit, tooManyBitfields, unlistedBit, notSelected, badValue, badGroup, notZero, noRoom, conflict}
 use Rattle.refusals.specs.Told.{told, numberIn, placeIn}
 use Rattle.refusals.specs.ToldLaws.{number-of-told, place-of-told, number-alone, no-place, told-refuses}
@@ -32,7 +32,8 @@ use Rattle.orders.specs.declared.Record.{Record}
 use Rattle.session_messages.specs.ValueFields.{valuesWrong}
 use Rattle.session_messages.specs.ValueFieldLaws.{values-within}
 use Rattle.session_messages.specs.Sessions as sessions
-use Rattle.messages.specs.Messages.{isSession, carries, ownRefusal, readRefusal}
+use Rattle.messages.specs.Messages.{isSession, carries, heard, ownRefusal, readRefusal}
+use Rattle.messages.specs.Heard.{heard-long, heard-exact, heard-byte}
 use Rattle.book.specs.Books.{messageRefusal}
 use Rattle.places.specs.Reading as reading
 
@@ -120,18 +121,38 @@ module _ (s : List ℕ) (z : frameRefusal s ≡ 0) where
 
 -- EACH PLACE LIES IN THE MESSAGE OR AT ITS END: of what reading answers, and of what a book, a log and the listing are told
 pub place-within : (direction : ℕ) (s : List ℕ) → Placed (length (framed s)) (readRefusal direction s)
-unfolding readRefusal ownRefusal
-place-within direction s = by (eqb (frameRefusal s) 0) refl (carries direction (typeOf (framed s))) (isSession (typeOf (framed s)))
+unfolding readRefusal ownRefusal totalOf
+place-within direction s = by (eqb (frameRefusal s) 0) refl (carries direction (typeOf (heard direction s))) (isSession (typeOf (heard direction s)))
   where
-    by : (a : Bool) → eqb (frameRefusal s) 0 ≡ a → (b c : Bool) → Placed (length (framed s)) (cond a (cond b (cond c (sessions.readRefusal (framed s)) (orders.readRefusal (framed s))) unknownType) (frameRefusal s))
+    -- what is heard is as long as what stands on the wire
+    there : {r : ℕ} → frameRefusal s ≡ 0 → Placed (length (heard direction s)) r → Placed (length (framed s)) r
+    there {r} z p = subst (λ (n : ℕ). Placed n r) (heard-long direction s z) p
+
+    ten : (z : frameRefusal s ≡ 0) → 10 ≤ length (heard direction s)
+    ten z = omega (arith, heard-long direction s z, ten-at-least s z)
+
+    by : (a : Bool) → eqb (frameRefusal s) 0 ≡ a → (b c : Bool)
+        → Placed (length (framed s)) (cond a (cond b (cond c (sessions.readRefusal (heard direction s)) (orders.readRefusal (heard direction s))) unknownType) (frameRefusal s))
     by false e b c = frame-placed (length (framed s)) s
     by true e false c = bare (length (framed s)) 4 (omega arith) (inl (omega arith))
     by true e true true =
         let z = eqb-true (frameRefusal s) 0 e in
-        session-placed (framed s) (as-long s z) (ten-at-least s z) _ (reading.session-tells (framed s))
+        there z (session-placed (heard direction s) (heard-exact direction s z) (ten z) _ (reading.session-tells (heard direction s)))
     by true e true false =
         let z = eqb-true (frameRefusal s) 0 e in
-        order-placed (framed s) (as-long s z) (ten-at-least s z) _ (reading.reading-tells (framed s))
+        there z (order-placed (heard direction s) (heard-exact direction s z) (ten z) _ (reading.reading-tells (heard direction s)))
+
+-- what is told of an order in a direction is told of the message under its record's type, whose bytes from the unit on are those of the wire
+pub record ToldInDirection (direction : ℕ) (s : List ℕ) : Type 0 where
+  pub tells : reading.Tells (heard direction s) (readRefusal direction s)
+  pub bytes : (n : ℕ) → 5 ≤ n → getD (heard direction s) n 0 ≡ getD (framed s) n 0
+
+pub told-in-direction : (direction : ℕ) (s : List ℕ) → frameRefusal s ≡ 0 → carries direction (typeOf (heard direction s)) ≡ true → isSession (typeOf (heard direction s)) ≡ false → ToldInDirection direction s
+unfolding readRefusal ownRefusal
+told-in-direction direction s z c o = record {
+  tells = rw (eq-eqb (frameRefusal s) 0 z, c, o) (reading.reading-tells (heard direction s));
+  bytes = λ n h. heard-byte direction s z n h;
+}
 
 pub booked-within : (s : List ℕ) → Placed (length (framed s)) (messageRefusal s)
 unfolding messageRefusal

@@ -14,6 +14,7 @@ use Rattle.orders.specs.Shapes.{countAt, mostOf, unitGood, fixedGood}
 use Rattle.orders.specs.FixedFields.{fixedFields, fixedWrong}
 use Rattle.orders.specs.Middle as middles
 use Rattle.orders.specs.Late as lates
+use Rattle.orders.specs.Markets as markets
 use Rattle.orders.specs.Orders as orders
 use Rattle.order_records.specs.Records.{recordBytes, recordAt}
 use Rattle.session_groups.specs.Groups as groups
@@ -97,5 +98,5 @@ rejections =
 
 -- each is answered as it is told
 pub rejections-hold : map (λ (e : Example). e .answered) rejections ≡ map (λ (e : Example). e .stated) rejections
-unfolding patched writeOut messageOf orders.orderBytes lengthOf totalOf numberOf notBA startsBad lengthBad cutShort frameRefusal framed carries readRefusal ownRefusal recordOf recordSizeOf ownWrite writeCall sessionRecordBytes recordBytes recordAt orders.readRefusal orders.headRefusal orders.blockRefusal orders.bodyRefusal orders.restOf middles.middleSize middles.middleGood lates.lacks lates.conflicts lates.lateRefusal orders.bitsOf orders.optionalOf orders.fixedOf orders.layoutOf orders.recordOf orders.writeSlots orders.writeRest orders.zeroUnused orders.sizeOf orders.writeRefusal countAt mostOf unitGood fixedGood fixedFields fixedWrong selectedAt entryAt dictionary.entryOf slotsFrom hasRequired sessions.readRefusal sessions.fixedSize sessions.valuesGood valueFields valuesWrong sessions.flagGood sessions.listsEnd sessions.bodyEnd groups.unitsFrom groups.pairsGood groups.bitsGood groups.groupKey groups.groupSize groups.nextSize groups.groupsFrom
+unfolding patched markets.typed writeOut messageOf orders.orderBytes lengthOf totalOf numberOf notBA startsBad lengthBad cutShort frameRefusal framed carries readRefusal ownRefusal recordOf recordSizeOf ownWrite writeCall sessionRecordBytes recordBytes recordAt orders.readRefusal orders.headRefusal orders.blockRefusal orders.bodyRefusal orders.restOf middles.middleSize middles.middleGood lates.lacks lates.conflicts lates.lateRefusal orders.bitsOf orders.optionalOf orders.fixedOf orders.layoutOf orders.recordOf orders.writeSlots orders.writeRest orders.zeroUnused orders.sizeOf orders.writeRefusal countAt mostOf unitGood fixedGood fixedFields fixedWrong selectedAt entryAt dictionary.entryOf slotsFrom hasRequired sessions.readRefusal sessions.fixedSize sessions.valuesGood valueFields valuesWrong sessions.flagGood sessions.listsEnd sessions.bodyEnd groups.unitsFrom groups.pairsGood groups.bitsGood groups.groupKey groups.groupSize groups.nextSize groups.groupsFrom
 rejections-hold = refl

@@ -8,6 +8,7 @@ use crate::say;
 use crate::written;
 use asking::writing;
 use book::Book;
+use orders::Market;
 use table::Table;
 use table::Unit;
 
@@ -29,6 +30,15 @@ const DEF: i64 = 471000;
 const GHI: i64 = 99950;
 
 const JKL: i64 = 222500;
+
+// Of an option: its price, its strike price, the day that it expires, and a number that is no day.
+const PREMIUM: i64 = 6000;
+
+const STRIKE: i64 = 175000;
+
+const MATURITY: u32 = 20250919;
+
+const NO_DAY: u32 = 20250931;
 
 // The number that a unit's next message has.
 fn next_number(b: Bench, unit: u8) -> u32 {
@@ -67,12 +77,17 @@ fn executes(
     bench::logs(bench::later(b, 10), &bytes, log)
 }
 
-// A new day: the book is opened, and the venue has an empty log.
+// A new day: the book is opened, for the equities market, and the venue has an empty log.
 pub fn opens(book: &mut Room) -> Bench {
     say::title(b"1. A new day book, a login with nothing to replay, and four orders");
+    begins(Market::Equities, book)
+}
+
+// A new day book, for a market, and a venue with an empty log.
+fn begins(market: Market, book: &mut Room) -> Bench {
     let answer = book::open(TODAY, book);
     let b = Bench {
-        session: session::closed_with(answer.book),
+        session: session::closed_with(market, answer.book),
         venue: venue::new_venue(),
         held: Table::new(),
         clock: 0,
@@ -81,7 +96,9 @@ pub fn opens(book: &mut Room) -> Bench {
     };
     let opened = bench::at(b, 8, 0);
     say::gateway(opened.clock);
-    say::count(b"opens the day book for ", TODAY as u64, b": ");
+    say::count(b"opens the day book for ", TODAY as u64, b", ");
+    say::market(market);
+    writing::text(b": ");
     if answer.refusal != 0 {
         say::refusal(answer.refusal);
     } else {
@@ -281,9 +298,31 @@ pub fn end_of_day(b: Bench, book: &mut Room, log: &Room) -> Bench {
     bench::receives(bench::at(complete, 16, 0), &bytes, book)
 }
 
+// The options desk: a gateway of its own, with a book and a venue of its own. An order of the other market and one whose maturity is no day stay; after a
+// break the session serves its market still.
+pub fn options_desk() {
+    say::title(b"12. The options desk, the same morning: a gateway that serves the other market");
+    let mut book = [0u8; 4096];
+    let log = [0u8; 4096];
+    let opened = begins(Market::Options, &mut book);
+    let asked = bench::logs_in(bench::at(opened, 9, 30), &mut book);
+    let live = bench::delivers(asked, &log, &mut book);
+    let call = written::option(b"OPT001", written::BUY, b'1', MATURITY, PREMIUM, STRIKE);
+    let one = orders_out::sends(bench::later(live, 100), call);
+    let share = written::new_order(b"ABC123", written::BUY, 500, ABC);
+    let two = orders_out::sends(bench::later(one, 100), share);
+    let dayless = written::option(b"OPT002", written::BUY, b'1', NO_DAY, PREMIUM, STRIKE);
+    let three = orders_out::sends(bench::later(two, 100), dayless);
+    let broken = bench::breaks(bench::later(three, 50), &mut book);
+    let again = bench::logs_in(bench::at(broken, 9, 31), &mut book);
+    let back = bench::delivers(again, &log, &mut book);
+    let put = written::option(b"OPT003", written::SELL, b'0', MATURITY, PREMIUM, STRIKE);
+    orders_out::sends(bench::later(back, 100), put);
+}
+
 // The book's listing.
 pub fn listing(b: Bench, book: &Room) {
-    say::title(b"12. The day book, listed");
+    say::title(b"13. The day book, listed");
     say::note(
         b"(mark: date, messages before it, bytes back to the mark before; message: type, unit, number, ClOrdID, Price;",
     );

@@ -4,6 +4,7 @@ use crate::say;
 use crate::told;
 use crate::written;
 use asking::writing;
+use orders::Market;
 use session::Session;
 use session::Told;
 use table::Table;
@@ -78,6 +79,12 @@ pub fn table_of(b: Bench) -> Table {
     let s = b.session;
     let book = s.book;
     book.table
+}
+
+// The market that our gateway serves.
+pub fn market_of(b: Bench) -> Market {
+    let s = b.session;
+    s.market
 }
 
 // Our book's length.

@@ -45,6 +45,7 @@ fn rest_of_day(b: Bench, book: &mut Room, log: &mut Room) {
     let refused = acts::out_of_order(live, book);
     let silent = acts::heartbeats(refused, book);
     let ended = acts::end_of_day(silent, book, log);
+    acts::options_desk();
     acts::listing(ended, book);
 }
 

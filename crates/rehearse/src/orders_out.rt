@@ -32,7 +32,7 @@ fn stays(b: Bench, order: Record, refusal: u32) {
 
 // An order is written, and goes out.
 fn goes(b: Bench, up: &[u8]) -> Bench {
-    let order = told::record_of(up);
+    let order = told::record_in(bench::market_of(b), up);
     say::gateway(b.clock);
     say::count(b"sends order number ", order.number as u64, b", ");
     told::order(order);
@@ -44,7 +44,7 @@ fn goes(b: Bench, up: &[u8]) -> Bench {
 // What our gateway sent reaches the venue.
 fn arrives(b: Bench, up: &[u8]) -> Bench {
     let v = b.venue;
-    let answer = v.order(up);
+    let answer = v.order(bench::market_of(b), up);
     let after = answer.venue;
     say::venue(b.clock);
     if answer.refusal != 0 {

@@ -27,7 +27,7 @@ pub fn power_fails(b: Bench, n: u32) -> Bench {
     say::count(b"", bench::length_of(b) as u64, b" bytes are on the disk\n");
     say::venue(b.clock);
     say::note(b"sees the line break");
-    let gone = session::closed_with(book::blank_book());
+    let gone = session::closed_with(bench::market_of(b), book::blank_book());
     bench::with_session(bench::with_venue(b, v.broken()), gone)
 }
 
@@ -53,7 +53,7 @@ pub fn restarts(b: Bench, date: u32, book: &Room, n: u32) -> Bench {
     say::count(b"", torn as u64, b" bytes; table: ");
     say::table(kept.table);
     writing::line_end();
-    bench::with_session(b, session::closed_with(kept))
+    bench::with_session(b, session::closed_with(bench::market_of(b), kept))
 }
 
 // Writes a line of a listing.

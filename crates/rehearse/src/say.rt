@@ -2,6 +2,7 @@
 ghost use Prim.Native.Nat.{_≤_};
 ghost use lib.ListN.{length};
 use asking::writing;
+use orders::Market;
 use session::Phase;
 use table::Table;
 use table::Unit;
@@ -86,6 +87,14 @@ fn nul_at(s: &[u8]) -> usize
 pub fn name(field: &[u8]) {
     let n = nul_at(field);
     writing::text(&field[0..n]);
+}
+
+// A market.
+pub fn market(m: Market) {
+    match m {
+        Market::Equities => writing::text(b"equities"),
+        Market::Options => writing::text(b"options"),
+    }
 }
 
 // A unit's last number, if there is one: whether units were named so far.

@@ -2,12 +2,31 @@
 use crate::say;
 use crate::written;
 use asking::writing;
+use orders::Market;
 use orders::Record;
 
-// The record of an order, an acknowledgment or an execution.
-pub fn record_of(bytes: &[u8]) -> Record {
+// The direction of what a member of a market sends.
+fn direction_of(market: Market) -> u8 {
+    match market {
+        Market::Equities => 0,
+        Market::Options => 2,
+    }
+}
+
+// The record of an acknowledgment, an execution or a rejection.
+fn record_of(bytes: &[u8]) -> Record {
+    record_from(1, bytes)
+}
+
+// The record of an order that a member of a market sends.
+pub fn record_in(market: Market, bytes: &[u8]) -> Record {
+    record_from(direction_of(market), bytes)
+}
+
+// The record of a message of a direction.
+fn record_from(direction: u8, bytes: &[u8]) -> Record {
     let mut record = [0u8; block::RECORD];
-    order_reader::read_order(wire::frame(bytes), &mut record);
+    messages::read(direction, bytes, &mut record);
     let loaded = order_records::load(&record);
     loaded.order
 }
@@ -128,6 +147,40 @@ fn new_order(r: Record) {
     writing::price(price.value);
 }
 
+// What an options New Order says.
+fn option(r: Record) {
+    writing::text(b"options New Order ");
+    let id = order_fields::options_order::cl_ord_id(r);
+    let bytes = id.bytes;
+    say::name(&bytes);
+    let sided = order_fields::options_order::side(r);
+    side(sided.bytes[0]);
+    let quantity = order_fields::options_order::order_qty(r);
+    writing::decimal(quantity.value as u64);
+    let symbol = order_fields::options_order::symbol(r);
+    let listed = symbol.bytes;
+    writing::text(b" ");
+    say::name(&listed);
+    let maturity = order_fields::options_order::maturity_date(r);
+    say::count(b" of ", maturity.value as u64, b", ");
+    let right = order_fields::options_order::put_or_call(r);
+    call_or_put(right.bytes[0]);
+    let strike = order_fields::options_order::strike_price(r);
+    writing::price(strike.value);
+    writing::text(b", at ");
+    let price = order_fields::options_order::price(r);
+    writing::price(price.value);
+}
+
+// The right to buy or to sell.
+fn call_or_put(b: u8) {
+    if b == b'1' {
+        writing::text(b"call at ");
+    } else {
+        writing::text(b"put at ");
+    }
+}
+
 // What a Modify Order says.
 fn modify(r: Record) {
     writing::text(b"Modify Order of ");
@@ -162,6 +215,7 @@ pub fn order(r: Record) {
     let message = r.message;
     match message {
         0x38 => new_order(r),
+        0xB8 => option(r),
         0x3A => modify(r),
         _ => cancel(r),
     }

@@ -108,6 +108,22 @@ pub fn new_order(id: &[u8], side: u8, quantity: u32, price: i64) -> Record {
     order_fields::new_order::with_capacity(listed, [b'A'])
 }
 
+// An options New Order's record: ten contracts on MSFT that open a position, a call (1) or a put (0).
+pub fn option(id: &[u8], side: u8, right: u8, maturity: u32, price: i64, strike: i64) -> Record {
+    let r = started(0xB8, 0, 0);
+    let named = order_fields::options_order::with_cl_ord_id(r, identifier(id));
+    let sided = order_fields::options_order::with_side(named, [side]);
+    let sized = order_fields::options_order::with_order_qty(sided, 10);
+    let priced = order_fields::options_order::with_price(sized, price);
+    let symbol = [b'M', b'S', b'F', b'T', 0, 0, 0, 0];
+    let listed = order_fields::options_order::with_symbol(priced, symbol);
+    let able = order_fields::options_order::with_capacity(listed, [b'C']);
+    let expires = order_fields::options_order::with_maturity_date(able, maturity);
+    let struck = order_fields::options_order::with_strike_price(expires, strike);
+    let righted = order_fields::options_order::with_put_or_call(struck, [right]);
+    order_fields::options_order::with_open_close(righted, [b'O'])
+}
+
 // A Modify Order's record with all but a price: the order gets a new identifier and this quantity.
 fn modified(id: &[u8], orig: &[u8], quantity: u32) -> Record {
     let r = started(0x3A, 0, 0);

@@ -4,6 +4,7 @@ use crate::parts;
 use crate::venues;
 use asking::words;
 use asking::writing;
+use orders::Market;
 use session::Session;
 use venue::Venue;
 
@@ -19,9 +20,9 @@ pub struct Said {
     pub bench: Bench,
 }
 
-// The bench at the start: a closed member with a blank book, a venue with a new log.
+// The bench at the start: a closed member of the equities market with a blank book, a venue with a new log.
 pub fn new_bench() -> Bench {
-    let session = session::closed_with(book::blank_book());
+    let session = session::closed_with(Market::Equities, book::blank_book());
     let venue = venue::new_venue();
     Bench {
         session: session,
@@ -115,11 +116,11 @@ fn call_of(word: &[u8]) -> u8 {
 fn words_of(call: u8) -> usize {
     match call {
         1 | 12 | 17 | 19 => 1,
-        5 | 6 | 16 => 2,
-        2 | 3 | 7 | 8 | 9 | 10 | 13 | 14 | 15 => 3,
+        5 | 6 => 2,
+        2 | 3 | 7 | 8 | 13 | 14 | 15 | 16 => 3,
+        9 | 10 => 4,
         4 => 13,
-        11 => 8,
-        18 => 9,
+        11 | 18 => 9,
         _ => 0,
     }
 }

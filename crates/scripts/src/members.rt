@@ -4,6 +4,7 @@ use crate::parts;
 use asking::words;
 use asking::writing;
 use book::Book;
+use orders::Market;
 use session::Phase;
 use session::Session;
 use session_logins::Bitfields;
@@ -62,9 +63,11 @@ fn phase_of(n: u64) -> Phase {
 // The member's numbers, which are the answer or its end.
 fn say(s: Session) -> Told {
     let phase = s.phase;
+    let market = s.market;
     let b = s.book;
     writing::decimal(number_of(phase));
     writing::next_decimal(s.outgoing.0 as u64);
+    writing::next_decimal(parts::number_of(market));
     writing::next_decimal(b.date as u64);
     writing::next_decimal(b.length as u64);
     writing::next_decimal(b.last as u64);
@@ -91,51 +94,58 @@ fn sent(a: session::Answer, out: &[u8]) -> Told {
     t
 }
 
-// The member with the book that opening or restart answers, closed; or as it was, where they refuse.
-fn begun(a: book::Answer, s: Session) -> Told {
+// The member of a market with the book that opening or restart answers, closed; or as it was, where they refuse.
+fn begun(market: Market, a: book::Answer, s: Session) -> Told {
     if a.refusal != 0 {
         return refused(a.refusal, s);
     }
     let b = a.book;
-    refused(0, session::closed_with(b))
+    refused(0, session::closed_with(market, b))
 }
 
-// `m-open DATE ROOM`: the refusal and the member.
+// `m-open DATE ROOM MARKET`: the refusal and the member.
 fn open(line: &[u8], s: Session, book: &mut [u8]) -> Told {
     let date = words::read_number(words::word(line, 1), 4294967295);
     let room = words::read_number(words::word(line, 2), book.len() as u64);
-    if date.ok && room.ok {
+    let served = parts::read_market(words::word(line, 3));
+    if date.ok && room.ok && served.ok {
         let n = room.value as usize;
         let a = book::open(date.value as u32, &mut book[0..n]);
-        return begun(a, s);
+        let market = served.market;
+        return begun(market, a, s);
     }
     unknown(s)
 }
 
-// `m-restart DATE N`: the refusal and the member.
+// `m-restart DATE N MARKET`: the refusal and the member.
 fn restart(line: &[u8], s: Session, book: &[u8]) -> Told {
     let date = words::read_number(words::word(line, 1), 4294967295);
     let count = words::read_number(words::word(line, 2), book.len() as u64);
-    if date.ok && count.ok {
+    let served = parts::read_market(words::word(line, 3));
+    if date.ok && count.ok && served.ok {
         let n = count.value as usize;
         let a = book_restart::restart(date.value as u32, &book[0..n]);
-        return begun(a, s);
+        let market = served.market;
+        return begun(market, a, s);
     }
     unknown(s)
 }
 
-// `m-state PHASE OUTGOING DATE LENGTH LAST COUNT TABLE`: the member.
+// `m-state PHASE OUTGOING MARKET DATE LENGTH LAST COUNT TABLE`: the member.
 fn state(line: &[u8], s: Session) -> Told {
     let phase = words::read_number(words::word(line, 1), 3);
     let outgoing = words::read_number(words::word(line, 2), 4294967295);
-    let four = parts::read_four(line, 3);
-    let given = parts::read_table(words::word(line, 7));
-    if phase.ok && outgoing.ok && four.ok && given.ok {
+    let served = parts::read_market(words::word(line, 3));
+    let four = parts::read_four(line, 4);
+    let given = parts::read_table(words::word(line, 8));
+    if phase.ok && outgoing.ok && served.ok && four.ok && given.ok {
         let p = phase_of(phase.value);
+        let market = served.market;
         let table = given.table;
         return say(Session {
             phase: p,
             outgoing: OutgoingNumber(outgoing.value as u32),
+            market: market,
             book: Book {
                 table: table,
                 date: four.first,

@@ -2,6 +2,7 @@
 ghost use Prim.Native.Nat.{_≤_, _<_};
 use asking::words;
 use asking::writing;
+use orders::Market;
 use table::Entry;
 use table::Table;
 use table::Unit;
@@ -20,6 +21,35 @@ pub struct Four {
 pub struct Given {
     pub ok: bool,
     pub table: Table,
+}
+
+// A market of a question.
+pub struct Served {
+    pub ok: bool,
+    pub market: Market,
+}
+
+// The number of a market.
+pub fn number_of(market: Market) -> u64 {
+    match market {
+        Market::Equities => 0,
+        Market::Options => 1,
+    }
+}
+
+// A word as a market.
+pub fn read_market(word: &[u8]) -> Served {
+    let number = words::read_number(word, 1);
+    if number.value == 1 {
+        return Served {
+            ok: number.ok,
+            market: Market::Options,
+        };
+    }
+    Served {
+        ok: number.ok,
+        market: Market::Equities,
+    }
 }
 
 // The words from the one after k others on, as four numbers.

@@ -135,12 +135,14 @@ fn stepped(v: Venue, log: &[u8], out: &mut [u8]) -> Told {
     sent(a, out)
 }
 
-// `v-order BYTES`: the refusal and the venue.
+// `v-order MARKET BYTES`: the refusal and the venue.
 fn order(line: &[u8], v: Venue, bytes: &mut [u8]) -> Told {
-    let run = words::read_bytes(words::word(line, 1), bytes);
-    if run.ok {
+    let served = parts::read_market(words::word(line, 1));
+    let run = words::read_bytes(words::word(line, 2), bytes);
+    if served.ok && run.ok {
         let k = run.count;
-        return refused(v.order(&bytes[0..k]));
+        let market = served.market;
+        return refused(v.order(market, &bytes[0..k]));
     }
     unknown(v)
 }

@@ -69,8 +69,8 @@ module _ (s : Session) (xs ys : List ℕ) (l : length xs ≡ length ys) (e : tak
   response-alike status received = by (eqb status 65)
     where
       by : (p : Bool)
-          → take (pickSession p (record { phase = Replaying; outgoing = record { 0 = received }; book = s .book }) (endedBy s (length xs)) .book .length) (cond p xs (closeBuffer (s .book) xs))
-          ≡ take (pickSession p (record { phase = Replaying; outgoing = record { 0 = received }; book = s .book }) (endedBy s (length xs)) .book .length) (cond p ys (closeBuffer (s .book) ys))
+          → take (pickSession p (record { phase = Replaying; outgoing = record { 0 = received }; market = s .market; book = s .book }) (endedBy s (length xs)) .book .length) (cond p xs (closeBuffer (s .book) xs))
+          ≡ take (pickSession p (record { phase = Replaying; outgoing = record { 0 = received }; market = s .market; book = s .book }) (endedBy s (length xs)) .book .length) (cond p ys (closeBuffer (s .book) ys))
       by true = e
       by false = end-alike
 

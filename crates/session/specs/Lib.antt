@@ -6,6 +6,7 @@ pub mod ReadingLaws
 pub mod OwnCalls
 pub mod SessionSteps
 pub mod Unchanged
+pub mod MarketKept
 pub mod AnyRest
 pub mod Booked
 pub mod MemberDay

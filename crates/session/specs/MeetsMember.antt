@@ -1,4 +1,5 @@
--- Our member is one of the day's members: each of its calls does what the abstract day's member does. Assumes nothing.
+-- Our member is one of the day's members: each of its calls does what the abstract day's member does. 02, request 4: whatever the market of its opening and
+-- of each restart. Assumes nothing.
 use Prim.Native.Nat.{ℕ, _+_, _≤_, _<_}
 use mathlib.Core.Logic.{⊎-elim}
 use mathlib.Core.Path.{_≡_, refl, sym, ap, ap₂, subst, _∙_, fun-ext}
@@ -17,6 +18,7 @@ use Rattle.wire.specs.FrameLaws.{lt-or-le}
 use Rattle.block.specs.Slots.{zeros}
 use Rattle.table.specs.declared.OutgoingNumber.{OutgoingNumber}
 use Rattle.table.specs.Table.{lastOf, zeroTable}
+use Rattle.orders.specs.declared.Market.{Market}
 use Rattle.session_messages.specs.declared.Record.{Record}
 use Rattle.session_messages.specs.Sessions as logins
 use Rattle.session_messages.specs.SessionTrip.{framed-as-written}
@@ -38,6 +40,7 @@ use Rattle.session.specs.declared.Phase.{Phase}
 use Rattle.session.specs.declared.Phase.the-variants.{Closed, Asked, Replaying, Live}
 use Rattle.session.specs.Sessions.{closedWith, isClosed, brokenBy, brokenBuffer, loginRefusal, loginOf, loginOut, orderRefusal, orderOf}
 use Rattle.session.specs.Booked.{items, first-items}
+use Rattle.orders.specs.Markets.{marketOf}
 use Rattle.session.specs.MemberDay.{Desk, opened, gets, ended, writes, login, loginBytes, sends, restartedBy, phaseOf, ourMember}
 use Rattle.session.specs.MemberKinds.{kind-of}
 use Rattle.session.specs.MadeItems.{itemsOf, coded, below, made-items, made-restarts}
@@ -46,13 +49,13 @@ use Rattle.session.specs.MemberGets.{gets-as, room-as-told}
 
 -- ---- a break
 
-breaks-as : {date k : ℕ} (o : OutgoingNumber) {b : Book} {bytes : List ℕ} → Made date k b bytes → (room : ℕ) (p : Phase)
-    → Comes date (ended room (deskOf p o b bytes)) (day.broken (capOf room) (seen (deskOf p o b bytes)))
+breaks-as : {date k : ℕ} (o : OutgoingNumber) (market : Market) {b : Book} {bytes : List ℕ} → Made date k b bytes → (room : ℕ) (p : Phase)
+    → Comes date (ended room (deskOf p o market b bytes)) (day.broken (capOf room) (seen (deskOf p o market b bytes)))
 unfolding brokenBy brokenBuffer
-breaks-as o made room Closed = comes-as (left-alone made Closed o room) (as-it-was made Closed o)
-breaks-as o made room Asked = ends-as made Asked o room
-breaks-as o made room Replaying = ends-as made Replaying o room
-breaks-as o made room Live = ends-as made Live o room
+breaks-as o market made room Closed = comes-as (left-alone made Closed o market room) (as-it-was made Closed o market)
+breaks-as o market made room Asked = ends-as made Asked o market room
+breaks-as o market made room Replaying = ends-as made Replaying o market room
+breaks-as o market made room Live = ends-as made Live o market room
 
 -- ---- no unit has more messages than the book
 
@@ -81,38 +84,38 @@ module _ (date : ℕ) (d : isDay date ≡ true) (hd : date < 4294967296) where
   unfolding openOf
   opened-book = rw open-zero
 
-  pub opened-good : Good date (opened date)
-  opened-good = record { many = 0; made = open-holds date (zeros 16) open-zero .made }
+  pub opened-good : (market : ℕ) → Good date (opened market date)
+  opened-good market = record { many = 0; made = open-holds date (zeros 16) open-zero .made }
 
   zero-table : lastOf zeroTable ≡ day.zeros
   zero-table = fun-ext (λ u. none-yet u)
 
-  opened-bytes : opened date .bytes ≡ markBytes date 0 0
+  opened-bytes : (market : ℕ) → opened market date .bytes ≡ markBytes date 0 0
   unfolding openOf openBuffer
-  opened-bytes =
+  opened-bytes market =
       let n = mark-long date 0 0 in
       let k : 16 ≡ 0 + length (markBytes date 0 0) = omega arith in
       rw open-zero (ap (λ (i : ℕ). take i (patched (zeros 16) 0 (markBytes date 0 0))) k ∙ patched-take (zeros 16) 0 (markBytes date 0 0) (omega arith))
 
-  pub opened-seen : seen (opened date) ≡ start .member
-  opened-seen =
+  pub opened-seen : (market : ℕ) → seen (opened market date) ≡ start .member
+  opened-seen market =
       ap₂ (λ (t : Table) (y : List Item). record { phase = closed; table = t; book = y })
       (ap (λ (a : bookAnswers.Answer). lastOf (a .book .table)) opened-book ∙ zero-table)
-      (let m : Made date 0 (openedBook date) (markBytes date 0 0) = opens in ap items opened-bytes ∙ made-items m)
+      (let m : Made date 0 (openedBook date) (markBytes date 0 0) = opens in ap items (opened-bytes market) ∙ made-items m)
 
   -- opening for the day has room for its mark
   pub opens-well : openOf date 16 .refusal ≡ 0
   opens-well = ap (λ (a : bookAnswers.Answer). a .refusal) opened-book
 
   -- and its book holds no message
-  pub opened-empty : day.messages (items (opened date .bytes)) ≡ []
-  opened-empty = ap (λ (x : Member). day.messages (x .book)) opened-seen
+  pub opened-empty : (market : ℕ) → day.messages (items (opened market date .bytes)) ≡ []
+  opened-empty market = ap (λ (x : Member). day.messages (x .book)) (opened-seen market)
 
   -- ---- a cut and its restart
 
-  -- of the bytes that a cut kept
-  abbrev restartFrom : List ℕ → Desk
-  restartFrom bs = restartedBy date (restarts.restartOf date bs) bs
+  -- of the bytes that a cut kept, for a market
+  abbrev restartFrom : ℕ → List ℕ → Desk
+  restartFrom market bs = restartedBy market date (restarts.restartOf date bs) bs
 
   -- how many items are kept
   abbrev pub keptItems : bookAnswers.Answer → List ℕ → ℕ
@@ -124,23 +127,23 @@ module _ (date : ℕ) (d : isDay date ≡ true) (hd : date < 4294967296) where
   abbrev restartsAs : List Item → ℕ → Member
   restartsAs is n = restarted (restartOf (take n is)) (take n is)
 
-  cut-short : {k : ℕ} {b : Book} {xs : List ℕ} → Made date k b xs → (n : ℕ) → n < 16 → Comes date (restartFrom (take n xs)) (restartsAs (items xs) (keepsFrom (take n xs)))
+  cut-short : {k : ℕ} {b : Book} {xs : List ℕ} → Made date k b xs → (market n : ℕ) → n < 16 → Comes date (restartFrom market (take n xs)) (restartsAs (items xs) (keepsFrom (take n xs)))
   unfolding restartedBy
-  cut-short {xs = xs} made n h =
+  cut-short {xs = xs} made market n h =
       let e = cut-22 date hd d made n h in
-      let q : restartFrom (take n xs) ≡ opened date = ap (λ (a : bookAnswers.Answer). restartedBy date a (take n xs)) e in
+      let q : restartFrom market (take n xs) ≡ opened market date = ap (λ (a : bookAnswers.Answer). restartedBy market date a (take n xs)) e in
       let r : keepsFrom (take n xs) ≡ 0 = ap (λ (a : bookAnswers.Answer). keptItems a (take n xs)) e in
-      subst (λ (j : ℕ). Comes date (restartFrom (take n xs)) (restartsAs (items xs) j)) (sym r)
-      (comes-as q (record { good = opened-good; is = opened-seen }))
+      subst (λ (j : ℕ). Comes date (restartFrom market (take n xs)) (restartsAs (items xs) j)) (sym r)
+      (comes-as q (record { good = opened-good market; is = opened-seen market }))
 
-  cut-long : {k : ℕ} {b : Book} {xs : List ℕ} → Made date k b xs → (n : ℕ) → 16 ≤ n → n ≤ length xs → Comes date (restartFrom (take n xs)) (restartsAs (items xs) (keepsFrom (take n xs)))
+  cut-long : {k : ℕ} {b : Book} {xs : List ℕ} → Made date k b xs → (market n : ℕ) → 16 ≤ n → n ≤ length xs → Comes date (restartFrom market (take n xs)) (restartsAs (items xs) (keepsFrom (take n xs)))
   unfolding restartedBy
-  cut-long {xs = xs} made n h l =
+  cut-long {xs = xs} made market n h l =
       let c = cut date hd d made n h l in
       let t : take (c .book .length) (take n xs) ≡ c .kept =
       ap (λ (i : ℕ). take i (take n xs)) (c .good) ∙ take-take (length (c .kept)) n xs (c .short) ∙ ap (take (length (c .kept))) (c .whole-is) ∙ take-append-seam (c .kept) (c .over-cut) in
-      let q : restartFrom (take n xs) ≡ record { session = closedWith (c .book); bytes = c .kept } =
-      ap (λ (a : bookAnswers.Answer). restartedBy date a (take n xs)) (c .answer-is) ∙ ap (λ (x : List ℕ). record { session = closedWith (c .book); bytes = x }) t in
+      let q : restartFrom market (take n xs) ≡ record { session = closedWith (marketOf market) (c .book); bytes = c .kept } =
+      ap (λ (a : bookAnswers.Answer). restartedBy market date a (take n xs)) (c .answer-is) ∙ ap (λ (x : List ℕ). record { session = closedWith (marketOf market) (c .book); bytes = x }) t in
       let i = made-items (c .made) in
       let r : keepsFrom (take n xs) ≡ length (itemsOf (c .made)) =
       ap (λ (a : bookAnswers.Answer). keptItems a (take n xs)) (c .answer-is) ∙ ap (λ (x : List ℕ). length (items x)) t ∙ ap length i in
@@ -148,20 +151,20 @@ module _ (date : ℕ) (d : isDay date ≡ true) (hd : date < 4294967296) where
       ap₂ (λ (j : ℕ) (x : List ℕ). take j (items x)) r (c .whole-is) ∙ first-items (coded (c .made)) (c .over-cut) in
       let v : restartsAs (items xs) (keepsFrom (take n xs)) ≡ record { phase = closed; table = lastOf (c .book .table); book = itemsOf (c .made) } =
       ap (λ (x : List Item). restarted (restartOf x) x) w ∙ ap (λ (x : Restart). restarted x (itemsOf (c .made))) (made-restarts (c .made)) in
-      subst (λ (x : Member). Comes date (restartFrom (take n xs)) x) (sym v)
+      subst (λ (x : Member). Comes date (restartFrom market (take n xs)) x) (sym v)
       (comes-as q (record {
         good = record { many = c .items; made = c .made };
         is = ap (λ (x : List Item). record { phase = closed; table = lastOf (c .book .table); book = x }) i;
       }))
 
-  cut-within : {k : ℕ} {b : Book} {xs : List ℕ} → Made date k b xs → (n : ℕ) → n ≤ length xs → Comes date (restartFrom (take n xs)) (restartsAs (items xs) (keepsFrom (take n xs)))
-  cut-within made n l = ⊎-elim (λ (h : n < 16). cut-short made n h) (λ (h : 16 ≤ n). cut-long made n h l) (lt-or-le n 16)
+  cut-within : {k : ℕ} {b : Book} {xs : List ℕ} → Made date k b xs → (market n : ℕ) → n ≤ length xs → Comes date (restartFrom market (take n xs)) (restartsAs (items xs) (keepsFrom (take n xs)))
+  cut-within made market n l = ⊎-elim (λ (h : n < 16). cut-short made market n h) (λ (h : 16 ≤ n). cut-long made market n h l) (lt-or-le n 16)
 
-  pub cut-as : {k : ℕ} {b : Book} {xs : List ℕ} → Made date k b xs → (n : ℕ) → Comes date (restartFrom (take n xs)) (restartsAs (items xs) (keepsFrom (take n xs)))
-  cut-as {xs = xs} made n =
+  pub cut-as : {k : ℕ} {b : Book} {xs : List ℕ} → Made date k b xs → (market n : ℕ) → Comes date (restartFrom market (take n xs)) (restartsAs (items xs) (keepsFrom (take n xs)))
+  cut-as {xs = xs} made market n =
       ⊎-elim
-      (λ (h : n < length xs). cut-within made n (omega arith))
-      (λ (h : length xs ≤ n). subst (λ (x : List ℕ). Comes date (restartFrom x) (restartsAs (items xs) (keepsFrom x))) (take-length xs ∙ sym (take-all n xs h)) (cut-within made (length xs) (omega arith)))
+      (λ (h : n < length xs). cut-within made market n (omega arith))
+      (λ (h : length xs ≤ n). subst (λ (x : List ℕ). Comes date (restartFrom market x) (restartsAs (items xs) (keepsFrom x))) (take-length xs ∙ sym (take-all n xs h)) (cut-within made market (length xs) (omega arith)))
       (lt-or-le n (length xs))
 
   -- ---- a login
@@ -180,7 +183,7 @@ module _ (date : ℕ) (d : isDay date ≡ true) (hd : date < 4294967296) where
     abbrev asked-for : Record
     asked-for = loginOfTable (s .session .book .table) f
 
-    pub logged : writes f out s ≡ true → login f out s ≡ deskOf Asked (s .session .outgoing) (s .session .book) (s .bytes)
+    pub logged : writes f out s ≡ true → login f out s ≡ deskOf Asked (s .session .outgoing) (s .session .market) (s .session .book) (s .bytes)
     unfolding loginOf
     logged w = rw w
 
@@ -210,10 +213,10 @@ module _ (date : ℕ) (d : isDay date ≡ true) (hd : date < 4294967296) where
   -- ---- the whole
 
   pub gets-comes : (room : ℕ) (m : List ℕ) (s : Desk) → Fine m → Good date s → Comes date (gets room m s) (day.got (capOf room) (says m) (seen s))
-  gets-comes room m s f g = gets-as (s .session .outgoing) (g .made) room m f (s .session .phase) (kind-of m f)
+  gets-comes room m s f g = gets-as (s .session .outgoing) (s .session .market) (g .made) room m f (s .session .phase) (kind-of m f)
 
   pub ended-comes : (room : ℕ) (s : Desk) → Good date s → Comes date (ended room s) (day.broken (capOf room) (seen s))
-  ended-comes room s g = breaks-as (s .session .outgoing) (g .made) room (s .session .phase)
+  ended-comes room s g = breaks-as (s .session .outgoing) (s .session .market) (g .made) room (s .session .phase)
 
   -- an order goes out: the book stays
   pub sent-as : (room : ℕ) (given : List ℕ) (s : Desk) → Good date s → Comes date (sends room given s) (seen s)
@@ -224,15 +227,15 @@ module _ (date : ℕ) (d : isDay date ≡ true) (hd : date < 4294967296) where
       by true e = rw e (record { good = record { many = g .many; made = g .made }; is = refl })
       by false e = rw e (record { good = record { many = g .many; made = g .made }; is = refl })
 
-  -- OUR MEMBER is one of the day's
-  unfoldable pub our-member-meets : MeetsMember ourLine (ourMember date)
-  our-member-meets = record {
+  -- OUR MEMBER is one of the day's, opened for any market
+  unfoldable pub our-member-meets : (market : ℕ) → MeetsMember ourLine (ourMember date market)
+  our-member-meets market = record {
     view = seen;
     Good = Good date;
     phase-is = λ s. refl;
     table-is = λ s. refl;
-    new-good = opened-good;
-    new-is = opened-seen;
+    new-good = opened-good market;
+    new-is = opened-seen market;
     login-good = λ f out s g e w. subst (Good date) (sym (logged f out s w)) (record { many = g .many; made = g .made });
     login-is = λ f out s g e w. ap seen (logged f out s w);
     login-ours = λ f out s g e w. our-login f out s e w g;
@@ -242,10 +245,10 @@ module _ (date : ℕ) (d : isDay date ≡ true) (hd : date < 4294967296) where
     cap = capOf;
     gets-good = λ room b s f g. gets-comes room b s f g .good;
     gets-is = λ room b s f g. gets-comes room b s f g .is;
-    room-is = λ room b s f g. room-as-told (s .session .outgoing) (g .made) room b f (s .session .phase) (kind-of b f);
+    room-is = λ room b s f g. room-as-told (s .session .outgoing) (s .session .market) (g .made) room b f (s .session .phase) (kind-of b f);
     ended-good = λ room s g. ended-comes room s g .good;
     ended-is = λ room s g. ended-comes room s g .is;
     keeps = λ k s. keepsFrom (take k (s .bytes));
-    restart-good = λ k s g r. cut-as (g .made) k .good;
-    restart-is = λ k s g r. cut-as (g .made) k .is;
+    restart-good = λ again k s g r. cut-as (g .made) again k .good;
+    restart-is = λ again k s g r. cut-as (g .made) again k .is;
   }

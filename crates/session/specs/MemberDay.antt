@@ -1,4 +1,5 @@
--- The member in the day of demand 3: the session's own calls, with the bytes that its book holds. Definitions alone. Assumes nothing.
+-- The member in the day of demand 3: the session's own calls, with the bytes that its book holds. 02, request 4: the market of the opening and of each
+-- restart is any. Definitions alone. Assumes nothing.
 use Prim.Native.Nat.{ℕ, suc, _+_, min}
 use mathlib.Core.Bool.{Bool, true, false, _&&_}
 use mathlib.Core.List.{List, []}
@@ -8,6 +9,7 @@ use Rattle.wire.specs.Header.{typeOf, unitOf, numberOf}
 use Rattle.wire.specs.Frame.{framed}
 use Rattle.block.specs.Slots.{zeros}
 use Rattle.table.specs.Table.{lastOf}
+use Rattle.orders.specs.Markets.{marketOf}
 use Rattle.orders.specs.Shapes.{sequenced}
 use Rattle.book.specs.declared.Answer.{Answer}
 use Rattle.book.specs.Books.{limit, blankBook, openOf, openBuffer}
@@ -31,9 +33,10 @@ pub record Desk : Type 0 where
 abbrev pub deskAfter : Session → ℕ → List ℕ → List ℕ → Desk
 deskAfter s room buffer bytes = record { session = s; bytes = kept (s .book .length) room buffer bytes }
 
--- opening for the day, with room for the mark
-abbrev pub opened : ℕ → Desk
-opened date = record { session = closedWith (openOf date 16 .book); bytes = take (openOf date 16 .book .length) (openBuffer date (zeros 16)) }
+-- opening for a market and the day, with room for the mark
+abbrev pub opened : ℕ → ℕ → Desk
+opened market date =
+    record { session = closedWith (marketOf market) (openOf date 16 .book); bytes = take (openOf date 16 .book .length) (openBuffer date (zeros 16)) }
 
 -- a message from the venue, with a buffer lent for the book
 abbrev pub gets : ℕ → List ℕ → Desk → Desk
@@ -64,16 +67,16 @@ abbrev pub pickDesk : Bool → Desk → Desk → Desk
 pickDesk true a b = a
 pickDesk false a b = b
 
--- after the restart's answer: accepted, or 22 and the opening; a book that is refused leaves nothing to run
-unfoldable pub restartedBy : ℕ → Answer → List ℕ → Desk
-restartedBy date a bytes =
-    pickDesk (eqb (a .refusal) 0) (record { session = closedWith (a .book); bytes = take (a .book .length) bytes })
-    (pickDesk (eqb (a .refusal) 22) (opened date)
-    (record { session = closedWith blankBook; bytes = [] }))
+-- after the restart's answer, for a market: accepted, or 22 and the opening; a book that is refused leaves nothing to run
+unfoldable pub restartedBy : ℕ → ℕ → Answer → List ℕ → Desk
+restartedBy market date a bytes =
+    pickDesk (eqb (a .refusal) 0) (record { session = closedWith (marketOf market) (a .book); bytes = take (a .book .length) bytes })
+    (pickDesk (eqb (a .refusal) 22) (opened market date)
+    (record { session = closedWith (marketOf market) blankBook; bytes = [] }))
 
--- a cut that keeps the first k bytes, and the restart for the day
-abbrev pub restart : ℕ → ℕ → Desk → Desk
-restart date k d = restartedBy date (restarts.restartOf date (take k (d .bytes))) (take k (d .bytes))
+-- a cut that keeps the first k bytes, and the restart for the day and a market, which may be another than the last
+abbrev pub restart : ℕ → ℕ → ℕ → Desk → Desk
+restart date market k d = restartedBy market date (restarts.restartOf date (take k (d .bytes))) (take k (d .bytes))
 
 -- 01, Session and replay: a message is accepted exactly when its number is the entry plus one and the book has room. Refused for room: in a phase
 -- that takes it, with that number, and the buffer or the limit too short for it
@@ -91,13 +94,13 @@ phaseOf Asked = asked
 phaseOf Replaying = replaying
 phaseOf Live = live
 
--- the member's part in the day
-abbrev pub ourMember : ℕ → MemberCode
-ourMember date = record {
+-- the member's part in the day: the market given is that of the first opening, and each restart names its own
+abbrev pub ourMember : ℕ → ℕ → MemberCode
+ourMember date market = record {
   State = Desk;
   phase = λ d. phaseOf (d .session .phase);
   table = λ d. lastOf (d .session .book .table);
-  new = opened date;
+  new = opened market date;
   Fields = Fields;
   writes = writes;
   login = login;

@@ -10,6 +10,7 @@ use Rattle.numbers.specs.Numbers.{patched}
 use Rattle.wire.specs.Frame.{framed}
 use Rattle.table.specs.declared.OutgoingNumber.{OutgoingNumber}
 use Rattle.table.specs.Table.{lastOf}
+use Rattle.orders.specs.declared.Market.{Market}
 use Rattle.book.specs.declared.Book.{Book}
 use Rattle.book.specs.Books.{limit, markBytes, roomless, appendRefusal, appendedBy, marked, closeOf, closeBuffer}
 use Rattle.book.specs.BookLaws.{has-room}
@@ -38,8 +39,8 @@ pub record Good (date : ℕ) (d : Desk) : Type 0 where
   pub many : ℕ
   pub made : Made date many (d .session .book) (d .bytes)
 
-abbrev pub deskOf : Phase → OutgoingNumber → Book → List ℕ → Desk
-deskOf p o b bytes = record { session = record { phase = p; outgoing = o; book = b }; bytes = bytes }
+abbrev pub deskOf : Phase → OutgoingNumber → Market → Book → List ℕ → Desk
+deskOf p o market b bytes = record { session = record { phase = p; outgoing = o; market = market; book = b }; bytes = bytes }
 
 -- a call's outcome, that it is good, and how it is seen
 pub record Comes (date : ℕ) (d : Desk) (v : Member) : Type 0 where
@@ -54,11 +55,11 @@ module _ {date k : ℕ} {b : Book} {bytes : List ℕ} (made : Made date k b byte
   at-end = sound made .at-end
 
   -- the state of a desk whose buffer was left as it was
-  pub left-alone : (p : Phase) (o : OutgoingNumber) (room : ℕ) → deskAfter (record { phase = p; outgoing = o; book = b }) room (lent room bytes) bytes ≡ deskOf p o b bytes
-  left-alone p o room = ap (deskOf p o b) (ap (λ (n : ℕ). kept n room (lent room bytes) bytes) at-end ∙ kept-same room bytes)
+  pub left-alone : (p : Phase) (o : OutgoingNumber) (market : Market) (room : ℕ) → deskAfter (record { phase = p; outgoing = o; market = market; book = b }) room (lent room bytes) bytes ≡ deskOf p o market b bytes
+  left-alone p o market room = ap (deskOf p o market b) (ap (λ (n : ℕ). kept n room (lent room bytes) bytes) at-end ∙ kept-same room bytes)
 
-  pub as-it-was : (p : Phase) (o : OutgoingNumber) → Comes date (deskOf p o b bytes) (record { phase = phaseOf p; table = lastOf (b .table); book = items bytes })
-  as-it-was p o = record { good = record { many = k; made = made }; is = refl }
+  pub as-it-was : (p : Phase) (o : OutgoingNumber) (market : Market) → Comes date (deskOf p o market b bytes) (record { phase = phaseOf p; table = lastOf (b .table); book = items bytes })
+  as-it-was p o market = record { good = record { many = k; made = made }; is = refl }
 
   pub size-is : size (items bytes) ≡ b .length
   size-is = ap size (made-items made) ∙ made-size made
@@ -68,23 +69,23 @@ module _ {date k : ℕ} {b : Book} {bytes : List ℕ} (made : Made date k b byte
 
   -- ---- the session's end
 
-  unmarked : (p : Phase) (o : OutgoingNumber) (room : ℕ) → roomless b room 16 ≡ true → Comes date (deskAfter (endedBy (record { phase = p; outgoing = o; book = b }) room) room (closeBuffer b (lent room bytes)) bytes)
+  unmarked : (p : Phase) (o : OutgoingNumber) (market : Market) (room : ℕ) → roomless b room 16 ≡ true → Comes date (deskAfter (endedBy (record { phase = p; outgoing = o; market = market; book = b }) room) room (closeBuffer b (lent room bytes)) bytes)
       (ends (capOf room) (record { phase = phaseOf p; table = lastOf (b .table); book = items bytes }))
   unfolding endedBy closeOf closeBuffer
-  unmarked p o room e =
+  unmarked p o market room e =
       let l : roomless b (length (lent room bytes)) 16 ≡ true = ap (λ (n : ℕ). roomless b n 16) (lent-long room bytes) ∙ e in
       let f : leb (size (items bytes) + 16) (capOf room) ≡ false = negated (leb (size (items bytes) + 16) (capOf room)) (sym (room-as room 16) ∙ e) in
-      rw (l, e) (comes-as (left-alone Closed o room)
+      rw (l, e) (comes-as (left-alone Closed o market room)
       (record { good = record { many = k; made = made }; is = ap (λ (q : Bool). record { phase = closed; table = lastOf (b .table); book = withMark q (items bytes) }) (sym f) }))
     where
       negated : (q : Bool) → not q ≡ true → q ≡ false
       negated false h = refl
       negated true h = absurd (true≢false (sym h))
 
-  marked-too : (p : Phase) (o : OutgoingNumber) (room : ℕ) → roomless b room 16 ≡ false → Comes date (deskAfter (endedBy (record { phase = p; outgoing = o; book = b }) room) room (closeBuffer b (lent room bytes)) bytes)
+  marked-too : (p : Phase) (o : OutgoingNumber) (market : Market) (room : ℕ) → roomless b room 16 ≡ false → Comes date (deskAfter (endedBy (record { phase = p; outgoing = o; market = market; book = b }) room) room (closeBuffer b (lent room bytes)) bytes)
       (ends (capOf room) (record { phase = phaseOf p; table = lastOf (b .table); book = items bytes }))
   unfolding endedBy closeOf closeBuffer
-  marked-too p o room e =
+  marked-too p o market room e =
       let x = markBytes (b .date) (b .count) (b .length - b .last) in
       let l : roomless b (length (lent room bytes)) 16 ≡ false = ap (λ (n : ℕ). roomless b n 16) (lent-long room bytes) ∙ e in
       let f : leb (size (items bytes) + 16) (capOf room) ≡ true = negated (leb (size (items bytes) + 16) (capOf room)) (sym (room-as room 16) ∙ e) in
@@ -96,27 +97,27 @@ module _ {date k : ℕ} {b : Book} {bytes : List ℕ} (made : Made date k b byte
       let c : b .count ≡ length (messages (items bytes)) = made-counts made ∙ ap (λ (y : List Item). length (messages y)) (sym (made-items made)) in
       let i : items (bytes ++ x) ≡ items bytes ++ mark (length (messages (items bytes))) ∷ [] =
       made-items m ∙ ap₂ (λ (y : List Item) (j : ℕ). y ++ mark j ∷ []) (sym (made-items made)) c in
-      rw (l, e) (comes-as (ap (deskOf Closed o (marked b)) g)
+      rw (l, e) (comes-as (ap (deskOf Closed o market (marked b)) g)
       (record { good = record { many = suc k; made = m }; is = ap (λ (y : List Item). record { phase = closed; table = lastOf (b .table); book = y }) i ∙ ap (λ (q : Bool). record { phase = closed; table = lastOf (b .table); book = withMark q (items bytes) }) (sym f) }))
     where
       negated : (q : Bool) → not q ≡ false → q ≡ true
       negated true h = refl
       negated false h = absurd (true≢false h)
 
-  pub ends-as : (p : Phase) (o : OutgoingNumber) (room : ℕ) → Comes date (deskAfter (endedBy (record { phase = p; outgoing = o; book = b }) room) room (closeBuffer b (lent room bytes)) bytes)
+  pub ends-as : (p : Phase) (o : OutgoingNumber) (market : Market) (room : ℕ) → Comes date (deskAfter (endedBy (record { phase = p; outgoing = o; market = market; book = b }) room) room (closeBuffer b (lent room bytes)) bytes)
       (ends (capOf room) (record { phase = phaseOf p; table = lastOf (b .table); book = items bytes }))
-  ends-as p o room = by (roomless b room 16) refl
+  ends-as p o market room = by (roomless b room 16) refl
     where
-      by : (q : Bool) → roomless b room 16 ≡ q → Comes date (deskAfter (endedBy (record { phase = p; outgoing = o; book = b }) room) room (closeBuffer b (lent room bytes)) bytes)
+      by : (q : Bool) → roomless b room 16 ≡ q → Comes date (deskAfter (endedBy (record { phase = p; outgoing = o; market = market; book = b }) room) room (closeBuffer b (lent room bytes)) bytes)
           (ends (capOf room) (record { phase = phaseOf p; table = lastOf (b .table); book = items bytes }))
-      by true e = unmarked p o room e
-      by false e = marked-too p o room e
+      by true e = unmarked p o market room e
+      by false e = marked-too p o market room e
 
   -- ---- a message of the line that is the next of its unit, with room
 
-  pub books-as : (p : Phase) (o : OutgoingNumber) (room : ℕ) (s : List ℕ) → framed s ≡ s → appendRefusal b room s ≡ 0 → length bytes + length s ≤ room
-      → deskAfter (record { phase = p; outgoing = o; book = appendedBy b s }) room (patched (lent room bytes) (b .length) s) bytes ≡ deskOf p o (appendedBy b s) (bytes ++ s)
+  pub books-as : (p : Phase) (o : OutgoingNumber) (market : Market) (room : ℕ) (s : List ℕ) → framed s ≡ s → appendRefusal b room s ≡ 0 → length bytes + length s ≤ room
+      → deskAfter (record { phase = p; outgoing = o; market = market; book = appendedBy b s }) room (patched (lent room bytes) (b .length) s) bytes ≡ deskOf p o market (appendedBy b s) (bytes ++ s)
   unfolding appendedBy
-  books-as p o room s w z h =
+  books-as p o market room s w z h =
       let n : b .length + length s ≡ length bytes + length s = omega (arith, at-end) in
-      ap (deskOf p o (appendedBy b s)) (ap₂ (λ (i j : ℕ). kept i room (patched (lent room bytes) j s) bytes) n at-end ∙ kept-more room bytes s h)
+      ap (deskOf p o market (appendedBy b s)) (ap₂ (λ (i j : ℕ). kept i room (patched (lent room bytes) j s) bytes) n at-end ∙ kept-more room bytes s h)

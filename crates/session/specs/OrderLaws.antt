@@ -10,7 +10,7 @@ use lib.Seq.{getD-take, length-take-le}
 use borrow.Author.Tests.{eq-eqb, ne-eqb, eqb-false, lt-ltb, le-ltb, ltb-false}
 use Rattle.numbers.specs.Numbers.{bytesOf, patched, putBuffer}
 use Rattle.numbers.specs.NumberLaws.{put-stores}
-use Rattle.orders.specs.Shapes as orderTypes
+use Rattle.orders.specs.Markets.{ofMarket, onWire}
 use Rattle.orders.specs.declared.Record.{Record}
 use Rattle.orders.specs.Orders as orders
 use Rattle.order_records.specs.Records.{recordAt}
@@ -73,11 +73,11 @@ module _ (s : Session) (given : List ℕ) where
       unfolding gateRefusal
       short h = rw (l, ne-eqb (s .outgoing .0) 4294967295 u, lt-ltb (length given) recordSize h)
 
-      pub no-order : recordSize ≤ length given → orderTypes.ofMember (getD given 0 0) ≡ false → 4 ≡ gateRefusal s given
+      pub no-order : recordSize ≤ length given → ofMarket (s .market) (getD given 0 0) ≡ false → 4 ≡ gateRefusal s given
       unfolding gateRefusal
       no-order h e = rw (l, ne-eqb (s .outgoing .0) 4294967295 u, le-ltb (length given) recordSize h, e)
 
-      pub an-order : recordSize ≤ length given → orderTypes.ofMember (getD given 0 0) ≡ true → 0 ≡ gateRefusal s given
+      pub an-order : recordSize ≤ length given → ofMarket (s .market) (getD given 0 0) ≡ true → 0 ≡ gateRefusal s given
       unfolding gateRefusal
       an-order h e = rw (l, ne-eqb (s .outgoing .0) 4294967295 u, le-ltb (length given) recordSize h, e)
 
@@ -86,13 +86,13 @@ pub record Admitted (s : Session) (given : List ℕ) : Type 0 where
   pub live : isLive (s .phase) ≡ true
   pub unused : s .outgoing .0 ≡ 4294967295 → ⊥
   pub long : recordSize ≤ length given
-  pub order : orderTypes.ofMember (getD given 0 0) ≡ true
+  pub order : ofMarket (s .market) (getD given 0 0) ≡ true
 
 pub admitted : (s : Session) (given : List ℕ) → gateRefusal s given ≡ 0 → Admitted s given
 unfolding gateRefusal
-admitted s given z = by (isLive (s .phase)) refl (eqb (s .outgoing .0) 4294967295) refl (ltb (length given) recordSize) refl (orderTypes.ofMember (getD given 0 0)) refl z
+admitted s given z = by (isLive (s .phase)) refl (eqb (s .outgoing .0) 4294967295) refl (ltb (length given) recordSize) refl (ofMarket (s .market) (getD given 0 0)) refl z
   where
-    by : (p : Bool) → isLive (s .phase) ≡ p → (q : Bool) → eqb (s .outgoing .0) 4294967295 ≡ q → (r : Bool) → ltb (length given) recordSize ≡ r → (t : Bool) → orderTypes.ofMember (getD given 0 0) ≡ t
+    by : (p : Bool) → isLive (s .phase) ≡ p → (q : Bool) → eqb (s .outgoing .0) 4294967295 ≡ q → (r : Bool) → ltb (length given) recordSize ≡ r → (t : Bool) → ofMarket (s .market) (getD given 0 0) ≡ t
         → _≡_ {A = ℕ} (cond p (cond q 20 (cond r 13 (cond t 0 4))) 16) 0 → Admitted s given
     by true p false q false r true t z = record { live = p; unused = eqb-false (s .outgoing .0) 4294967295 q; long = ltb-false (length given) recordSize r; order = t }
     by true p false q false r false t z = absurd (omega (arith, z))
@@ -106,7 +106,7 @@ module _ (s : Session) (given : List ℕ) where
   -- a refusal before the writer's is the call's
   gate-tells : (room : ℕ) → (gateRefusal s given ≡ 0 → ⊥) → gateRefusal s given ≡ orderRefusal s given room
   unfolding gateRefusal orderRefusal
-  gate-tells room k = by (isLive (s .phase)) (eqb (s .outgoing .0) 4294967295) (ltb (length given) recordSize) (orderTypes.ofMember (getD given 0 0)) k
+  gate-tells room k = by (isLive (s .phase)) (eqb (s .outgoing .0) 4294967295) (ltb (length given) recordSize) (ofMarket (s .market) (getD given 0 0)) k
     where
       by : (p q r t : Bool) → (_≡_ {A = ℕ} (cond p (cond q 20 (cond r 13 (cond t 0 4))) 16) 0 → ⊥)
           → cond p (cond q 20 (cond r 13 (cond t 0 4))) 16 ≡ cond p (cond q 20 (cond r 13 (cond t (orders.writeRefusal (numbered given (nextOutgoing s)) room) 4))) 16
@@ -123,7 +123,7 @@ module _ (s : Session) (given : List ℕ) where
 
 -- the state after an order that went out
 abbrev sentBy : Session → Session
-sentBy s = record { phase = s .phase; outgoing = record { 0 = nextOutgoing s }; book = s .book }
+sentBy s = record { phase = s .phase; outgoing = record { 0 = nextOutgoing s }; market = s .market; book = s .book }
 
 -- what an order answers
 abbrev pub Orders : Session → List ℕ → List ℕ → Answer → List ℕ → Type 0
@@ -142,7 +142,7 @@ module _ (s : Session) (given out : List ℕ) where
 
     out-is : to ≡ orderOut s given out
     unfolding orderOut orders.writeBuffer
-    out-is = w .1 ∙ ap (λ (x : ℕ). cond (eqb x 0) (patched out 0 (orders.orderBytes (numbered given (nextOutgoing s)))) out) (writer-tells s given (length out) a)
+    out-is = w .1 ∙ ap (λ (x : ℕ). cond (eqb x 0) (patched out 0 (onWire (orders.orderBytes (numbered given (nextOutgoing s))))) out) (writer-tells s given (length out) a)
 
     pub writer-stops : (n ≡ 0 → ⊥) → Orders s given out (answer n s) to
     unfolding orderOf

@@ -53,9 +53,9 @@ module _ (s : Session) (xs : List ℕ) where
 
 module _ (s : Session) (status received : ℕ) (xs : List ℕ) where
   replays : Session
-  replays = record { phase = Replaying; outgoing = record { 0 = received }; book = s .book }
+  replays = record { phase = Replaying; outgoing = record { 0 = received }; market = s .market; book = s .book }
 
-  pub allowed : status ≡ 65 → (record { phase = Replaying; outgoing = record { 0 = received }; book = s .book } ≡ respondedBy s status received (length xs)) × (xs ≡ respondedBuffer s status xs)
+  pub allowed : status ≡ 65 → (record { phase = Replaying; outgoing = record { 0 = received }; market = s .market; book = s .book } ≡ respondedBy s status received (length xs)) × (xs ≡ respondedBuffer s status xs)
   unfolding respondedBy respondedBuffer replays
   allowed e = (sym (ap (λ (b : Bool). pickSession b replays (endedBy s (length xs))) (eq-eqb status 65 e)), rw (eq-eqb status 65 e))
 

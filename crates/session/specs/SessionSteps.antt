@@ -67,7 +67,7 @@ module _ (s : Session) (xs m : List ℕ) (z : readRefusal 1 m ≡ 0) (f : framed
       unfolding passes
       response w = heard Asked h refl (rw t) (rw t) (hears-response s xs m t (w .0) (w .1))
 
-      pub asked-accepted : statusIn m ≡ 65 → Step s xs m (answer 0 (record { phase = Replaying; outgoing = record { 0 = receivedIn m }; book = s .book })) xs
+      pub asked-accepted : statusIn m ≡ 65 → Step s xs m (answer 0 (record { phase = Replaying; outgoing = record { 0 = receivedIn m }; market = s .market; book = s .book })) xs
       asked-accepted e = response (allowed s (statusIn m) (receivedIn m) xs e)
 
       pub asked-denied : (statusIn m ≡ 65 → ⊥) → Step s xs m (answer 0 (endedBy s (length xs))) (closeBuffer (s .book) xs)

@@ -12,6 +12,8 @@ use Rattle.block.specs.Slots.{zeros}
 use Rattle.orders.specs.Shapes as orderTypes
 use Rattle.orders.specs.declared.Record as orderRecords
 use Rattle.orders.specs.Orders as orders
+use Rattle.orders.specs.Markets.{ofMarket, onWire}
+use Rattle.orders.specs.declared.Market.{Market}
 use Rattle.order_records.specs.Records.{recordAt}
 use Rattle.session_messages.specs.declared.Record as sessionRecords
 use Rattle.session_messages.specs.Sessions as logins
@@ -41,16 +43,16 @@ answer n s = record { refusal = n; session = s }
 abbrev pub answered : ℕ → Session → Session → Answer
 answered n after before = answer n (pickSession (eqb n 0) after before)
 
--- 01, The day book: after opening and after a restart the session is closed; no order has gone out yet
-abbrev pub closedWith : Book → Session
-closedWith b = record { phase = Closed; outgoing = record { 0 = 0 }; book = b }
+-- 01, The day book: after opening and after a restart the session is closed; no order has gone out yet. 02, request 4: each of the two names its market
+abbrev pub closedWith : Market → Book → Session
+closedWith market b = record { phase = Closed; outgoing = record { 0 = 0 }; market = market; book = b }
 
 -- the same session in another phase, and with another book
 abbrev pub inPhase : Phase → Session → Session
-inPhase p s = record { phase = p; outgoing = s .outgoing; book = s .book }
+inPhase p s = record { phase = p; outgoing = s .outgoing; market = s .market; book = s .book }
 
 abbrev pub withBook : Session → Book → Session
-withBook s b = record { phase = s .phase; outgoing = s .outgoing; book = b }
+withBook s b = record { phase = s .phase; outgoing = s .outgoing; market = s .market; book = b }
 
 -- ---- the phases
 
@@ -92,7 +94,7 @@ passes Live message = orderTypes.ofVenue message || (eqb message 0x09 || eqb mes
 
 -- 01, The day book: closed, with a mark in the book if there is room for it
 unfoldable pub endedBy : Session → ℕ → Session
-endedBy s room = record { phase = Closed; outgoing = s .outgoing; book = closeOf (s .book) room }
+endedBy s room = record { phase = Closed; outgoing = s .outgoing; market = s .market; book = closeOf (s .book) room }
 
 -- a break: it ends the session; while closed it changes nothing
 unfoldable pub brokenBy : Session → ℕ → Session
@@ -106,7 +108,7 @@ brokenBuffer s xs = cond (isClosed (s .phase)) xs (closeBuffer (s .book) xs)
 
 unfoldable pub respondedBy : Session → ℕ → ℕ → ℕ → Session
 respondedBy s status received room =
-    pickSession (eqb status 65) (record { phase = Replaying; outgoing = record { 0 = received }; book = s .book }) (endedBy s room)
+    pickSession (eqb status 65) (record { phase = Replaying; outgoing = record { 0 = received }; market = s .market; book = s .book }) (endedBy s room)
 
 -- the book's buffer after it
 unfoldable pub respondedBuffer : Session → ℕ → List ℕ → List ℕ
@@ -262,21 +264,21 @@ numbered given n =
 abbrev pub nextOutgoing : Session → ℕ
 nextOutgoing s = s .outgoing .0 + 1
 
--- 01, going out: 16 unless live; 20; 13 if the record is under `recordSize` bytes; 4 if it is not an order's; then the writer's
+-- 01, going out: 16 unless live; 20; 13 if the record is under `recordSize` bytes; 4 if it is not an order of its market; then the writer's
 unfoldable pub orderRefusal : Session → List ℕ → ℕ → ℕ
 orderRefusal s given room =
     cond (isLive (s .phase))
     (cond (eqb (s .outgoing .0) 4294967295) numbersUsedUp
     (cond (ltb (length given) recordSize) noRoom
-    (cond (orderTypes.ofMember (getD given 0 0)) (orders.writeRefusal (numbered given (nextOutgoing s)) room)
+    (cond (ofMarket (s .market) (getD given 0 0)) (orders.writeRefusal (numbered given (nextOutgoing s)) room)
     unknownType)))
     outOfPhase
 
 -- the number is used up only by an order that was written
 unfoldable pub orderOf : Session → List ℕ → ℕ → Answer
 orderOf s given room =
-    answered (orderRefusal s given room) (record { phase = s .phase; outgoing = record { 0 = nextOutgoing s }; book = s .book }) s
+    answered (orderRefusal s given room) (record { phase = s .phase; outgoing = record { 0 = nextOutgoing s }; market = s .market; book = s .book }) s
 
--- the buffer that it is written into
+-- the buffer that it is written into, with the type that its message has on the wire
 unfoldable pub orderOut : Session → List ℕ → List ℕ → List ℕ
-orderOut s given out = cond (eqb (orderRefusal s given (length out)) 0) (patched out 0 (orders.orderBytes (numbered given (nextOutgoing s)))) out
+orderOut s given out = cond (eqb (orderRefusal s given (length out)) 0) (patched out 0 (onWire (orders.orderBytes (numbered given (nextOutgoing s))))) out

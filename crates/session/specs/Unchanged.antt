@@ -73,7 +73,7 @@ refused-order-uses-no-number s given room n = ap (λ (t : Session). t .outgoing)
 pub sent-order-uses-one : (s : Session) (given : List ℕ) (room : ℕ) → orderOf s given room .refusal ≡ 0 → orderOf s given room .session .outgoing .0 ≡ s .outgoing .0 + 1
 unfolding orderOf
 sent-order-uses-one s given room z =
-    ap (λ (b : Bool). pickSession b (record { phase = s .phase; outgoing = record { 0 = nextOutgoing s }; book = s .book }) s .outgoing .0) (eq-eqb (orderRefusal s given room) 0 z)
+    ap (λ (b : Bool). pickSession b (record { phase = s .phase; outgoing = record { 0 = nextOutgoing s }; market = s .market; book = s .book }) s .outgoing .0) (eq-eqb (orderRefusal s given room) 0 z)
 
 fifteen : {n : ℕ} → n ≡ 15 → n ≡ 0 → ⊥
 fifteen e z = omega (arith, e, z)
@@ -109,11 +109,11 @@ pub order-keeps-book : (s : Session) (given : List ℕ) (room : ℕ) → (orderO
 unfolding orderOf
 order-keeps-book s given room = (by (eqb (orderRefusal s given room) 0), in-phase (eqb (orderRefusal s given room) 0))
   where
-    by : (b : Bool) → pickSession b (record { phase = s .phase; outgoing = record { 0 = nextOutgoing s }; book = s .book }) s .book ≡ s .book
+    by : (b : Bool) → pickSession b (record { phase = s .phase; outgoing = record { 0 = nextOutgoing s }; market = s .market; book = s .book }) s .book ≡ s .book
     by true = refl
     by false = refl
 
-    in-phase : (b : Bool) → pickSession b (record { phase = s .phase; outgoing = record { 0 = nextOutgoing s }; book = s .book }) s .phase ≡ s .phase
+    in-phase : (b : Bool) → pickSession b (record { phase = s .phase; outgoing = record { 0 = nextOutgoing s }; market = s .market; book = s .book }) s .phase ≡ s .phase
     in-phase true = refl
     in-phase false = refl
 

@@ -16,6 +16,7 @@ ghost use Rattle.session.specs.Sessions.{closedWith, inPhase, isClosed, 
 ghost use Rattle.session.specs.Stages.{bookedAs, heardBy, heardBuffer, afterReading, afterBuffer, gateRefusal};
 ghost use Rattle.block.specs.Sizes.{recordSize};
 use book::Book;
+use orders::Market;
 use session_logins::Bitfields;
 use session_logins::Choice;
 use table::OutgoingNumber;
@@ -28,10 +29,11 @@ pub enum Phase {
     Live,
 }
 
-// The phase, the number of the last order that went out, and the book with its table.
+// The phase, the number of the last order that went out, the market that it serves, and the book with its table.
 pub struct Session {
     pub phase: Phase,
     pub outgoing: OutgoingNumber,
+    pub market: Market,
     pub book: Book,
 }
 
@@ -89,13 +91,14 @@ fn received_with(a: Answer, m: &[u8]) -> Received
     }
 }
 
-// The session after opening and after a restart.
-pub fn closed_with(b: Book) -> Session
-    ensures { λ r. ⌜ r ≡ closedWith b ⌝ }
+// The session after opening and after a restart, each of which names the market.
+pub fn closed_with(market: Market, b: Book) -> Session
+    ensures { λ r. ⌜ r ≡ closedWith market b ⌝ }
 {
     Session {
         phase: Phase::Closed,
         outgoing: OutgoingNumber(0),
+        market: market,
         book: b,
     }
 }
@@ -139,10 +142,12 @@ impl Session {
         ensures { λ r. ⌜ r ≡ inPhase p self ⌝ }
     {
         let outgoing = self.outgoing;
+        let market = self.market;
         let book = self.book;
         Session {
             phase: p,
             outgoing: outgoing,
+            market: market,
             book: book,
         }
     }
@@ -152,11 +157,13 @@ impl Session {
         ensures { λ r. ⌜ (r ≡ endedBy self (length (now (buffer .entry)))) × (now (buffer .exit) ≡ closeBuffer (self .book) (now (buffer .entry))) ⌝ }
     {
         let outgoing = self.outgoing;
+        let market = self.market;
         let book = self.book;
         let b = book.close(buffer);
         Session {
             phase: Phase::Closed,
             outgoing: outgoing,
+            market: market,
             book: b,
         }
     }
@@ -177,10 +184,12 @@ impl Session {
         ensures { λ r. ⌜ (r ≡ respondedBy self status (received .0) (length (now (buffer .entry)))) × (now (buffer .exit) ≡ respondedBuffer self status (now (buffer .entry))) ⌝ }
     {
         if status == b'A' {
+            let market = self.market;
             let book = self.book;
             return Session {
                 phase: Phase::Replaying,
                 outgoing: received,
+                market: market,
                 book: book,
             };
         }
@@ -193,12 +202,14 @@ impl Session {
     {
         let phase = self.phase;
         let outgoing = self.outgoing;
+        let market = self.market;
         let b = appended.book;
         Answer {
             refusal: appended.refusal,
             session: Session {
                 phase: phase,
                 outgoing: outgoing,
+                market: market,
                 book: b,
             },
         }
@@ -367,11 +378,12 @@ impl Session {
         }
     }
 
-    // The refusals of an order before the writer's: 16 unless live, 20, 13 for a record under RECORD bytes, 4 for one that is not an order's.
+    // The refusals of an order before the writer's: 16 unless live, 20, 13 for a record under RECORD bytes, 4 for one that is not an order of its market.
     fn gate_refusal(self, given: &[u8]) -> u32
         ensures { λ r. ⌜ r ≡ gateRefusal self (now (given .entry)) ⌝ }
     {
         let phase = self.phase;
+        let market = self.market;
         if !phases::is_live(phase) {
             return refusals::OUT_OF_PHASE;
         }
@@ -381,7 +393,7 @@ impl Session {
         if given.len() < block::RECORD {
             return refusals::NO_ROOM;
         }
-        if !orders::of_member(given[0]) {
+        if !orders::of_market(market, given[0]) {
             return refusals::UNKNOWN_TYPE;
         }
         0
@@ -408,12 +420,14 @@ impl Session {
             };
         }
         let phase = self.phase;
+        let market = self.market;
         let book = self.book;
         Answer {
             refusal: 0,
             session: Session {
                 phase: phase,
                 outgoing: number,
+                market: market,
                 book: book,
             },
         }

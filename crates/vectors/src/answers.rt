@@ -274,6 +274,7 @@ fn of_kind(letter: u8, s: &[u8], never_blank: bool) -> bool {
         b'B' => agreed(Kind::Binary, s, never_blank),
         b'P' => agreed(Kind::Price, s, never_blank),
         b'F' => agreed(Kind::FilledText, s, never_blank),
+        b'D' => agreed(Kind::Day, s, never_blank),
         _ => return false,
     }
     true

@@ -79,7 +79,7 @@ step-good room w g = by (w .venue .running) refl
 
 use-good : (u : Use) (w : Bench) → GoodV w → GoodV (used u w)
 use-good (call (day.offers room b)) w g = adds-good room b w g
-use-good (call (day.hears b)) w g = hears-good b w g
+use-good (call (day.hears market b)) w g = hears-good market b w g
 use-good (call (day.steps room)) w g = step-good room w g
 use-good (login room b) w g = login-good room b w g
 use-good breaks w g = stop-good w g

@@ -5,6 +5,7 @@ pub mod LoginLaws
 pub mod VenueLaws
 pub mod Responses
 pub mod Thresholds
+pub mod Markets
 pub mod Readable
 pub mod Logs
 pub mod Logged

@@ -16,7 +16,7 @@ use Rattle.orders.specs.Shapes.{sequenced, unsequenced}
 use Rattle.orders.specs.Orders as orders
 use Rattle.session_messages.specs.Sessions as sessions
 use Rattle.orders.specs.OrderLaws.{either}
-use Rattle.messages.specs.Messages.{isSession, carries, ownRefusal, readRefusal}
+use Rattle.messages.specs.Messages.{isSession, carries, heard, ownRefusal, readRefusal}
 use Rattle.messages.specs.MessageLaws.{own-refusal}
 use Rattle.book.specs.Books.{messageRefusal}
 use Rattle.book.specs.BookLaws.{frames}
@@ -114,7 +114,7 @@ pub read-frames : (direction : ℕ) (b : Bytes) → readRefusal direction b ≡ 
 unfolding readRefusal
 read-frames direction b z = by (eqb (frameRefusal b) 0) refl z
   where
-    by : (a : Bool) → eqb (frameRefusal b) 0 ≡ a → cond a (cond (carries direction (typeOf (framed b))) (ownRefusal (framed b)) 4) (frameRefusal b) ≡ 0 → frameRefusal b ≡ 0
+    by : (a : Bool) → eqb (frameRefusal b) 0 ≡ a → cond a (cond (carries direction (typeOf (heard direction b))) (ownRefusal (heard direction b)) 4) (frameRefusal b) ≡ 0 → frameRefusal b ≡ 0
     by true e y = eqb-true (frameRefusal b) 0 e
     by false e y = y
 

@@ -41,6 +41,12 @@ fn each_call() {
     check("filled B 00000000", "0");
     check("step - 0 0", "5 -");
     check("step - 1 0", "13 -");
+    check("kind D EFDB3201", "1");
+    check("filled D EFDB3201", "1");
+    check("kind D 95DB3201", "0");
+    check("kind D 00000000", "0");
+    check("kind D -", "0");
+    check("filled D EFDB320100", "0");
     check("day 20000229", "0");
     check("day 20010229", "19");
     check("silent 5000 0", "1");
@@ -48,7 +54,7 @@ fn each_call() {
     for (type_byte, told) in [(0x25, 1), (0x2C, 1), (0x26, 2), (0x29, 2), (0x2B, 2)] {
         check(&format!("told {}", type_byte), &told.to_string());
     }
-    for other in [0, 0x08, 0x24, 0x27, 0x36, 0x37, 0x38, 0x48, 255] {
+    for other in [0, 0x08, 0x24, 0x27, 0x36, 0x37, 0x38, 0x48, 0xB8, 255] {
         check(&format!("told {}", other), "0");
     }
 }
@@ -60,7 +66,8 @@ fn read_and_write() {
     let record = format!("390064000000414243313233{}", "00".repeat(279));
     check(&format!("read 0 {}", cancel), &format!("0 {}", record));
     check(&format!("read 1 {}", cancel), "4");
-    check(&format!("read 2 {}", cancel), "4");
+    check(&format!("read 2 {}", cancel), &format!("0 {}", record));
+    check(&format!("read 3 {}", cancel), "4");
     check(&format!("read 255 {}EE", &cancel[..60]), "4");
     check(&format!("read 255 {}", &cancel[..60]), "3");
     check(&format!("read 0 {}", &cancel[..60]), "3");
@@ -103,6 +110,61 @@ fn read_and_write() {
     check("write 9 39 0102", "4 0102");
     check("write 9 - 0102", "13 0102");
     check("write 0 - -", "13 -");
+}
+
+/// Document 002's New Order, its record by the tables of README.md, and back.
+#[test]
+fn options_order() {
+    let order = format!(
+        "BABA5900380001000000414243313233{}310A0000000404C101177017000000000000\
+         4D534654000000004352000000{}{}EFDB320198AB020000000000314F",
+        "00".repeat(14),
+        "44454647",
+        "00".repeat(12)
+    );
+    assert_eq!(order.len(), 2 * 91);
+    let record = format!(
+        "B80001000000414243313233{}310A000000{}0404C10117{}{}7017000000000000{}\
+         4D534654000000004352000000{}{}EFDB320198AB020000000000314F{}",
+        "00".repeat(14),
+        "00".repeat(65),
+        "00".repeat(15),
+        "00".repeat(8),
+        "00".repeat(11),
+        "44454647",
+        "00".repeat(12),
+        "00".repeat(105)
+    );
+    assert_eq!(record.len(), 2 * 291);
+    check(&format!("read 2 {}", order), &format!("0 {}", record));
+    check(&format!("read 0 {}", order), "8@39");
+    check(&format!("read 1 {}", order), "4");
+    check(&format!("read 3 {}", order), "4");
+    let buffer = "EE".repeat(91);
+    check(
+        &format!("write 2 {} {}", record, buffer),
+        &format!("0 {}", order),
+    );
+    check(&format!("write 2 {} EE", record), "13 EE");
+    check(&format!("write 0 {} EE", record), "4 EE");
+    check(&format!("write 1 {} EE", record), "4 EE");
+    check("write 2 B8 EE", "13 EE");
+    check("write 0 B8 EE", "4 EE");
+    check("write 2 38 EE", "4 EE");
+    check("write 0 38 EE", "13 EE");
+    for (maturity, answer) in [
+        ("95DB3201", "10@77"),
+        ("00000000", "10@77"),
+        ("A56F4001", "10@77"),
+    ] {
+        let bad = order.replace("EFDB3201", maturity);
+        check(&format!("read 2 {}", bad), answer);
+        let bad = record.replace("EFDB3201", maturity);
+        check(&format!("write 2 {} EE", bad), &format!("{} EE", answer));
+    }
+    let leap = order.replace("EFDB3201", "65D73401");
+    let answer = record.replace("EFDB3201", "65D73401");
+    check(&format!("read 2 {}", leap), &format!("0 {}", answer));
 }
 
 /// A refusal that has a place is told with it: read into a buffer, written and appended too.

@@ -50,11 +50,11 @@ fn small_day() {
     check(&[
         ("m-book", &format!("- {}", zeros(128))),
         ("v-book", &format!("- {}", zeros(128))),
-        ("m-open 20250819 200", "0 0 0 20250819 16 0 0 0"),
+        ("m-open 20250819 200 0", "0 0 0 0 20250819 16 0 0 0"),
         (&format!("v-log {} 100", message), "0 0 0 0 0 57 0 0 1"),
         (
             &login("2 0 0", 30),
-            &format!("0 1 0 20250819 16 0 0 0 {}FF", request),
+            &format!("0 1 0 0 20250819 16 0 0 0 {}FF", request),
         ),
         (
             &format!("v-login {} 239", request),
@@ -62,7 +62,7 @@ fn small_day() {
         ),
         (
             &format!("m-get {} 200", response),
-            "0 0 2 0 20250819 16 0 0 0",
+            "0 0 2 0 0 20250819 16 0 0 0",
         ),
         (
             "v-step 56 58",
@@ -74,49 +74,55 @@ fn small_day() {
         ),
         (
             &format!("m-get {} 200", rejected),
-            "0 2 2 0 20250819 16 0 0 0",
+            "0 2 2 0 0 20250819 16 0 0 0",
         ),
         (
             &format!("m-get {} 200", message),
-            "0 1 2 0 20250819 73 0 1 1",
+            "0 1 2 0 0 20250819 73 0 1 1",
         ),
         (
             &format!("m-get {} 200", message),
-            "14 0 2 0 20250819 73 0 1 1",
+            "14 0 2 0 0 20250819 73 0 1 1",
         ),
         ("v-step 57 10", "0 1 1 57 57 57 0 0 1 BABA0800130000000000"),
         (
             "v-step 57 10",
             &format!("0 1 1 57 57 57 0 0 1 {}", "FF".repeat(10)),
         ),
-        ("m-get BABA0800130000000000 0", "0 0 3 0 20250819 73 0 1 1"),
+        (
+            "m-get BABA0800130000000000 0",
+            "0 0 3 0 0 20250819 73 0 1 1",
+        ),
         (
             &format!("m-get {} 0", rejected),
-            "0 2 3 0 20250819 73 0 1 1",
+            "0 2 3 0 0 20250819 73 0 1 1",
         ),
         (
             &format!("m-message {} 200", rejected),
-            "4 3 0 20250819 73 0 1 1",
+            "4 3 0 0 20250819 73 0 1 1",
         ),
         (&format!("v-log {} 200", rejected), "4 1 1 57 57 57 0 0 1"),
         (
             &format!("m-order {} 31", record),
-            &format!("0 3 1 20250819 73 0 1 1 {}", order),
+            &format!("0 3 1 0 20250819 73 0 1 1 {}", order),
         ),
-        (&format!("v-order {}", order), "0 1 1 57 57 57 1 0 1"),
-        (&format!("v-order {}", order), "21 1 1 57 57 57 1 0 1"),
-        ("m-beat 10", "0 3 1 20250819 73 0 1 1 BABA0800030000000000"),
-        ("v-order BABA0800030000000000", "0 1 1 57 57 57 1 0 1"),
-        ("m-break 88", "0 1 20250819 73 0 1 1"),
+        (&format!("v-order 0 {}", order), "0 1 1 57 57 57 1 0 1"),
+        (&format!("v-order 0 {}", order), "21 1 1 57 57 57 1 0 1"),
+        (
+            "m-beat 10",
+            "0 3 1 0 20250819 73 0 1 1 BABA0800030000000000",
+        ),
+        ("v-order 0 BABA0800030000000000", "0 1 1 57 57 57 1 0 1"),
+        ("m-break 88", "0 1 0 20250819 73 0 1 1"),
         ("v-break", "0 0 0 0 57 1 0 1"),
-        ("m-beat 0", "16 0 1 20250819 73 0 1 1 -"),
+        ("m-beat 0", "16 0 1 0 20250819 73 0 1 1 -"),
         ("m-book", &format!("{}{} {}", MARK, message, table)),
         ("v-book", &format!("{} {}", message, table)),
-        ("m-restart 20250819 72", "0 0 0 20250819 16 0 0 0"),
-        ("m-restart 20250819 73", "0 0 0 20250819 73 0 1 1"),
-        ("m-restart 20250819 74", "18 0 0 20250819 73 0 1 1"),
+        ("m-restart 20250819 72 0", "0 0 0 0 20250819 16 0 0 0"),
+        ("m-restart 20250819 73 0", "0 0 0 0 20250819 73 0 1 1"),
+        ("m-restart 20250819 74 0", "18 0 0 0 20250819 73 0 1 1"),
         ("new", "0"),
-        ("m-restart 20250819 16", "18 0 0 0 0 0 0 0"),
+        ("m-restart 20250819 16 0", "18 0 0 0 0 0 0 0 0"),
     ]);
 }
 
@@ -137,7 +143,7 @@ fn places() {
     order[37] = 0xC9;
     record[143] = b'-';
     let zeros = zeros(128);
-    let state = "7 0 16 0 0";
+    let state = "7 0 0 16 0 0";
     check(&[
         (&format!("v-log {} 100", message), "10@18 0 0 0 0 0 0 0 0"),
         (&format!("v-login {} 0", request), "10@14 0 0 0 0 0 0 0 0 -"),
@@ -146,27 +152,33 @@ fn places() {
             "1 0 0 0 0 0 0 0",
         ),
         (
-            &format!("v-order {}", hex::write(&order)),
+            &format!("v-order 0 {}", hex::write(&order)),
             "8@37 1 0 0 0 0 0 0 0",
         ),
-        ("v-order BABA090003000000000000", "6@11 1 0 0 0 0 0 0 0"),
+        ("v-order 0 BABA090003000000000000", "6@11 1 0 0 0 0 0 0 0"),
         (
             &login("1 2 0", 0).replace(" 3030303154", " 303030312D"),
-            "10@14 0 0 0 0 0 0 0 -",
+            "10@14 0 0 0 0 0 0 0 0 -",
         ),
-        (&format!("m-state 3 {} {}", state, zeros), "3 7 0 16 0 0 0"),
-        (&format!("m-get {} 100", message), "10@18 0 3 7 0 16 0 0 0"),
+        (
+            &format!("m-state 3 {} {}", state, zeros),
+            "3 7 0 0 16 0 0 0",
+        ),
+        (
+            &format!("m-get {} 100", message),
+            "10@18 0 3 7 0 0 16 0 0 0",
+        ),
         (
             &format!("m-message {} 100", message),
-            "10@18 3 7 0 16 0 0 0",
+            "10@18 3 7 0 0 16 0 0 0",
         ),
         (
             &format!("m-response {} 100", response),
-            "10@11 3 7 0 16 0 0 0",
+            "10@11 3 7 0 0 16 0 0 0",
         ),
         (
             &format!("m-order {} 2", hex::write(&record)),
-            "10@47 3 7 0 16 0 0 0 FFFF",
+            "10@47 3 7 0 0 16 0 0 0 FFFF",
         ),
     ]);
 }
@@ -176,14 +188,17 @@ fn places() {
 fn states() {
     let full = "FF".repeat(128);
     let state =
-        |phase: &str, table: &str| format!("m-state {} 4294967295 1 2 3 4 {}", phase, table);
+        |phase: &str, table: &str| format!("m-state {} 4294967295 1 1 2 3 4 {}", phase, table);
     let sum = "137438953440";
     check(&[
-        (&state("3", &full), &format!("3 4294967295 1 2 3 4 {}", sum)),
+        (
+            &state("3", &full),
+            &format!("3 4294967295 1 1 2 3 4 {}", sum),
+        ),
         (&state("4", &full), "?"),
         (&state("0", &full[2..]), "?"),
         (&state("0", "-"), "?"),
-        ("m-break 100", &format!("0 4294967295 1 2 3 4 {}", sum)),
+        ("m-break 100", &format!("0 4294967295 1 1 2 3 4 {}", sum)),
         (
             &format!("v-state 1 1 4294967295 5 6 7 {} {}", full, zeros(128)),
             &format!("1 1 4294967295 5 6 7 {} 0", sum),
@@ -200,7 +215,12 @@ fn states() {
 fn logins() {
     let refused = |choice: &str, number: &str| {
         let answer = ask::answer(login(choice, 0).as_bytes());
-        assert_eq!(answer, format!("{} 0 0 0 0 0 0 0 -", number), "{}", choice);
+        assert_eq!(
+            answer,
+            format!("{} 0 0 0 0 0 0 0 0 -", number),
+            "{}",
+            choice
+        );
     };
     refused("0 2 255", "13");
     refused("2 2 255", "13");
@@ -219,10 +239,14 @@ fn outside_the_format() {
     for line in [
         "new ",
         "new 0",
-        "m-open 20250819",
-        "m-open 20250819 16385",
-        "m-restart 4294967296 0",
-        "m-restart 0 16385",
+        "m-open 20250819 0",
+        "m-open 20250819 16385 0",
+        "m-open 20250819 16 2",
+        "m-open 20250819 16 0 0",
+        "m-restart 4294967296 0 0",
+        "m-restart 0 16385 0",
+        "m-restart 0 16",
+        "m-restart 0 16 2",
         "m-get - 16385",
         "m-get -",
         "m-message - 16385",
@@ -242,10 +266,65 @@ fn outside_the_format() {
         "v-step 16385 0",
         "v-step 0 2101",
         "v-order",
+        "v-order -",
+        "v-order 2 -",
+        "v-order - 0",
         "v-break 0",
         "v-book -",
         "v-open 20250819 16",
     ] {
         check(&[(line, "?")]);
     }
+}
+
+/// A session keeps the market that its opening or its restart names; what is refused leaves it. Each market's
+/// session takes its own New Order.
+#[test]
+fn markets() {
+    let order = hex::write(&examples::options_order());
+    let record = hex::write(&crate::rules::read::message(2, &examples::options_order()).unwrap());
+    let common = hex::write(&crate::rules::read::message(2, &examples::new_order()).unwrap());
+    let of_equities = hex::write(&crate::rules::read::message(0, &examples::new_order()).unwrap());
+    let sent = order.replace("380001", "380002");
+    let zeros = zeros(128);
+    check(&[
+        ("m-open 20250819 16 1", "0 0 0 1 20250819 16 0 0 0"),
+        ("m-open 20250819 15 0", "13 0 0 1 20250819 16 0 0 0"),
+        ("m-restart 20250820 16 0", "17 0 0 1 20250819 16 0 0 0"),
+        ("m-restart 20250819 16 0", "0 0 0 0 20250819 16 0 0 0"),
+        ("m-open 20250832 16 1", "19 0 0 0 20250819 16 0 0 0"),
+        (
+            &format!("m-state 3 1 1 0 16 0 0 {}", zeros),
+            "3 1 1 0 16 0 0 0",
+        ),
+        (
+            &format!("m-order {} 91", record),
+            &format!("0 3 2 1 0 16 0 0 0 {}", sent),
+        ),
+        (
+            &format!("m-order {} 0", of_equities),
+            "4 3 2 1 0 16 0 0 0 -",
+        ),
+        (&format!("m-order {} 0", common), "13 3 2 1 0 16 0 0 0 -"),
+        ("m-break 100", "0 2 1 0 32 16 0 0"),
+        (
+            &format!("m-state 3 1 0 0 16 0 0 {}", zeros),
+            "3 1 0 0 16 0 0 0",
+        ),
+        (&format!("m-order {} 0", record), "4 3 1 0 0 16 0 0 0 -"),
+        (&format!("m-order {} 0", common), "4 3 1 0 0 16 0 0 0 -"),
+        (
+            &format!("m-order {} 0", of_equities),
+            "13 3 1 0 0 16 0 0 0 -",
+        ),
+        (
+            &format!("v-state 1 0 0 0 0 0 {} {}", zeros, zeros),
+            "1 0 0 0 0 0 0 0",
+        ),
+        (&format!("v-order 0 {}", sent), "8@39 1 0 0 0 0 0 0 0"),
+        (&format!("v-order 1 {}", sent), "0 1 0 0 0 0 2 0 0"),
+        ("v-order 1 BABA0800030000000000", "0 1 0 0 0 0 2 0 0"),
+        ("new", "0"),
+        ("m-break 0", "0 0 0 0 0 0 0 0"),
+    ]);
 }

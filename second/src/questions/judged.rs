@@ -62,11 +62,21 @@ fn total_of(message: &[u8]) -> usize {
 
 // Reading.
 
+/// The type that the record of a message has, by README.md.
+pub fn record_type(direction: u8, message: &[u8]) -> u8 {
+    match (direction, message[4]) {
+        (2, 0x38) => 0xB8,
+        (_, type_byte) => type_byte,
+    }
+}
+
+/// By the type that the record has.
 pub fn reads(asked: &Asked) -> Seen {
     let mut seen = Seen::new();
     for (direction, bytes) in asked.iter().filter(|(_, bytes)| bytes.len() > 4) {
         let answer = refusal(read::message(*direction, bytes));
-        *seen.entry((bytes[4], answer)).or_default() += 1;
+        let record_type = record_type(*direction, bytes);
+        *seen.entry((record_type, answer)).or_default() += 1;
     }
     seen
 }

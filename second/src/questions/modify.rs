@@ -5,7 +5,7 @@ use super::bitfields::sample::{Sample, MODIFY};
 use super::parts::{measure, Parts};
 use super::reading;
 use super::without_repeats;
-use super::writing;
+use super::writing::{self, both};
 use crate::examples;
 use crate::random::Random;
 use crate::rules::layout;
@@ -27,12 +27,6 @@ pub fn ask(lines: &mut Vec<String>) {
     pairs(&mut asked, &mut random);
     slots(&mut asked, &mut random);
     lines.extend(without_repeats(asked));
-}
-
-/// The message read, and its record written.
-fn both(lines: &mut Vec<String>, random: &mut Random, sample: &Sample) {
-    lines.push(reading::line(MEMBER, &sample.bytes()));
-    writing::alone(lines, random, sample);
 }
 
 /// Table 29's message up to its count byte, with other tails: as long as they are, longer and shorter.

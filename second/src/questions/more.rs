@@ -2,7 +2,7 @@
 
 use super::bitfields::sample::{
     Sample, ACKNOWLEDGMENT, CANCEL, CANCEL_REJECTED, EXECUTION, MODIFY, MODIFY_REJECTED, NEW_ORDER,
-    ORDER_REJECTED, PURGE,
+    NEW_ORDERS, OPTIONS, ORDER_REJECTED, PURGE,
 };
 use super::parts::Parts;
 use super::session::sample::{
@@ -14,8 +14,8 @@ use crate::random::Random;
 use crate::rules::layout;
 use std::collections::VecDeque;
 
-/// How often each type of the messages with bitfields comes, in sixteen.
-const TYPES: [usize; 16] = [
+/// How often each type of the messages with bitfields comes, in nineteen.
+const TYPES: [usize; 19] = [
     NEW_ORDER,
     NEW_ORDER,
     NEW_ORDER,
@@ -32,6 +32,9 @@ const TYPES: [usize; 16] = [
     MODIFY,
     PURGE,
     PURGE,
+    OPTIONS,
+    OPTIONS,
+    OPTIONS,
 ];
 
 /// How often each type of the session messages comes, in twelve.
@@ -66,12 +69,18 @@ impl More {
         more
     }
 
-    /// Every pair of a New Order's listed bits, with what is required besides.
+    /// Every pair of a New Order's listed bits, with what is required besides; of both markets.
     fn pairs(&mut self) {
-        let listed = layout::ALL[NEW_ORDER].listed;
+        for which in NEW_ORDERS {
+            self.pairs_of(which);
+        }
+    }
+
+    fn pairs_of(&mut self, which: usize) {
+        let listed = layout::ALL[which].listed;
         for (index, second) in listed.iter().enumerate() {
             for first in &listed[..index] {
-                let mut sample = Sample::any(&mut self.random, NEW_ORDER);
+                let mut sample = Sample::any(&mut self.random, which);
                 sample.clear();
                 sample.select(first.name);
                 sample.select(second.name);
@@ -140,30 +149,39 @@ mod tests {
         assert_eq!(lines(7), longer[..400]);
     }
 
+    /// The pairs of both: of 20 listed bits, and of 16.
+    const PAIRS: usize = 190 + 120;
+
     /// All are valid, and each pair is among the bits that one of them has.
     #[test]
     fn pairs_of_bits() {
-        let listed = layout::ALL[NEW_ORDER].listed;
-        let mut bitfields = Vec::new();
-        for line in More::new(1).take(190) {
-            assert!(line.starts_with("read 0 BABA"));
-            let answer = ask::answer(line.as_bytes());
-            let record = hex::read(answer.strip_prefix("0 ").unwrap()).unwrap();
-            bitfields.push(record[97..116].to_vec());
-        }
-        for (index, second) in listed.iter().enumerate() {
-            for first in &listed[..index] {
-                let least = bitfields
-                    .iter()
-                    .filter(|bits| first.selected(bits) && second.selected(bits))
-                    .map(|bits| bits.iter().map(|byte| byte.count_ones()).sum::<u32>())
-                    .min();
-                // The pair and at most three that are required.
-                assert!(least.unwrap() <= 5);
+        let mut lines = More::new(1).take(PAIRS);
+        for (which, start, count) in [
+            (NEW_ORDER, "read 0 BABA", 190),
+            (OPTIONS, "read 2 BABA", 120),
+        ] {
+            let listed = layout::ALL[which].listed;
+            let mut bitfields = Vec::new();
+            for line in lines.by_ref().take(count) {
+                assert!(line.starts_with(start));
+                let answer = ask::answer(line.as_bytes());
+                let record = hex::read(answer.strip_prefix("0 ").unwrap()).unwrap();
+                bitfields.push(record[97..116].to_vec());
             }
+            for (index, second) in listed.iter().enumerate() {
+                for first in &listed[..index] {
+                    let least = bitfields
+                        .iter()
+                        .filter(|bits| first.selected(bits) && second.selected(bits))
+                        .map(|bits| bits.iter().map(|byte| byte.count_ones()).sum::<u32>())
+                        .min();
+                    // The pair and at most three that are required.
+                    assert!(least.unwrap() <= 5);
+                }
+            }
+            assert_eq!(bitfields.len(), listed.len() * (listed.len() - 1) / 2);
         }
-        assert_eq!(bitfields.len(), 20 * 19 / 2);
-        assert!(!More::new(1).nth(191).unwrap().starts_with("read"));
+        assert!(!More::new(1).nth(PAIRS + 1).unwrap().starts_with("read"));
     }
 
     /// Each answer comes, and about a third of the questions are of the session, some of books.
@@ -173,7 +191,7 @@ mod tests {
         let mut types = BTreeSet::new();
         let mut of_the_session = 0;
         let mut of_books = 0;
-        for line in More::new(3).skip(190).take(12_000) {
+        for line in More::new(3).skip(PAIRS).take(12_000) {
             let answer = ask::answer(line.as_bytes());
             let words: Vec<&str> = line.split(' ').collect();
             let number = ask::number_of(answer.split(' ').next().unwrap());
@@ -215,7 +233,7 @@ mod tests {
             expected.insert(answer.to_string());
         }
         assert_eq!(seen, expected);
-        assert_eq!(types.len(), 15);
+        assert_eq!(types.len(), 16);
         assert!((1_600..2_200).contains(&of_books));
         assert!((3_200..4_400).contains(&of_the_session));
     }

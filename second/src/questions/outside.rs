@@ -126,6 +126,11 @@ const OUTSIDE: &[&str] = &[
     "kind f 41",
     "kind FT 41",
     "filled FF 41",
+    "kind d EFDB3201",
+    "kind DD EFDB3201",
+    "filled d EFDB3201",
+    "filled D EFDB320",
+    "kind D 20110319 -",
     // NUMBER: its characters and how many.
     "day -1",
     "day +1",

@@ -2,6 +2,10 @@
 //! reading and writing want of both.
 
 use crate::random::Random;
+use crate::rules::types::{MEMBER, VENUE};
+
+/// A number that is no direction.
+pub const NO_DIRECTION: u8 = 3;
 
 /// Put together by the places of README.md and not by the reader or the writer.
 pub trait Parts: Sized {
@@ -12,6 +16,11 @@ pub trait Parts: Sized {
 
     /// Type, unit and number.
     fn header(&self) -> (u8, u8, u32);
+
+    /// The type of the record, where it is not the message's.
+    fn record_type(&self) -> u8 {
+        self.header().0
+    }
 
     /// What follows the header.
     fn body(&self) -> Vec<u8>;
@@ -40,11 +49,25 @@ pub trait Parts: Sized {
 
     /// The first six bytes of the record.
     fn record_head(&self) -> Vec<u8> {
-        let (type_byte, unit, number) = self.header();
-        let mut head = vec![type_byte, unit];
+        let (_, unit, number) = self.header();
+        let mut head = vec![self.record_type(), unit];
         head.extend(number.to_le_bytes());
         head
     }
+}
+
+/// The direction that goes the other way, and has none of the same types.
+pub fn way_back(direction: u8) -> u8 {
+    match direction {
+        VENUE => MEMBER,
+        _ => VENUE,
+    }
+}
+
+/// The other directions, and numbers that are none.
+pub fn other_directions(own: u8) -> impl Iterator<Item = u8> {
+    let all = [0, 1, 2, NO_DIRECTION, 127, 128, 129, 254, 255];
+    all.into_iter().filter(move |direction| *direction != own)
 }
 
 /// Writes the length field by the bytes there are.

@@ -22,7 +22,7 @@ pub fn ask(lines: &mut Vec<String>) {
     let mut random = Random::new(22);
     from_the_documents(lines);
     for which in 0..layout::ALL.len() {
-        let direction = layout::ALL[which].direction;
+        let direction = layout::ALL[which].direction();
         let placed = bitfields::faulty(&mut random, which);
         read_and_written(lines, &mut random, &placed);
         ends(lines, direction, &bitfields::totals(&mut random, which));
@@ -31,7 +31,7 @@ pub fn ask(lines: &mut Vec<String>) {
         let placed = session::values(&mut random, which);
         read_and_written(lines, &mut random, &placed);
         let totals = session::totals(&mut random, which);
-        ends(lines, ALL[which].direction, &totals);
+        ends(lines, ALL[which].direction(), &totals);
     }
     for which in 0..layout::ALL.len() {
         let placed = bitfields::faulty(&mut random, which);

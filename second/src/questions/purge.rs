@@ -7,7 +7,7 @@ use super::parts::{measure, Parts};
 use super::reading;
 use super::sizes::into;
 use super::without_repeats;
-use super::writing;
+use super::writing::{self, both};
 use crate::examples;
 use crate::random::Random;
 use crate::rules::layout;
@@ -40,12 +40,6 @@ pub fn ask(lines: &mut Vec<String>) {
 
 fn read(lines: &mut Vec<String>, message: &[u8]) {
     lines.push(reading::line(MEMBER, message));
-}
-
-/// The message read, and its record written.
-fn both(lines: &mut Vec<String>, random: &mut Random, sample: &Sample) {
-    read(lines, &sample.bytes());
-    writing::alone(lines, random, sample);
 }
 
 /// Tables 31 and 32 as they are printed, with the bytes that their lengths say, and mended; with eleven

@@ -3,7 +3,7 @@
 //! is nothing to judge; in reading the buffer's size is judged last.
 
 use super::bitfields::sample::{Sample, NEW_ORDER};
-use super::parts::Parts;
+use super::parts::{way_back, Parts, NO_DIRECTION};
 use super::session::sample::Sample as Session;
 use super::writing::{line, pattern};
 use crate::hex;
@@ -11,7 +11,7 @@ use crate::random::Random;
 use crate::rules::layout;
 use crate::rules::record::{SESSION_SIZE, SIZE, SLOTS_PLACE};
 use crate::rules::session;
-use crate::rules::types::{MEMBER, VENUE};
+use crate::rules::types::{MEMBER, OPTIONS_MEMBER, VENUE};
 
 const SIZES: [usize; 16] = [
     0,
@@ -66,7 +66,7 @@ pub fn ask(lines: &mut Vec<String>) {
         lines.push(into(&mut random, MEMBER, &missing.bytes(), size));
     }
     for type_byte in UNKNOWN {
-        for direction in [MEMBER, VENUE, 2] {
+        for direction in [MEMBER, VENUE, OPTIONS_MEMBER] {
             for size in ENDS {
                 let mut record = random.bytes(size);
                 if let Some(first) = record.first_mut() {
@@ -92,7 +92,7 @@ fn of_type(lines: &mut Vec<String>, random: &mut Random, sample: &impl Parts) {
         lines.push(line(own, &record[..size], &buffer));
     }
     for size in ENDS {
-        for direction in [1 - own, 2] {
+        for direction in [way_back(own), NO_DIRECTION] {
             let buffer = pattern(random, 3);
             lines.push(line(direction, &record[..size], &buffer));
         }
@@ -123,7 +123,10 @@ fn read_into(lines: &mut Vec<String>, random: &mut Random, sample: &impl Parts) 
     }
     for (index, size) in ENDS.into_iter().enumerate() {
         match index % 2 {
-            0 => ask(random, [1 - own, 2][index / 2 % 2], &message, size),
+            0 => {
+                let others = [way_back(own), NO_DIRECTION];
+                ask(random, others[index / 2 % 2], &message, size);
+            }
             _ => ask(random, own, &message[..message.len() - 1], size),
         }
     }
@@ -141,18 +144,21 @@ fn read_into(lines: &mut Vec<String>, random: &mut Random, sample: &impl Parts) 
 mod tests {
     use super::*;
     use crate::ask;
-    use crate::rules::{frame, read, types};
+    use crate::questions::judged;
+    use crate::rules::{read, types};
     use std::collections::BTreeSet;
 
-    /// The bytes that the record of a type has, by the table of README.md.
-    fn size_of(direction: u8, type_byte: u8) -> Option<usize> {
-        match (direction, type_byte) {
-            (MEMBER, types::NEW_ORDER | types::CANCEL_ORDER) => Some(291),
-            (MEMBER, types::MODIFY_ORDER | types::PURGE_ORDERS) => Some(291),
+    /// The bytes that a record of a type has, by the table of README.md.
+    fn size_of(direction: u8, record_type: u8) -> Option<usize> {
+        match (direction, record_type) {
+            (MEMBER, types::NEW_ORDER) | (OPTIONS_MEMBER, types::OPTIONS_ORDER) => Some(291),
+            (MEMBER | OPTIONS_MEMBER, types::CANCEL_ORDER) => Some(291),
+            (MEMBER | OPTIONS_MEMBER, types::MODIFY_ORDER | types::PURGE_ORDERS) => Some(291),
             (VENUE, types::ACKNOWLEDGMENT | types::EXECUTION) => Some(291),
             (VENUE, types::ORDER_REJECTED | types::CANCEL_REJECTED) => Some(291),
             (VENUE, types::MODIFY_REJECTED) => Some(291),
-            (MEMBER, types::LOGIN_REQUEST | types::CLIENT_HEARTBEAT) => Some(439),
+            (MEMBER | OPTIONS_MEMBER, types::LOGIN_REQUEST) => Some(439),
+            (MEMBER | OPTIONS_MEMBER, types::CLIENT_HEARTBEAT) => Some(439),
             (VENUE, types::LOGIN_RESPONSE | types::LOGOUT) => Some(439),
             (VENUE, types::SERVER_HEARTBEAT | types::REPLAY_COMPLETE) => Some(439),
             _ => None,
@@ -215,19 +221,19 @@ mod tests {
                 assert_eq!((number, after), (&refusal.to_string()[..], words[3]));
                 continue;
             }
-            let type_byte = frame::header(&bytes).type_byte;
-            let own = size_of(direction, type_byte).unwrap();
-            seen.insert((type_byte, size));
+            let record_type = judged::record_type(direction, &bytes);
+            let own = size_of(direction, record_type).unwrap();
+            seen.insert((record_type, size));
             assert_eq!(number == "13" && after == words[3], size < own);
             assert_eq!(number == "0", size >= own);
             assert_eq!(after.len(), words[3].len());
             assert_eq!(after.get(2 * own..), words[3].get(2 * own..));
         }
-        for type_byte in seen.clone().into_iter().map(|(type_byte, _)| type_byte) {
+        for record_type in seen.clone().into_iter().map(|(record_type, _)| record_type) {
             for size in ENDS {
-                assert!(seen.contains(&(type_byte, size)));
+                assert!(seen.contains(&(record_type, size)));
             }
         }
-        assert!(seen.len() >= 15 * ENDS.len());
+        assert!(seen.len() >= 16 * ENDS.len());
     }
 }

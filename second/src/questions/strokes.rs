@@ -29,10 +29,12 @@ pub fn some_unit(random: &mut Random) -> u8 {
     }
 }
 
+/// Another of the three directions, or any number.
 pub fn some_direction(random: &mut Random, direction: u8) -> u8 {
     match random.below(4) {
         0 => random.byte(),
-        _ => 1 - direction.min(1),
+        1 => (direction % 3 + 2) % 3,
+        _ => (direction % 3 + 1) % 3,
     }
 }
 

@@ -18,7 +18,8 @@ const EXCLUDED: &[u8] = b"+,-:;<{|}?@A!\"#";
 
 pub fn ask(lines: &mut Vec<String>) {
     let mut random = Random::new(3);
-    for kind in kinds::ALL {
+    // Days are asked about among the options orders.
+    for kind in kinds::ALL.into_iter().filter(|kind| *kind != Kind::Day) {
         single_bytes(lines, kind);
         filling(lines, kind);
         texts(lines, &mut random, kind);
@@ -27,7 +28,7 @@ pub fn ask(lines: &mut Vec<String>) {
 }
 
 /// Both calls are asked about each field.
-fn add(lines: &mut Vec<String>, kind: Kind, field: &[u8]) {
+pub fn add(lines: &mut Vec<String>, kind: Kind, field: &[u8]) {
     lines.push(format!("kind {} {}", kind.letter(), hex::write(field)));
     lines.push(format!("filled {} {}", kind.letter(), hex::write(field)));
 }

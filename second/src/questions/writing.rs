@@ -1,7 +1,7 @@
 //! Questions about writing that are made in the same way of any record.
 
 use super::parts::Parts;
-use super::reading::Asked;
+use super::reading::{self, Asked};
 use crate::hex;
 use crate::random::Random;
 use crate::rules::{read, write};
@@ -46,6 +46,12 @@ pub fn alone<P: Parts>(lines: &mut Vec<String>, random: &mut Random, sample: &P)
     let taken = write::record(direction, &record, &mut vec![0; size]).is_ok();
     let room = if taken { size } else { random.between(0, 2) };
     lines.push(line(direction, &record, &pattern(random, room)));
+}
+
+/// The message read, and its record written.
+pub fn both<P: Parts>(lines: &mut Vec<String>, random: &mut Random, sample: &P) {
+    lines.push(reading::line(sample.direction(), &sample.bytes()));
+    alone(lines, random, sample);
 }
 
 /// The records of all messages that the questions about reading hold, each once. The buffers are

@@ -1,5 +1,8 @@
 //! The kinds of fields and the characters of identifiers (document 01, "Wire basics").
 
+use super::calendar;
+use super::number;
+
 #[derive(Clone, Copy, Debug, PartialEq, Eq)]
 pub enum Kind {
     /// A
@@ -16,9 +19,11 @@ pub enum Kind {
     Identifier,
     /// Text that is never blank: MassCancelInst
     FilledText,
+    /// A calendar day as a number YYYYMMDD: MaturityDate
+    Day,
 }
 
-pub const ALL: [Kind; 7] = [
+pub const ALL: [Kind; 8] = [
     Kind::Letters,
     Kind::LettersAndDigits,
     Kind::Text,
@@ -26,7 +31,11 @@ pub const ALL: [Kind; 7] = [
     Kind::Price,
     Kind::Identifier,
     Kind::FilledText,
+    Kind::Day,
 ];
+
+/// The bytes of a day.
+const DAY: usize = 4;
 
 impl Kind {
     /// The letter that stands for the kind in questions.
@@ -39,6 +48,7 @@ impl Kind {
             Kind::Price => 'P',
             Kind::Identifier => 'I',
             Kind::FilledText => 'F',
+            Kind::Day => 'D',
         }
     }
 
@@ -54,7 +64,7 @@ impl Kind {
             Kind::LettersAndDigits => byte.is_ascii_alphanumeric(),
             Kind::Text | Kind::FilledText => (32..=126).contains(&byte),
             Kind::Identifier => (33..=126).contains(&byte) && !excepted(byte),
-            Kind::Binary | Kind::Price => true,
+            Kind::Binary | Kind::Price | Kind::Day => true,
         }
     }
 }
@@ -74,14 +84,17 @@ pub fn blank(field: &[u8]) -> bool {
     field.iter().all(|byte| *byte == 0)
 }
 
-/// Whether a field agrees with its kind; blank is allowed but in a filled text. In a text only NULs
-/// follow the first NUL.
+/// Whether a field agrees with its kind; blank is allowed but in a filled text and a day. In a text
+/// only NULs follow the first NUL.
 pub fn agrees(kind: Kind, field: &[u8]) -> bool {
     if kind == Kind::Binary || kind == Kind::Price {
         return true;
     }
     if kind == Kind::FilledText {
         return filled(Kind::Text, field);
+    }
+    if kind == Kind::Day {
+        return day(field);
     }
     let end = field
         .iter()
@@ -92,7 +105,12 @@ pub fn agrees(kind: Kind, field: &[u8]) -> bool {
     text.iter().all(|byte| kind.takes(*byte)) && blank(filling)
 }
 
-/// The same for a field that is never blank.
+/// Whether a field is a calendar day by refusal 19.
+fn day(field: &[u8]) -> bool {
+    field.len() == DAY && calendar::check(number::get(field, 0, DAY as u64) as u32).is_ok()
+}
+
+/// The same as `agrees` for a field that is never blank.
 pub fn filled(kind: Kind, field: &[u8]) -> bool {
     agrees(kind, field) && !blank(field)
 }
@@ -140,12 +158,33 @@ mod tests {
     fn blanks() {
         for kind in ALL {
             for size in 0..=20 {
-                assert_eq!(agrees(kind, &vec![0; size]), kind != Kind::FilledText);
+                let never = [Kind::FilledText, Kind::Day].contains(&kind);
+                assert_eq!(agrees(kind, &vec![0; size]), !never);
                 assert!(!filled(kind, &vec![0; size]));
             }
         }
         assert!(filled(Kind::Binary, &[0, 0, 0, 1]));
         assert!(filled(Kind::Price, &[0, 128]));
+    }
+
+    /// Four bytes and a day by refusal 19, by either of the two questions.
+    #[test]
+    fn days() {
+        for (field, expected) in [
+            (&[0xEF, 0xDB, 0x32, 0x01][..], true),
+            (&[0x95, 0xDB, 0x32, 0x01], false),
+            (&[0x85, 0x99, 0x2C, 0x01], true),
+            (&[0x84, 0x99, 0x2C, 0x01], false),
+            (&[0, 0, 0, 0], false),
+            (&[0xFF; 4], false),
+            (&[0xEF, 0xDB, 0x32], false),
+            (&[0xEF, 0xDB, 0x32, 0x01, 0], false),
+            (&[0xEF, 0xDB, 0x32, 0x01, 0, 0, 0, 0], false),
+            (&[], false),
+        ] {
+            assert_eq!(agrees(Kind::Day, field), expected, "{:?}", field);
+            assert_eq!(filled(Kind::Day, field), expected, "{:?}", field);
+        }
     }
 
     /// A filled text is a text that is never blank, by either of the two questions.
@@ -189,7 +228,7 @@ mod tests {
         for kind in ALL {
             assert_eq!(Kind::of_letter(&kind.letter().to_string()), Some(kind));
         }
-        for word in ["", "a", "AA", "C", "i", "f", "FT"] {
+        for word in ["", "a", "AA", "C", "i", "f", "FT", "d", "DD"] {
             assert_eq!(Kind::of_letter(word), None);
         }
     }

@@ -48,8 +48,11 @@ pub struct Listed {
 
 #[derive(Debug)]
 pub struct Layout {
-    pub direction: u8,
+    /// At least one.
+    pub directions: &'static [u8],
+    /// On the wire, and in a record, which tells its own dictionary.
     pub type_byte: u8,
+    pub record_type: u8,
     pub least_unit: u8,
     pub greatest_unit: u8,
     /// 0 for what is unsequenced; else the number may be any.
@@ -108,11 +111,25 @@ impl Rule {
 }
 
 impl Layout {
-    /// The message of a type byte; 4 if the direction is neither, or has no such type.
+    /// The message of a type byte; 4 if there is no such direction, or it has no such type.
     pub fn of(direction: u8, type_byte: u8) -> Result<&'static Layout, Refusal> {
+        Layout::find(direction, |layout| layout.type_byte == type_byte)
+    }
+
+    /// The same of a record's type byte.
+    pub fn of_record(direction: u8, record_type: u8) -> Result<&'static Layout, Refusal> {
+        Layout::find(direction, |layout| layout.record_type == record_type)
+    }
+
+    fn find(direction: u8, sort: impl Fn(&Layout) -> bool) -> Result<&'static Layout, Refusal> {
         ALL.iter()
-            .find(|layout| layout.direction == direction && layout.type_byte == type_byte)
+            .find(|layout| layout.directions.contains(&direction) && sort(layout))
             .ok_or(Refusal::Type)
+    }
+
+    /// The direction in which the message is asked about.
+    pub fn direction(&self) -> u8 {
+        self.directions[0]
     }
 
     pub fn fixed_width(&self) -> usize {

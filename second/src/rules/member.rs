@@ -7,13 +7,14 @@ use super::book::{self, Book, BOOKED};
 use super::desk::{Told, HANDED};
 use super::frame;
 use super::login::Login;
+use super::market::Market;
 use super::number;
 use super::read;
 use super::record::SIZE;
 use super::table;
 use super::types::{
     ACKNOWLEDGMENT, CANCEL_REJECTED, CLIENT_HEARTBEAT, EXECUTION, LOGIN_RESPONSE, LOGOUT, MEMBER,
-    MODIFY_REJECTED, ORDERS, ORDER_REJECTED, REPLAY_COMPLETE, SERVER_HEARTBEAT, VENUE,
+    MODIFY_REJECTED, ORDER_REJECTED, REPLAY_COMPLETE, SERVER_HEARTBEAT, VENUE,
 };
 use super::write;
 use super::{check, Refusal};
@@ -47,39 +48,43 @@ pub struct Member {
     pub phase: Phase,
     /// The number of the last order that went out.
     pub outgoing: u32,
+    /// Told at opening and at restart, and kept.
+    pub market: Market,
     pub book: Book,
 }
 
 impl Member {
-    /// Closed, and without a book.
+    /// Closed, of an equities market, and without a book.
     pub fn blank() -> Member {
-        Member::closed(Book {
+        let book = Book {
             date: 0,
             length: 0,
             last: 0,
             count: 0,
             table: [0; table::SIZE],
-        })
+        };
+        Member::closed(book, Market::Equities)
     }
 
-    fn closed(book: Book) -> Member {
+    fn closed(book: Book, market: Market) -> Member {
         Member {
             phase: Phase::Closed,
             outgoing: 0,
+            market,
             book,
         }
     }
 
     /// A new book in a buffer: 19, 13.
-    pub fn open(&mut self, date: u32, buffer: &mut [u8]) -> Result<(), Refusal> {
+    pub fn open(&mut self, date: u32, buffer: &mut [u8], market: Market) -> Result<(), Refusal> {
         book::open(date, buffer)?;
-        *self = Member::closed(book::opened(date));
+        *self = Member::closed(book::opened(date), market);
         Ok(())
     }
 
     /// After a restart on a book's bytes.
-    pub fn restart(&mut self, date: u32, bytes: &[u8]) -> Result<(), Refusal> {
-        *self = Member::closed(book::restart(date, bytes)?);
+    pub fn restart(&mut self, date: u32, bytes: &[u8], market: Market) -> Result<(), Refusal> {
+        *self = Member::closed(book::restart(date, bytes)?, market);
         Ok(())
     }
 
@@ -138,16 +143,16 @@ impl Member {
         }
     }
 
-    /// An order goes out with the next number, whatever number its record has: 16, 20, then what
-    /// the record is refused for.
+    /// An order of the member's market goes out with the next number, whatever number its record has:
+    /// 16, 20, then what the record is refused for.
     pub fn order(&mut self, record: &[u8], out: &mut [u8]) -> Result<(), Refusal> {
         check(self.phase == Phase::Live, Refusal::Phase)?;
         let next = self.outgoing.checked_add(1).ok_or(Refusal::Spent)?;
         check(record.len() >= SIZE, Refusal::Room)?;
-        check(ORDERS.contains(&record[0]), Refusal::Type)?;
+        check(self.market.orders().contains(&record[0]), Refusal::Type)?;
         let mut numbered = record.to_vec();
         numbered[2..6].copy_from_slice(&next.to_le_bytes());
-        write::record(MEMBER, &numbered, out)?;
+        write::record(self.market.direction(), &numbered, out)?;
         self.outgoing = next;
         Ok(())
     }

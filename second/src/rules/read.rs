@@ -68,7 +68,7 @@ fn with_bitfields(layout: &Layout, message: &[u8]) -> Result<Record, Refusal> {
     layout.check_values(fixed, bitfields, middle, &fields)?;
 
     let mut record = Record {
-        type_byte: header.type_byte,
+        type_byte: layout.record_type,
         unit: header.unit,
         number: header.number,
         fixed: [0; FIXED],
@@ -93,7 +93,7 @@ fn put(part: &mut [u8], place: usize, bytes: &[u8]) {
 mod tests {
     use super::*;
     use crate::examples;
-    use crate::questions::parts::measure;
+    use crate::questions::parts::{measure, way_back};
     use crate::rules;
 
     /// The record of a message with bitfields.
@@ -155,6 +155,121 @@ mod tests {
         assert_eq!(least.slots, [0; SLOTS]);
         assert_eq!(refusal(0, &examples::cancel_of_another_bit()), 8);
         assert_eq!(refusal(0, &examples::cancel_of_three_bitfields()), 7);
+    }
+
+    /// Document 002's example and its record: the dictionary of an options market takes it, the other does
+    /// not.
+    #[test]
+    fn options_order() {
+        let example = examples::options_order();
+        let record = record_of(2, &example);
+        assert_eq!((record.type_byte, record.unit, record.number), (0xB8, 0, 1));
+        assert_eq!(record.fixed[..6], *b"ABC123");
+        assert_eq!(record.fixed[20..25], [b'1', 10, 0, 0, 0]);
+        assert_eq!(
+            (record.count, &record.bitfields[..4]),
+            (4, &[0x04, 0xC1, 0x01, 0x17][..])
+        );
+        assert_eq!(record.slots[8..16], [0x70, 0x17, 0, 0, 0, 0, 0, 0]);
+        assert_eq!(record.slots[27..37], *b"MSFT\0\0\0\0CR");
+        assert_eq!(record.slots[40..44], *b"DEFG");
+        assert_eq!(record.slots[56..60], 20_110_319_u32.to_le_bytes());
+        assert_eq!(record.slots[60..68], 175_000_u64.to_le_bytes());
+        assert_eq!(record.slots[68..70], *b"1O");
+        let set = record.bytes().iter().filter(|byte| **byte != 0).count();
+        assert_eq!(set, 2 + 6 + 2 + 1 + 4 + 2 + 4 + 2 + 4 + 4 + 3 + 2);
+        assert_eq!(message(0, &example), Err(Refusal::Bit(39)));
+        for direction in [1, 3, 255] {
+            assert_eq!(message(direction, &example), Err(Refusal::Type));
+        }
+        let mut recorded = example;
+        recorded[4] = 0xB8;
+        for direction in 0..=255 {
+            assert_eq!(message(direction, &recorded), Err(Refusal::Type));
+        }
+    }
+
+    #[test]
+    fn maturities() {
+        for (maturity, good) in [
+            (20_110_319_u32, true),
+            (20_240_229, true),
+            (19_700_101, true),
+            (20_991_231, true),
+            (20_110_229, false),
+            (0, false),
+            (21_000_101, false),
+            (19_691_231, false),
+            (u32::MAX, false),
+        ] {
+            let mut order = examples::options_order();
+            order[77..81].copy_from_slice(&maturity.to_le_bytes());
+            match good {
+                true => assert_eq!(record_of(2, &order).slots[56..60], order[77..81]),
+                false => assert_eq!(message(2, &order), Err(Refusal::Value(77))),
+            }
+        }
+        // No one of the four is required.
+        let mut order = examples::options_order();
+        order[39] = 0;
+        order.truncate(77);
+        measure(&mut order);
+        assert_eq!(refusal(2, &order), 0);
+        assert_eq!(refusal(0, &order), 0);
+    }
+
+    /// What both dictionaries list is alike in both directions, and what one of them lists is 8 in the
+    /// other.
+    #[test]
+    fn bits_of_one_market() {
+        let equities = examples::new_order();
+        for (direction, record_type) in [(0, 0x38), (2, 0xB8)] {
+            let record = record_of(direction, &equities);
+            assert_eq!(record.type_byte, record_type);
+        }
+        let mut suffixed = [&equities[..55], &[0; 8], &equities[55..]].concat();
+        suffixed[37] = 0xC3;
+        measure(&mut suffixed);
+        assert_eq!(refusal(0, &suffixed), 0);
+        assert_eq!(message(2, &suffixed), Err(Refusal::Bit(37)));
+        for (place, bits) in [(38, 0xFE), (39, 0xE8), (40, 0xFF), (41, 0xFF), (45, 0xFF)] {
+            for bit in (0..8)
+                .map(|shift| 1_u8 << shift)
+                .filter(|bit| bits & bit != 0)
+            {
+                let mut order = examples::options_order();
+                order[35] = 10;
+                order.splice(40..40, [0; 6]);
+                order[place] |= bit;
+                measure(&mut order);
+                assert_eq!(message(2, &order), Err(Refusal::Bit(place)));
+            }
+        }
+    }
+
+    /// What both markets' members send alike.
+    #[test]
+    fn both_members() {
+        for example in [
+            examples::cancel(),
+            examples::modify(),
+            examples::purge_by_ids_with_its_length(),
+            examples::login(),
+            examples::client_heartbeat(),
+        ] {
+            let record = message(0, &example).unwrap();
+            assert_eq!(message(2, &example), Ok(record));
+            let mut bad = example.clone();
+            bad[5] = 1;
+            assert_eq!(refusal(2, &bad), 5);
+            bad.push(0);
+            measure(&mut bad);
+            bad[5] = 0;
+            assert_eq!(message(2, &bad), message(0, &bad));
+        }
+        for example in [examples::acknowledgment(), examples::logout()] {
+            assert_eq!(refusal(2, &example), 4);
+        }
     }
 
     /// The New Order example with bytes changed.
@@ -249,7 +364,8 @@ mod tests {
         assert_eq!(refusal(1, &bad), 3);
         bad[2..4].copy_from_slice(&[32, 0]);
         assert_eq!(refusal(1, &bad), 4);
-        assert_eq!(refusal(2, &bad), 4);
+        assert_eq!(refusal(3, &bad), 4);
+        assert_eq!(refusal(2, &bad), 5);
         assert_eq!(refusal(0, &bad), 5);
         bad[5] = 0;
         assert_eq!(refusal(0, &bad), 6);
@@ -335,6 +451,7 @@ mod tests {
             (1, examples::cancel_rejected(), 291),
             (0, examples::client_heartbeat(), 439),
             (1, examples::logout_with_its_length(), 439),
+            (2, examples::options_order(), 291),
         ] {
             let record = message(direction, &example).unwrap();
             let mut bad = example.clone();
@@ -343,7 +460,7 @@ mod tests {
                 let before = vec![0xEE; size];
                 let mut buffer = before.clone();
                 assert_eq!(
-                    into(1 - direction, &example, &mut buffer),
+                    into(way_back(direction), &example, &mut buffer),
                     Err(Refusal::Type)
                 );
                 assert_eq!(into(direction, &bad, &mut buffer), Err(Refusal::Unit));

@@ -9,7 +9,7 @@ use super::groups::{self, Rest};
 use super::kinds::{self, Kind};
 use super::number;
 use super::record::{BODY_PLACE, SESSION_SIZE};
-use super::types::{self, MEMBER, VENUE};
+use super::types::{self, MEMBERS, VENUE};
 use super::{check, Refusal};
 
 /// A field of the fixed part; it may be blank.
@@ -31,7 +31,8 @@ pub enum List {
 
 #[derive(Debug)]
 pub struct Session {
-    pub direction: u8,
+    /// At least one.
+    pub directions: &'static [u8],
     pub type_byte: u8,
     /// In the order of their places, from the end of the header on.
     pub fields: &'static [Field],
@@ -43,7 +44,7 @@ pub struct Session {
 
 pub static ALL: [Session; 6] = [
     Session {
-        direction: MEMBER,
+        directions: MEMBERS,
         type_byte: types::LOGIN_REQUEST,
         fields: &[
             field("SessionSubID", 4, N),
@@ -54,7 +55,7 @@ pub static ALL: [Session; 6] = [
         lists: &[List::Groups],
     },
     Session {
-        direction: VENUE,
+        directions: &[VENUE],
         type_byte: types::LOGIN_RESPONSE,
         fields: &[
             field("LoginResponseStatus", 1, N),
@@ -66,7 +67,7 @@ pub static ALL: [Session; 6] = [
         lists: &[List::Pairs, List::Groups],
     },
     Session {
-        direction: VENUE,
+        directions: &[VENUE],
         type_byte: types::LOGOUT,
         fields: &[
             Field {
@@ -81,9 +82,9 @@ pub static ALL: [Session; 6] = [
         flag: None,
         lists: &[List::Pairs],
     },
-    header_alone(MEMBER, types::CLIENT_HEARTBEAT),
-    header_alone(VENUE, types::SERVER_HEARTBEAT),
-    header_alone(VENUE, types::REPLAY_COMPLETE),
+    header_alone(MEMBERS, types::CLIENT_HEARTBEAT),
+    header_alone(&[VENUE], types::SERVER_HEARTBEAT),
+    header_alone(&[VENUE], types::REPLAY_COMPLETE),
 ];
 
 const N: Kind = Kind::LettersAndDigits;
@@ -100,9 +101,9 @@ const fn field(name: &'static str, width: usize, kind: Kind) -> Field {
 }
 
 /// The heartbeats and Replay Complete.
-const fn header_alone(direction: u8, type_byte: u8) -> Session {
+const fn header_alone(directions: &'static [u8], type_byte: u8) -> Session {
     Session {
-        direction,
+        directions,
         type_byte,
         fields: &[],
         flag: None,
@@ -119,8 +120,14 @@ impl Field {
 impl Session {
     /// None if the direction has no session message of the type.
     pub fn of(direction: u8, type_byte: u8) -> Option<&'static Session> {
-        ALL.iter()
-            .find(|session| session.direction == direction && session.type_byte == type_byte)
+        ALL.iter().find(|session| {
+            session.directions.contains(&direction) && session.type_byte == type_byte
+        })
+    }
+
+    /// The direction in which the message is asked about.
+    pub fn direction(&self) -> u8 {
+        self.directions[0]
     }
 
     pub fn fields_width(&self) -> usize {

@@ -19,7 +19,7 @@ pub fn record(direction: u8, record: &[u8], buffer: &mut [u8]) -> Result<(), Ref
             session.write(record)?
         }
         None => {
-            let layout = Layout::of(direction, type_byte)?;
+            let layout = Layout::of_record(direction, type_byte)?;
             check(record.len() >= SIZE, Refusal::Room)?;
             with_bitfields(layout, &Record::of_bytes(record))?
         }
@@ -70,7 +70,7 @@ fn with_bitfields(layout: &Layout, record: &Record) -> Result<Vec<u8>, Refusal> 
     check(zero, Refusal::Unused)?;
 
     let header = Header {
-        type_byte: record.type_byte,
+        type_byte: layout.type_byte,
         unit: record.unit,
         number: record.number,
     };
@@ -97,6 +97,7 @@ fn unselected_is_zero(record: &Record, fields: &[(Place, &[u8])]) -> bool {
 mod tests {
     use super::*;
     use crate::examples;
+    use crate::questions::parts::way_back;
     use crate::rules::{self, read};
 
     fn record_of(direction: u8, message: &[u8]) -> Vec<u8> {
@@ -127,6 +128,13 @@ mod tests {
             (1, examples::logout_with_its_length()),
             (1, examples::server_heartbeat()),
             (1, examples::replay_complete()),
+            (2, examples::options_order()),
+            (2, examples::new_order()),
+            (2, examples::cancel()),
+            (2, examples::modify()),
+            (2, examples::purge_by_symbol_with_its_length()),
+            (2, examples::options_login()),
+            (2, examples::client_heartbeat()),
         ] {
             let bytes = record_of(direction, &message);
             let total = message.len();
@@ -151,7 +159,7 @@ mod tests {
         bad[96] = 11;
         bad[98] = 0xC4;
         bad[115] = 0x80;
-        for direction in [1, 2] {
+        for direction in [1, 2, 3] {
             assert_eq!(refusal(direction, &[], &mut buffer), 13);
             assert_eq!(refusal(direction, &bad[..1], &mut buffer), 4);
             assert_eq!(refusal(direction, &bad, &mut buffer), 4);
@@ -204,6 +212,42 @@ mod tests {
         assert_eq!(changed(&[(290, 1)]), Refusal::Unused);
     }
 
+    /// A record tells its own dictionary: it is written in its own market alone, and on the wire its type
+    /// is that of a New Order.
+    #[test]
+    fn options_records() {
+        let record_of_options = record_of(2, &examples::options_order());
+        let other = record_of(0, &examples::new_order());
+        for (bytes, own) in [(&record_of_options, 2), (&other, 0)] {
+            for direction in 0..=255 {
+                let mut buffer = [0xEE; 91];
+                let expected = if direction == own { 0 } else { 4 };
+                assert_eq!(refusal(direction, bytes, &mut buffer), expected);
+                assert_eq!(buffer[4], if direction == own { 0x38 } else { 0xEE });
+            }
+        }
+        // The other market's type over the same record: its bits, not its type, are then refused.
+        let mut taken = record_of_options.clone();
+        taken[0] = 0x38;
+        assert_eq!(record(0, &taken, &mut []), Err(Refusal::Bit(39)));
+        let changed = |changes: &[(usize, u8)]| {
+            let mut bad = record_of_options.clone();
+            for (place, byte) in changes {
+                bad[*place] = *byte;
+            }
+            record(2, &bad, &mut [])
+        };
+        assert_eq!(changed(&[]), Err(Refusal::Room));
+        assert_eq!(changed(&[(98, 0xC3)]), Err(Refusal::Bit(37)));
+        assert_eq!(changed(&[(98, 0xC0)]), Err(Refusal::Missing(39)));
+        assert_eq!(changed(&[(172, 0xE0)]), Err(Refusal::Room));
+        assert_eq!(changed(&[(172, 0)]), Err(Refusal::Value(77)));
+        assert_eq!(changed(&[(97, 20), (172, 0)]), Err(Refusal::Value(78)));
+        assert_eq!(changed(&[(100, 0x16)]), Err(Refusal::Unused));
+        assert_eq!(changed(&[(186, 1)]), Err(Refusal::Unused));
+        assert_eq!(changed(&[(184, b'-')]), Err(Refusal::Value(89)));
+    }
+
     /// Every place of a record that P5 does not use must be zero, and no other place gives 12.
     #[test]
     fn unused_places() {
@@ -242,12 +286,13 @@ mod tests {
             (1, examples::logout_with_its_length(), 439),
             (1, examples::server_heartbeat(), 439),
             (1, examples::replay_complete(), 439),
+            (2, examples::options_order(), 291),
         ] {
             let mut longer = record_of(direction, &message);
             longer.resize(500, 7);
             for size in 0..longer.len() {
                 let mut buffer = vec![0xEE; message.len()];
-                for other in [1 - direction, 2, 255] {
+                for other in [way_back(direction), 3, 255] {
                     let expected = if size == 0 { 13 } else { 4 };
                     assert_eq!(refusal(other, &longer[..size], &mut buffer), expected);
                 }

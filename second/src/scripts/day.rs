@@ -23,6 +23,8 @@ pub struct Days {
     pub wrong: u64,
     /// Whether logins choose units.
     pub choices: bool,
+    /// Of a hundred openings and restarts, those that name the options market.
+    pub options: u64,
 }
 
 const DATES: [u32; 5] = [20_250_819, 20_240_229, 19_700_101, 20_991_231, 20_250_820];
@@ -38,6 +40,7 @@ pub fn day(driver: &mut Driver, days: &Days) {
         .map(|_| driver.random.between(1, 32) as u8)
         .collect();
     driver.choices = days.choices;
+    driver.options = days.options;
     if driver.lines.len() > 1 {
         driver.books();
         let zeros = "00".repeat(128);

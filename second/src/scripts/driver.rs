@@ -4,12 +4,13 @@
 use crate::ask;
 use crate::bench::Bench;
 use crate::hex;
-use crate::questions::bitfields::sample::{Sample, CANCEL, MODIFY, NEW_ORDER, PURGE};
+use crate::questions::bitfields::sample::{orders_of, Sample};
 use crate::questions::made::{rejection, some_type};
 use crate::questions::parts::Parts;
 use crate::questions::session::sample::{self as session, LOGIN};
 use crate::random::Random;
 use crate::rules::frame;
+use crate::rules::market::Market;
 use crate::rules::table::entry;
 use std::collections::VecDeque;
 
@@ -44,6 +45,8 @@ pub struct Driver {
     pub units: Vec<u8>,
     /// Whether logins choose units.
     pub choices: bool,
+    /// Of a hundred openings and restarts, those that name the options market.
+    pub options: u64,
 }
 
 impl Driver {
@@ -62,6 +65,7 @@ impl Driver {
             log_room: SHOWN,
             units: vec![1],
             choices: false,
+            options: 0,
         };
         driver.ask("new".to_string());
         driver
@@ -109,8 +113,20 @@ impl Driver {
     // What goes as it should.
 
     pub fn open(&mut self) {
-        self.ask(format!("m-open {} {}", self.date, self.book_room));
+        let market = self.some_market() as u8;
+        self.ask(format!(
+            "m-open {} {} {}",
+            self.date, self.book_room, market
+        ));
         self.lose_line();
+    }
+
+    /// The market that an opening or a restart names.
+    pub fn some_market(&mut self) -> Market {
+        match self.random.below(100) < self.options {
+            true => Market::Options,
+            false => Market::Equities,
+        }
     }
 
     /// What was on the way to the member is lost.
@@ -196,7 +212,7 @@ impl Driver {
             None => return,
         };
         if message[4] != 0x37 {
-            self.ask(format!("v-order {}", hex::write(&message)));
+            self.venue_order(self.bench.member.market, &message);
             return;
         }
         let room = 450 + self.random.between(0, 20);
@@ -210,6 +226,11 @@ impl Driver {
             None if self.one_in(2) => self.to_venue.push_front(message),
             None => {}
         }
+    }
+
+    /// The venue gets what a member of a market sent.
+    pub fn venue_order(&mut self, market: Market, bytes: &[u8]) {
+        self.ask(format!("v-order {} {}", market as u8, hex::write(bytes)));
     }
 
     pub fn step(&mut self) {
@@ -251,9 +272,14 @@ impl Driver {
         self.ask(format!("{} {} {}", call, hex::write(bytes), room))
     }
 
+    /// An order of the member's market, New Orders more often than others.
     pub fn some_order(&mut self) -> Sample {
-        let all = [NEW_ORDER, NEW_ORDER, CANCEL, MODIFY, PURGE];
-        let which = all[self.random.between(0, all.len() - 1)];
+        self.order_of(self.bench.member.market)
+    }
+
+    pub fn order_of(&mut self, market: Market) -> Sample {
+        let all = orders_of(market);
+        let which = all[self.random.between(0, all.len()) % all.len()];
         Sample::any(&mut self.random, which)
     }
 
@@ -292,7 +318,8 @@ impl Driver {
 
     /// The member's process starts again on its book's first bytes.
     pub fn restart(&mut self, size: usize) {
-        let answer = self.ask(format!("m-restart {} {}", self.date, size));
+        let market = self.some_market() as u8;
+        let answer = self.ask(format!("m-restart {} {} {}", self.date, size, market));
         self.lose_line();
         if answer == "22" {
             self.open();
@@ -313,7 +340,7 @@ impl Driver {
     pub fn end(&mut self) {
         let zeros = "00".repeat(128);
         if self.bench.member.book.length > SHOWN {
-            self.ask(format!("m-state 0 0 0 {} 0 0 {}", SHOWN, zeros));
+            self.ask(format!("m-state 0 0 0 0 {} 0 0 {}", SHOWN, zeros));
         }
         if self.bench.venue.length > SHOWN {
             self.ask(format!("v-state 0 0 0 0 {} 0 {} {}", SHOWN, zeros, zeros));

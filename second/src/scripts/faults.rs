@@ -5,7 +5,8 @@ use super::driver::{Driver, GETS};
 use crate::hex;
 use crate::questions::bitfields::late::instruct;
 use crate::questions::bitfields::sample::{
-    never_blank, unlisted_bit, Sample, ACKNOWLEDGMENT, EXECUTION, MODIFY, ORDERS, PURGE, REJECTED,
+    never_blank, orders_of, unlisted_bit, Sample, ACKNOWLEDGMENT, EXECUTION, MODIFY, NEW_ORDERS,
+    OPTIONS, PURGE, REJECTED,
 };
 use crate::questions::parts::{measure, Parts};
 use crate::questions::session::faults;
@@ -15,6 +16,7 @@ use crate::questions::session::sample::{
 use crate::random::Random;
 use crate::rules::book::{BOOKED, MARK};
 use crate::rules::frame;
+use crate::rules::market::{self, Market};
 use crate::rules::record::{COUNT_PLACE, SIZE, SLOTS_PLACE};
 use crate::rules::table::entry;
 use crate::rules::types::VENUE;
@@ -68,7 +70,7 @@ fn of_message(random: &mut Random, which: usize, unit: u8, number: u32) -> Vec<V
     let mut good = Sample::least(random, which);
     (good.unit, good.number) = (unit, number);
     let mut all = of_framing(&good.bytes());
-    let bad_headers = match (good.layout.direction, good.layout.greatest_number) {
+    let bad_headers = match (good.layout.direction(), good.layout.greatest_number) {
         (VENUE, 0) => vec![(1, 0), (0, 1), (1, 1), (0, u32::MAX)],
         (VENUE, _) => vec![(0, number), (33, number)],
         _ => vec![(1, number), (255, number)],
@@ -109,6 +111,31 @@ fn faulty(good: &Sample, which: usize) -> Vec<Sample> {
         all.push(missing);
     }
     all.extend(asking(good, which));
+    all.extend(of_one_market(good, which));
+    all
+}
+
+/// Of the New Orders: a bit that the other market alone has; and maturities, of which one is a day.
+fn of_one_market(good: &Sample, which: usize) -> Vec<Sample> {
+    let mut all = Vec::new();
+    let strangers: &[(usize, u8)] = match NEW_ORDERS.contains(&which) {
+        true if which == OPTIONS => &[(2, 2), (3, 128), (6, 1), (10, 2)],
+        true => &[(4, 1), (4, 16)],
+        false => &[],
+    };
+    for (byte, bit) in strangers {
+        let mut sample = good.clone();
+        sample.set_bit(*byte, *bit);
+        all.push(sample);
+    }
+    if which == OPTIONS {
+        for maturity in [20_240_229_u32, 20_110_229, 0, 21_000_101] {
+            let mut sample = good.clone();
+            sample.select("MaturityDate");
+            *sample.value("MaturityDate") = maturity.to_le_bytes().to_vec();
+            all.push(sample);
+        }
+    }
     all
 }
 
@@ -180,13 +207,19 @@ fn of_session(random: &mut Random, which: usize) -> Vec<Vec<u8>> {
 
 // Calls.
 
-/// The member's phase alone is changed.
+/// The member's phase and its outgoing number alone are changed.
 pub fn set_phase(driver: &mut Driver, phase: u8, outgoing: u32) {
+    set_market(driver, phase, outgoing, driver.bench.member.market);
+}
+
+/// The same with its market.
+pub fn set_market(driver: &mut Driver, phase: u8, outgoing: u32, market: Market) {
     let book = &driver.bench.member.book;
     let line = format!(
-        "m-state {} {} {} {} {} {} {}",
+        "m-state {} {} {} {} {} {} {} {}",
         phase,
         outgoing,
+        market as u8,
         book.date,
         book.length,
         book.last,
@@ -291,7 +324,7 @@ fn of_kinds(driver: &mut Driver) -> Vec<Vec<u8>> {
     // One of each kind with the other's after it.
     booked[6].extend(&of_session[0]);
     of_session[0].extend(&booked[2]);
-    let orders = ORDERS.map(|which| Sample::least(random, which).bytes());
+    let orders = orders_of(Market::Equities).map(|which| Sample::least(random, which).bytes());
     let rejected = REJECTED.map(|which| Sample::any(random, which).bytes());
     let mut unknown = booked[2].clone();
     unknown[4] = 0x27;
@@ -305,51 +338,78 @@ fn of_kinds(driver: &mut Driver) -> Vec<Vec<u8>> {
     .concat()
 }
 
+/// Those of each market in a session of it, and its New Order in a session of the other.
 fn orders(driver: &mut Driver) {
-    for (phase, outgoing) in [
+    for market in market::ALL {
+        for which in orders_of(market) {
+            orders_of_type(driver, market, which);
+        }
+        let [new_order, ..] = orders_of(market.other());
+        let foreign = Sample::least(&mut driver.random, new_order);
+        for (phase, outgoing) in [(3, 7), (3, u32::MAX), (2, 7), (0, 7)] {
+            set_market(driver, phase, outgoing, market);
+            let records = faulty(&foreign, new_order).into_iter().step_by(4);
+            for sample in [foreign.clone()].into_iter().chain(records) {
+                driver.ask(format!("m-order {} 100", hex::write(&sample.record())));
+            }
+            let short = &foreign.record()[..SIZE - 1];
+            driver.ask(format!("m-order {} 100", hex::write(short)));
+        }
+    }
+    driver.to_venue.clear();
+}
+
+/// The faults of an order's record in each phase; in an options session, those of a type that both markets
+/// have in a live one alone.
+fn orders_of_type(driver: &mut Driver, market: Market, which: usize) {
+    let states = [
         (3, 7),
         (3, u32::MAX),
         (3, u32::MAX - 1),
         (2, 7),
         (1, 7),
         (0, 7),
-    ] {
-        for which in ORDERS {
-            set_phase(driver, phase, outgoing);
-            let good = Sample::least(&mut driver.random, which);
-            let mut records: Vec<Vec<u8>> = faulty(&good, which)
-                .iter()
-                .map(|sample| sample.record())
-                .collect();
-            for (place, value) in [
-                (0, 0x37),
-                (0, 0x25),
-                (0, 0x26),
-                (1, 1),
-                (COUNT_PLACE, 255),
-                (SLOTS_PLACE - 1, 1),
-                (SIZE - 1, 1),
-            ] {
-                let mut record = good.record();
-                record[place] = value;
-                records.push(record);
-            }
-            records.push(good.record()[..SIZE - 1].to_vec());
-            records.push(Vec::new());
-            if phase != 3 || outgoing == u32::MAX {
-                records.truncate(2);
-            }
-            for record in records {
-                let room = usize::from(driver.random.pick(&[0, 100, 100]));
-                driver.ask(format!("m-order {} {}", hex::write(&record), room));
-            }
-            for room in [good.bytes().len() - 1, good.bytes().len()] {
-                let record = hex::write(&good.record());
-                driver.ask(format!("m-order {} {}", record, room));
-            }
+    ];
+    let count = match market {
+        Market::Options if which != OPTIONS => 1,
+        _ => states.len(),
+    };
+    for (phase, outgoing) in &states[..count] {
+        set_market(driver, *phase, *outgoing, market);
+        let good = Sample::least(&mut driver.random, which);
+        let mut records: Vec<Vec<u8>> = faulty(&good, which)
+            .iter()
+            .map(|sample| sample.record())
+            .collect();
+        for (place, value) in [
+            (0, 0x37),
+            (0, 0x25),
+            (0, 0x26),
+            (0, 0x38),
+            (0, 0xB8),
+            (1, 1),
+            (COUNT_PLACE, 255),
+            (SLOTS_PLACE - 1, 1),
+            (SIZE - 1, 1),
+        ] {
+            let mut record = good.record();
+            record[place] = value;
+            records.push(record);
+        }
+        records.push(good.record()[..SIZE - 1].to_vec());
+        records.push(Vec::new());
+        if *phase != 3 || *outgoing == u32::MAX {
+            records.truncate(2);
+        }
+        for record in records {
+            let room = usize::from(driver.random.pick(&[0, 100, 100]));
+            driver.ask(format!("m-order {} {}", hex::write(&record), room));
+        }
+        for room in [good.bytes().len() - 1, good.bytes().len()] {
+            let record = hex::write(&good.record());
+            driver.ask(format!("m-order {} {}", record, room));
         }
     }
-    driver.to_venue.clear();
 }
 
 /// Of the rejections a good one and their faults, which the log does not look at.
@@ -384,15 +444,16 @@ fn venue(driver: &mut Driver) {
         let random = &mut driver.random;
         let mut logins = of_session(random, LOGIN);
         let mut orders = of_session(random, CLIENT_HEARTBEAT);
+        let equities = orders_of(Market::Equities);
         // A good one of each type, with the next number or one after it.
-        for (index, which) in ORDERS.into_iter().enumerate() {
+        for (index, which) in equities.into_iter().enumerate() {
             let mut good = Sample::any(random, which);
             good.number = next.saturating_add(index as u32);
             orders.push(good.bytes());
         }
-        let next = next.saturating_add(ORDERS.len() as u32);
+        let next = next.saturating_add(equities.len() as u32);
         // A number that is not above the last is told after what the reader refuses.
-        for (index, which) in ORDERS.into_iter().enumerate() {
+        for (index, which) in equities.into_iter().enumerate() {
             let number = next - index as u32 % 2;
             orders.extend(of_message(random, which, 0, number));
         }
@@ -406,7 +467,44 @@ fn venue(driver: &mut Driver) {
             driver.ask(format!("v-login {} {}", hex::write(&bytes), room));
         }
         for bytes in orders {
-            driver.ask(format!("v-order {}", hex::write(&bytes)));
+            driver.venue_order(Market::Equities, &bytes);
+        }
+        of_options(driver);
+    }
+}
+
+/// What a member of an options market sends, good and with every fault; then the New Order of each market, with
+/// all its fields and with the type of the record, to both.
+fn of_options(driver: &mut Driver) {
+    let next = driver.bench.venue.received.saturating_add(1);
+    let random = &mut driver.random;
+    let mut sent = Vec::new();
+    for (index, which) in orders_of(Market::Options).into_iter().enumerate() {
+        let mut good = Sample::any(random, which);
+        good.number = next.saturating_add(index as u32);
+        sent.push(good.bytes());
+        sent.extend(of_message(random, which, 0, good.number));
+    }
+    sent.extend(of_session(random, CLIENT_HEARTBEAT).into_iter().step_by(3));
+    if !driver.bench.venue.running {
+        sent = sent.into_iter().step_by(7).collect();
+    }
+    for bytes in sent {
+        driver.venue_order(Market::Options, &bytes);
+    }
+    for which in NEW_ORDERS {
+        let mut sample = Sample::least(&mut driver.random, which);
+        for all in [false, true] {
+            if all {
+                sample.select_all();
+            }
+            for market in market::ALL {
+                sample.number = driver.bench.venue.received.saturating_add(1);
+                let mut bytes = sample.bytes();
+                driver.venue_order(market, &bytes);
+                bytes[4] = 0xB8;
+                driver.venue_order(market, &bytes);
+            }
         }
     }
 }

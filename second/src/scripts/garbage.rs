@@ -35,6 +35,7 @@ const LENGTHS: [u32; 13] = [
 
 /// One state of a side, and what is asked of it.
 pub fn round(driver: &mut Driver) {
+    driver.options = 50;
     driver.book_room = some_room(&mut driver.random);
     driver.log_room = some_room(&mut driver.random);
     driver.units = (0..driver.random.between(1, 3))
@@ -115,9 +116,10 @@ fn member(driver: &mut Driver) {
         _ => 20_250_819,
     };
     let line = format!(
-        "m-state {} {} {} {} {} {} {}",
+        "m-state {} {} {} {} {} {} {} {}",
         phase,
         some_number(random),
+        random.below(2),
         date,
         length,
         last,
@@ -158,7 +160,8 @@ fn member_call(driver: &mut Driver) {
         9 => driver.login(),
         10 => {
             let size = driver.random.between(0, 400);
-            driver.ask(format!("m-restart {} {}", driver.date, size));
+            let market = driver.some_market() as u8;
+            driver.ask(format!("m-restart {} {} {}", driver.date, size, market));
         }
         11 => response(driver),
         _ => wrong::some(driver),
@@ -311,7 +314,8 @@ fn venue_call(driver: &mut Driver) {
             let received = driver.bench.venue.received;
             let by = driver.random.pick(&[0, 1, 1, 2, 255]);
             sample.number = received.wrapping_add(u32::from(by));
-            driver.ask(format!("v-order {}", hex::write(&sample.bytes())));
+            let market = driver.bench.member.market;
+            driver.venue_order(market, &sample.bytes());
         }
         12 => {
             let login = Session::any(&mut driver.random, LOGIN);

@@ -13,16 +13,14 @@ pub fn lines(driver: &mut Driver) -> Vec<String> {
     let table = "00".repeat(128);
     let (less, more) = (&table[2..], format!("{}00", table));
     for bad in [less, &more, "-", &table[1..]] {
-        lines.push(format!("m-state 0 0 0 0 0 0 {}", bad));
+        lines.push(format!("m-state 0 0 0 0 0 0 0 {}", bad));
         lines.push(format!("v-state 0 0 0 0 0 0 {} {}", bad, table));
         lines.push(format!("v-state 0 0 0 0 0 0 {} {}", table, bad));
     }
-    let of_member = ["4 0 0 0 0 0", "255 0 0 0 0 0", "0 4294967296 0 0 0 0"];
-    let of_member = of_member.iter().chain(&OF_BOTH).chain(&["- 0 0 0 0 0"]);
-    for numbers in of_member {
+    for numbers in OF_MEMBER {
         lines.push(format!("m-state {} {}", numbers, table));
     }
-    for numbers in ["2 0 0 0 0 0", "0 2 0 0 0 0"].iter().chain(&OF_BOTH) {
+    for numbers in OF_VENUE {
         lines.push(format!("v-state {} {} {}", numbers, table, table));
     }
     lines.extend(logins(driver));
@@ -42,16 +40,38 @@ pub fn lines(driver: &mut Driver) -> Vec<String> {
         format!("v-log {} {}", bytes, BUFFER + 1),
         format!("v-login {} 601", bytes),
         format!("v-login {}", bytes),
-        format!("v-order {} 10", bytes),
-        format!("v-order {}0", bytes),
+        format!("v-order {}", bytes),
+        format!("v-order {} 0", bytes),
+        format!("v-order 2 {}", bytes),
+        format!("v-order - {}", bytes),
+        format!("v-order 0 {} 10", bytes),
+        format!("v-order 0 {}0", bytes),
     ] {
         lines.push(line);
     }
     lines
 }
 
-/// Numbers that are outside the format in the state of either side.
-const OF_BOTH: [&str; 6] = [
+/// Numbers that are outside the format in the state of a side, each past its greatest value; and one too few
+/// or too many.
+const OF_MEMBER: [&str; 13] = [
+    "4 0 0 0 0 0 0",
+    "255 0 0 0 0 0 0",
+    "- 0 0 0 0 0 0",
+    "0 4294967296 0 0 0 0 0",
+    "0 0 2 0 0 0 0",
+    "0 0 255 0 0 0 0",
+    "0 0 - 0 0 0 0",
+    "0 0 0 4294967296 0 0 0",
+    "0 0 0 0 4294967296 0 0",
+    "0 0 0 0 0 4294967296 0",
+    "0 0 0 0 0 0 4294967296",
+    "0 0 0 0 0 0",
+    "0 0 0 0 0 0 0 0",
+];
+const OF_VENUE: [&str; 8] = [
+    "2 0 0 0 0 0",
+    "0 2 0 0 0 0",
     "0 0 4294967296 0 0 0",
     "0 0 0 4294967296 0 0",
     "0 0 0 0 4294967296 0",
@@ -101,25 +121,35 @@ const FIXED: &[&str] = &[
     "m",
     "v",
     "m-close",
-    "v-open 20250819 100",
-    "v-restart 20250819 100",
+    "v-open 20250819 100 0",
+    "v-restart 20250819 100 0",
     "v-beat 10",
     "m-step 100 100",
-    "M-OPEN 20250819 100",
+    "M-OPEN 20250819 100 0",
     "m-open",
     "m-open 20250819",
-    "m-open 20250819 16385",
+    "m-open 20250819 100",
+    "m-open 20250819 16385 0",
+    "m-open 20250819 100 2",
     "m-open 20250819 100 100",
-    "m-open 4294967296 100",
-    "m-open -1 100",
-    "m-open  20250819 100",
-    "m-open 20250819 100 ",
-    "m-open 20250819 000000000000000000100",
+    "m-open 20250819 100 -",
+    "m-open 20250819 100 0 0",
+    "m-open 4294967296 100 0",
+    "m-open -1 100 0",
+    "m-open  20250819 100 0",
+    "m-open 20250819 100 0 ",
+    "m-open 20250819 000000000000000000100 0",
+    "m-open 20250819 100 000000000000000000001",
     "m-restart",
     "m-restart 20250819",
-    "m-restart 20250819 16385",
-    "m-restart 4294967296 16",
-    "m-restart 20250819 -",
+    "m-restart 20250819 16",
+    "m-restart 20250819 16385 0",
+    "m-restart 20250819 16 2",
+    "m-restart 20250819 16 255",
+    "m-restart 20250819 16 -",
+    "m-restart 20250819 16 1 1",
+    "m-restart 4294967296 16 0",
+    "m-restart 20250819 - 0",
     "m-get",
     "m-get -",
     "m-get - -",
@@ -165,9 +195,15 @@ const FIXED: &[&str] = &[
     "v-step 100 100 100",
     "v-order",
     "v-order 0",
+    "v-order -",
+    "v-order 0 0",
+    "v-order 2 -",
+    "v-order 256 -",
+    "v-order -1 -",
+    "v-order - -",
     "v-break 0",
     "v-break ",
     "v-book -",
     "v-state",
-    "m-state 0 0 0 0 0 0",
+    "m-state 0 0 0 0 0 0 0",
 ];

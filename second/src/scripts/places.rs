@@ -1,15 +1,18 @@
 //! What is refused with a place, offered to each call that may take it.
 
 use super::driver::{Driver, LoginLine, GETS};
-use super::faults::{set_phase, to_live};
+use super::faults::{set_market, set_phase, to_live};
 use crate::hex;
 use crate::questions::bitfields::places as bitfields;
-use crate::questions::bitfields::sample::{ACKNOWLEDGMENT, EXECUTION, ORDERS, REJECTED};
+use crate::questions::bitfields::sample::{
+    orders_of, ACKNOWLEDGMENT, EXECUTION, OPTIONS, REJECTED,
+};
 use crate::questions::parts::Parts;
 use crate::questions::session::places as session;
 use crate::questions::session::sample::{
     CLIENT_HEARTBEAT, LOGIN, LOGOUT, REPLAY_COMPLETE, RESPONSE, SERVER_HEARTBEAT,
 };
+use crate::rules::market::Market;
 use crate::rules::table::entry;
 
 /// A day up to a live session, and then all calls.
@@ -84,9 +87,15 @@ fn gets(driver: &mut Driver) {
     }
 }
 
+/// The orders of both markets, each type once.
+fn orders_of_both() -> impl Iterator<Item = (Market, usize)> {
+    let equities = orders_of(Market::Equities).map(|which| (Market::Equities, which));
+    equities.into_iter().chain([(Market::Options, OPTIONS)])
+}
+
 fn orders(driver: &mut Driver) {
-    set_phase(driver, 3, 7);
-    for which in ORDERS {
+    for (market, which) in orders_of_both() {
+        set_market(driver, 3, 7, market);
         let placed = bitfields::faulty(&mut driver.random, which);
         for (sample, _) in placed.iter().step_by(2) {
             let room = driver.random.between(0, 3);
@@ -98,7 +107,7 @@ fn orders(driver: &mut Driver) {
 
 /// Names against their kinds, with any choice of units.
 fn logins(driver: &mut Driver) {
-    set_phase(driver, 0, 7);
+    set_market(driver, 0, 7, Market::Equities);
     for (sample, _) in session::values(&mut driver.random, LOGIN) {
         let mut login = LoginLine::good(&mut driver.random, true, &driver.units);
         login.names = sample.fields.concat();
@@ -133,14 +142,14 @@ fn venue(driver: &mut Driver) {
     driver.login();
     driver.pass();
     let received = driver.bench.venue.received;
-    for which in ORDERS {
+    for (market, which) in orders_of_both() {
         // The last number, which would be 21, and the one after it.
         let number = received + driver.random.below(2) as u32;
         for bytes in of_messages(driver, which, 0, number) {
-            driver.ask(format!("v-order {}", hex::write(&bytes)));
+            driver.venue_order(market, &bytes);
         }
     }
     for bytes in of_session(driver, CLIENT_HEARTBEAT) {
-        driver.ask(format!("v-order {}", hex::write(&bytes)));
+        driver.venue_order(Market::Equities, &bytes);
     }
 }

@@ -5,7 +5,7 @@ use crate::examples;
 use crate::hex;
 use crate::questions::bitfields::late::careless;
 use crate::questions::bitfields::sample::{
-    Sample, ACKNOWLEDGMENT, CANCEL_REJECTED, EXECUTION, MODIFY, PURGE,
+    Sample, ACKNOWLEDGMENT, CANCEL_REJECTED, EXECUTION, MODIFY, NEW_ORDERS, PURGE,
 };
 use crate::questions::book::damaged;
 use crate::questions::parts::Parts;
@@ -142,7 +142,7 @@ fn open_or_restart(driver: &mut Driver) {
     let date = driver.date;
     let length = driver.bench.member.book.length.min(SHOWN);
     let no_day = [0, 20_250_229, 20_991_232, u32::MAX][driver.random.between(0, 3)];
-    let line = match driver.random.below(6) {
+    let call = match driver.random.below(6) {
         0 => format!("m-open {} {}", no_day, driver.random.between(0, 40)),
         1 => format!("m-open {} {}", date, short(driver, 16).min(15)),
         2 => format!("m-restart {} {}", no_day, driver.random.between(0, length)),
@@ -158,7 +158,9 @@ fn open_or_restart(driver: &mut Driver) {
             format!("m-restart {} {}", date, size.min(SHOWN))
         }
     };
-    if driver.ask(line) == "0" {
+    // Refused, it leaves the market as it was.
+    let market = driver.random.below(2);
+    if driver.ask(format!("{} {}", call, market)) == "0" {
         driver.lose_line();
     }
 }
@@ -211,20 +213,25 @@ fn asking(driver: &mut Driver) -> Sample {
 fn order(driver: &mut Driver) {
     let sample = driver.some_order();
     let size = sample.bytes().len();
-    let (record, room) = match driver.random.below(10) {
+    let (record, room) = match driver.random.below(12) {
         0 => (
             sample.record()[..driver.random.between(0, SIZE - 1)].to_vec(),
             size,
         ),
         1 => {
             let mut record = sample.record();
-            record[0] = driver.random.pick(&[0x37, 0x03, 0x25, 0x26, 0x2C, 0, 0x3B]);
+            let types = [0x37, 0x03, 0x25, 0x26, 0x2C, 0, 0x3B, 0x38, 0xB8];
+            record[0] = driver.random.pick(&types);
             (record, size)
         }
         2 => (sample.record(), short(driver, size)),
         3 | 4 => {
             let careless = asking(driver);
             (careless.record(), careless.bytes().len())
+        }
+        5 => {
+            let foreign = driver.order_of(driver.bench.member.market.other());
+            (foreign.record(), foreign.bytes().len())
         }
         _ => {
             let (_, record, _) = sample.damaged_record(&mut driver.random);
@@ -344,7 +351,11 @@ fn step(driver: &mut Driver) {
 fn take_order(driver: &mut Driver) {
     let received = driver.bench.venue.received;
     let mut sample = driver.some_order();
-    let bytes = match driver.random.below(6) {
+    let market = match driver.random.below(6) {
+        0 => driver.bench.member.market.other(),
+        _ => driver.bench.member.market,
+    };
+    let bytes = match driver.random.below(7) {
         0 => {
             sample.number = match driver.random.below(5) {
                 0 => 0,
@@ -369,10 +380,19 @@ fn take_order(driver: &mut Driver) {
             careless.number = received.saturating_add(1);
             careless.bytes()
         }
+        4 => {
+            // A New Order of either market, or with the type of a record.
+            let which = NEW_ORDERS[driver.random.between(0, 1)];
+            sample = Sample::any(&mut driver.random, which);
+            sample.number = received.saturating_add(1);
+            let mut bytes = sample.bytes();
+            bytes[4] = driver.random.pick(&[0x38, 0x38, 0xB8]);
+            bytes
+        }
         _ => {
             sample.number = received.saturating_add(1);
             sample.damaged(&mut driver.random).1
         }
     };
-    driver.ask(format!("v-order {}", hex::write(&bytes)));
+    driver.venue_order(market, &bytes);
 }

@@ -10,7 +10,7 @@ unfolding entryOf
 entry-of-spec =
     tie.close
     (tie.spec
-    free free free free free free free free
+    free free free free free free free free free
     (λ c. rw (c .before .match .keys1) (c .new-order .ensures))
     (λ c. rw (c .before .match .keys2) (c .cancel-order .ensures))
     (λ c. rw (c .before .match .keys3) (c .acknowledgment .ensures))
@@ -19,4 +19,5 @@ entry-of-spec =
     (λ c. rw (c .before .match .keys6) (c .cancel-rejection .ensures))
     (λ c. rw (c .before .match .keys7) (c .modify-order .ensures))
     (λ c. rw (c .before .match .keys8) (c .purge-orders .ensures))
+    (λ c. rw (c .before .match .keys9) (c .options-order .ensures))
     (λ c. search ne-eqb))

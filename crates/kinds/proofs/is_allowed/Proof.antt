@@ -51,6 +51,9 @@ enum-told-7 c = search needs
 is-within-requires-3 : tie.Need-is-within-requires-3
 is-within-requires-3 c κs = search needs
 
+enum-told-8 : tie.Need-enum-told-8
+enum-told-8 c = search needs
+
 returns-2 : tie.Need-returns-2
 returns-2 c = rw (c .before .enum-told .given .1) (c .is-letter .ensures)
 
@@ -74,6 +77,9 @@ returns-7 c = search needs
 returns-8 : tie.Need-returns-8
 returns-8 c = rw (c .before .enum-told7 .given .1) (c .is-within3 .ensures)
 
+returns-9 : tie.Need-returns-9
+returns-9 c = search needs
+
 pub is-allowed-spec : {M : Type 1} → statement M
 is-allowed-spec =
     tie.close
@@ -92,10 +98,12 @@ is-allowed-spec =
     enum-told-6
     enum-told-7
     is-within-requires-3
+    enum-told-8
     returns-2
     returns-3
     returns-4
     returns-5
     returns-6
     returns-7
-    returns-8)
+    returns-8
+    returns-9)

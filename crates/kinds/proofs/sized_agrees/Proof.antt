@@ -57,6 +57,12 @@ enum-told-7 c = search needs
 filled-agrees-requires : tie.Need-filled-agrees-requires
 filled-agrees-requires c κs = search needs
 
+enum-told-8 : tie.Need-enum-told-8
+enum-told-8 c = search needs
+
+day-agrees-requires : tie.Need-day-agrees-requires
+day-agrees-requires c κs = search needs
+
 returns-2 : tie.Need-returns-2
 returns-2 c = rw (c .before .enum-told .given .1) (c .text-agrees .ensures)
 
@@ -78,6 +84,9 @@ returns-7 c = search needs
 returns-8 : tie.Need-returns-8
 returns-8 c = rw (c .before .enum-told7 .given .1) (c .filled-agrees .ensures)
 
+returns-9 : tie.Need-returns-9
+returns-9 c = rw (c .before .enum-told8 .given .1) (c .day-agrees .ensures)
+
 pub sized-agrees-spec : {M : Type 1} → statement M
 sized-agrees-spec =
     tie.close
@@ -97,10 +106,13 @@ sized-agrees-spec =
     enum-told-6
     enum-told-7
     filled-agrees-requires
+    enum-told-8
+    day-agrees-requires
     returns-2
     returns-3
     returns-4
     returns-5
     returns-6
     returns-7
-    returns-8)
+    returns-8
+    returns-9)

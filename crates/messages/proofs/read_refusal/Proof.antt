@@ -1,7 +1,7 @@
 -- `messages::read_refusal` meets its contract: its scratch has room for any record. Assumes nothing.
 use Rattle.messages.specs.MessageLaws.{size-at-most, own-size-suffices}
 use Rattle.wire.specs.Header.{typeOf}
-use Rattle.wire.specs.Frame.{framed}
+use Rattle.messages.specs.Messages.{heard}
 use native.Mathlib.Omega.{arith}
 use denote.Ref.{now}
 use mathlib.Core.Path.{_∙_}
@@ -19,7 +19,7 @@ returns : tie.Need-returns
 returns c =
     let read = c .before in
     let a = read .before .before .before .args in
-    read .read .ensures .0 ∙ own-size-suffices (a .direction) (now (a .bytes)) _ (size-at-most (typeOf (framed (now (a .bytes)))))
+    read .read .ensures .0 ∙ own-size-suffices (a .direction) (now (a .bytes)) _ (size-at-most (typeOf (heard (a .direction) (now (a .bytes)))))
 
 pub read-refusal-spec : {M : Type 1} → statement M
 read-refusal-spec = tie.close (tie.spec slice-aggregate-read read-requires returns)

@@ -1,57 +1,33 @@
--- `order_reader::order_refusal` meets its contract: the head's refusal, or that of the body which a good head says the places of. Assumes nothing.
-use Rattle.order_reader.proofs.Readings.{refused-by-head}
-use Rattle.order_reader.proofs.Heads.{good-head}
-use Rattle.order_reader.proofs.InPlace.{in-place}
-use mathlib.Core.Path.{sym, _∙_}
+-- `order_reader::order_refusal` meets its contract: a message under its own type is the message. Assumes nothing.
+use Rattle.order_reader.proofs.Heads.{no-type}
+use Rattle.orders.specs.Markets.{typed}
+use Rattle.orders.specs.MarketLaws.{same-but}
+use Rattle.orders.specs.Orders.{readRefusal}
+use mathlib.Core.Path.{ap, _∙_}
+use Prim.Native.Nat.{ℕ}
+use native.Mathlib.Omega.{arith}
 use denote.Ref.{now}
 use borrow.Author.Needs.{needs}
 use Rattle.order_reader.proofs.order_refusal.Statement.{statement}
 use Rattle.order_reader.proofs.order_refusal.Tie as tie
 
+returns : tie.Need-returns
+returns c = no-type (now (c .before .before .args .m)) (c .if1 .taken)
+
 type-of-requires : tie.Need-type-of-requires
 type-of-requires c κs = search needs
 
-count-at-requires : tie.Need-count-at-requires
-count-at-requires c κs = search needs
-
-head-refusal-requires : tie.Need-head-refusal-requires
-head-refusal-requires c κs = c .before .type-of .ensures
-
-returns : tie.Need-returns
-returns c =
-    let head = c .before in
-    refused-by-head (now (head .before .before .before .before .args .m)) (head .head-refusal .ensures) (c .if1 .taken)
-
-byte-at-requires : tie.Need-byte-at-requires
-byte-at-requires c κs = search needs
-
-body-refusal-requires : tie.Need-body-refusal-requires
-body-refusal-requires c κs =
-    let good = c .before in
-    let head = good .before in
-    let there = head .before .count-at .ensures in
-    let typed = head .before .before .type-of in
-    let k = good-head (now (head .before .before .before .before .args .m)) _ _ _ (sym (head .head-refusal .ensures) ∙ good .if1 .left) (typed .ensures) there (c .byte-at .ensures) in
-    (k .at-least, k .fits, k .few, there)
+refusal-as-requires : tie.Need-refusal-as-requires
+refusal-as-requires c κs = search needs
 
 returns-2 : tie.Need-returns-2
 returns-2 c =
-    let counted = c .before in
-    let good = counted .before in
-    let head = good .before in
-    let there = head .before in
-    let typed = there .before in
-    in-place (now (typed .before .before .args .m)) (sym (head .head-refusal .ensures) ∙ good .if1 .left) _ _ _
-    (typed .type-of .ensures) (there .count-at .ensures) (counted .byte-at .ensures) (c .body-refusal .ensures)
+    let named = c .before in
+    let long = named .before in
+    let m = now (long .before .before .args .m) in
+    c .refusal-as .ensures
+    ∙ ap (λ (t : ℕ). readRefusal (typed t m)) (named .type-of .ensures)
+    ∙ ap readRefusal (same-but 0 m (omega (arith, long .if1 .left)) .same)
 
 pub order-refusal-spec : {M : Type 1} → statement M
-order-refusal-spec =
-    tie.close
-    (tie.spec
-    type-of-requires
-    count-at-requires
-    head-refusal-requires
-    returns
-    byte-at-requires
-    body-refusal-requires
-    returns-2)
+order-refusal-spec = tie.close (tie.spec returns type-of-requires refusal-as-requires returns-2)

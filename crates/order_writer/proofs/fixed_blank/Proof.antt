@@ -1,6 +1,7 @@
 -- `order_writer::fixed_blank` meets its contract: in each arm the bytes that are not used are those after the literal place, in two windows; a Purge
 -- Orders alone has a middle. Assumes nothing.
 use mathlib.Core.Path.{sym, ap, _∙_}
+use mathlib.Core.Logic.{⊎-elim}
 use Prim.Native.Nat.{ℕ, _-_}
 use native.Mathlib.Omega.{arith}
 use lib.ListN.{drop, drop-of-length-le}
@@ -131,7 +132,7 @@ returns : tie.Need-returns
 returns c =
     let arm = c .before .before .before in
     let e = arm .match .keys1 in
-    c .two-blank .ensures ∙ unused-windows _ _ _ _ 25 64 74 16 (arm .before .before .before .pre .0) (omega arith) (omega arith) (λ z. omega (arith, e, z)) (in-new-order _ e)
+    c .two-blank .ensures ∙ unused-windows _ _ _ _ 25 64 74 16 (arm .before .before .before .pre .0) (omega arith) (omega arith) (⊎-elim (λ p z. omega (arith, p, z)) (λ p z. omega (arith, p, z)) e) (in-new-order _ e)
 
 returns-2 : tie.Need-returns-2
 returns-2 c =

@@ -1,14 +1,15 @@
 -- `order_writer::put_order` meets its contract. Assumes nothing.
-use mathlib.Core.Path.{_≡_, refl, _∙_}
+use mathlib.Core.Path.{_≡_, refl, ap, _∙_}
 use mathlib.Core.List.{List}
 use Prim.Native.Nat.{ℕ, _+_, _-_, _≤_}
 use native.Mathlib.Omega.{arith}
 use lib.ListN.{length}
 use denote.Ref.{now}
-use Rattle.numbers.specs.Numbers.{patched}
+use Rattle.numbers.specs.Numbers.{patched, putBuffer}
 use Rattle.numbers.specs.NumberLaws.{put-stores}
 use Rattle.numbers.proofs.Tail.{puts-then, tail-length}
 use Rattle.wire.specs.Header.{headerBytes}
+use Rattle.orders.specs.Markets.{wireType}
 use Rattle.orders.specs.OrderLaws.{count-bounds}
 use Rattle.order_writer.specs.Stages.{restBytes}
 use Rattle.order_writer.proofs.Puts.{rest-length}
@@ -17,11 +18,11 @@ use Rattle.order_writer.proofs.put_order.Statement.{statement}
 use Rattle.order_writer.proofs.put_order.Tie as tie
 
 abbrev start-of : tie.After-write-header → tie.Start
-start-of c = c .before .before .before .before .before .before
+start-of c = c .before .before .before .before .before .before .before
 
 -- the header, and all that follows it
 abbrev header : tie.Start → List ℕ
-header c = headerBytes (c .args .size - 2) (c .args .message) (c .args .unit) (c .args .number)
+header c = headerBytes (c .args .size - 2) (wireType (c .args .message)) (c .args .unit) (c .args .number)
 
 abbrev rest : tie.Start → List ℕ
 rest c = restBytes (c .args .message) (c .args .count) (now (c .args .fixed)) (now (c .args .bits)) (now (c .args .slots))
@@ -37,10 +38,18 @@ room c =
     omega (arith, rest-length (a .message) (a .count) (now (a .fixed)) (now (a .bits)) (now (a .slots)) (p .1) (p .2) (p .3) (p .0) (p .4), p .5, p .6, count-bounds (a .message) .low)
 
 put-header : (c : tie.After-write-header) → c .write-header .last .0 ≡ patched (now (start-of c .args .out)) 0 (header (start-of c))
-put-header c = c .write-header .ensures .1 ∙ put-stores (now (start-of c .args .out)) 0 (header (start-of c)) (omega (arith, long (start-of c), start-of c .pre .6))
+put-header c =
+    let a = start-of c .args in
+    let named = c .before .before .wire-type in
+    c .write-header .ensures .1
+    ∙ ap (λ (t : ℕ). putBuffer (now (a .out)) 0 (headerBytes (a .size - 2) t (a .unit) (a .number))) (named .ensures)
+    ∙ put-stores (now (start-of c .args .out)) 0 (header (start-of c)) (omega (arith, long (start-of c), start-of c .pre .6))
+
+wire-type-requires : tie.Need-wire-type-requires
+wire-type-requires c κs = search needs
 
 sub-write-header : tie.Need-sub-write-header
-sub-write-header c = omega (arith, long (c .before .before .before .before .before))
+sub-write-header c = omega (arith, long (c .before .before .before .before .before .before))
 
 cast-write-header : tie.Need-cast-write-header
 cast-write-header c = search needs
@@ -82,6 +91,7 @@ pub put-order-spec : {M : Type 1} → statement M
 put-order-spec =
     tie.close
     (tie.spec
+    wire-type-requires
     sub-write-header
     cast-write-header
     write-header-requires

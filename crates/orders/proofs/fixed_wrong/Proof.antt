@@ -1,4 +1,6 @@
 -- `orders::fixed_wrong` meets its contract: that of Purge Orders has nothing to test; every other one is its identifier and, in six types, more to test. Assumes nothing.
+use Rattle.dictionary.specs.Dictionary.{isNewOrder}
+use Rattle.dictionary.specs.NewOrders.{a-new-order, no-new-order}
 use Rattle.orders.specs.Shapes.{countAt}
 use Rattle.orders.specs.FixedFields.{newOrderFields, cancelOrderFields, modifyOrderFields, acknowledgmentFields, executionFields, rejectionFields, fixedFields, fixedWrong}
 use Rattle.refusals.specs.FirstBad.{firstBad}
@@ -22,7 +24,7 @@ use Rattle.orders.proofs.fixed_wrong.Tie as tie
 -- the identifier lies within the fixed part
 name-fits : (message n : ℕ) → (message ≡ 0x47 → ⊥) → countAt message ≤ n + 10 → nameAt message + 20 ≤ n
 unfolding countAt nameAt
-name-fits message n p h = by (eqb message 0x38) (eqb message 0x39) (eqb message 0x25) (eqb message 0x2C) (eqb message 0x3A) (rw (ne-eqb message 0x47 p) at h)
+name-fits message n p h = by (isNewOrder message) (eqb message 0x39) (eqb message 0x25) (eqb message 0x2C) (eqb message 0x3A) (rw (ne-eqb message 0x47 p) at h)
   where
     by : (a b d e f : Bool) → cond a 35 (cond b 30 (cond d 47 (cond e 69 (cond f 50 100)))) ≤ n + 10 → cond a 0 (cond b 0 (cond f 0 8)) + 20 ≤ n
     by true b d e f h = omega (arith, h)
@@ -36,7 +38,7 @@ name-fits message n p h = by (eqb message 0x38) (eqb message 0x39) (eqb message 
 
 name-near : (message : ℕ) → nameAt message ≤ 8
 unfolding nameAt
-name-near message = by (eqb message 0x38) (eqb message 0x39) (eqb message 0x3A)
+name-near message = by (isNewOrder message) (eqb message 0x39) (eqb message 0x3A)
   where
     by : (a b f : Bool) → cond a 0 (cond b 0 (cond f 0 8)) ≤ 8
     by true b f = omega arith
@@ -47,7 +49,7 @@ name-near message = by (eqb message 0x38) (eqb message 0x39) (eqb message 0x3A)
 -- the first bad field after it
 unfoldable restWrong : ℕ → List ℕ → ℕ
 restWrong message f =
-    cond (eqb message 0x38) (newOrderRest f) (cond (eqb message 0x39) 0 (cond (eqb message 0x25) 0 (cond (eqb message 0x2C) (executionRest f) (cond (eqb message 0x3A) (modifyOrderRest f) (rejectionRest f)))))
+    cond (isNewOrder message) (newOrderRest f) (cond (eqb message 0x39) 0 (cond (eqb message 0x25) 0 (cond (eqb message 0x2C) (executionRest f) (cond (eqb message 0x3A) (modifyOrderRest f) (rejectionRest f)))))
 
 -- no number is two types
 apart : (message x y : ℕ) → eqb message x ≡ true → eqb x y ≡ false → eqb message y ≡ false
@@ -55,7 +57,7 @@ apart message x y e d = let k : message ≡ x = eqb-true message x e in rw k d
 
 in-two : (message : ℕ) (f : List ℕ) → (message ≡ 0x47 → ⊥) → fixedWrong message f ≡ cond (agreesFilledOf Identifier (take 20 (drop (nameAt message) f))) (restWrong message f) (10 + nameAt message)
 unfolding fixedWrong fixedFields nameAt restWrong
-in-two message f p = rw (ne-eqb message 0x47 p) (by (eqb message 0x38) (eqb message 0x39) (eqb message 0x25) (eqb message 0x2C) (eqb message 0x3A) (λ e. apart message 0x25 0x3A e refl) (λ e. apart message 0x2C 0x3A e refl))
+in-two message f p = rw (ne-eqb message 0x47 p) (by (isNewOrder message) (eqb message 0x39) (eqb message 0x25) (eqb message 0x2C) (eqb message 0x3A) (λ e. apart message 0x25 0x3A e refl) (λ e. apart message 0x2C 0x3A e refl))
   where
     by : (a b d e g : Bool) → (d ≡ true → g ≡ false) → (e ≡ true → g ≡ false)
         → firstBad (cond a (newOrderFields f) (cond b (cancelOrderFields f) (cond d (acknowledgmentFields f) (cond e (executionFields f) (cond g (modifyOrderFields f) (rejectionFields f))))))
@@ -133,7 +135,7 @@ returns-3 c =
     let other = named .before .before .before in
     let a = other .before .before .args in
     let whole = once-named (a .message) _ (now (a .f)) _ true (other .if1 .left) (named .before .before .name-at .ensures) (named .identifies .ensures) (not-false _ (c .before .before .if2 .left)) in
-    c .new-order-rest .ensures ∙ sym (whole ∙ rw (c .before .match .keys1))
+    c .new-order-rest .ensures ∙ sym (whole ∙ rw (a-new-order _ (c .before .match .keys1)))
 
 returns-4 : tie.Need-returns-4
 unfolding restWrong
@@ -179,7 +181,7 @@ returns-8 c =
     let a = other .before .before .args in
     let whole = once-named (a .message) _ (now (a .f)) _ true (other .if1 .left) (named .before .before .name-at .ensures) (named .identifies .ensures) (not-false _ (c .before .before .if2 .left)) in
     let r = c .before .match .rest in
-    c .rejection-rest .ensures ∙ sym (whole ∙ simp (ne-eqb _ _ (r .1), ne-eqb _ _ (r .0 .1), ne-eqb _ _ (r .0 .0 .1), ne-eqb _ _ (r .0 .0 .0 .1), ne-eqb _ _ (r .0 .0 .0 .0 .1)))
+    c .rejection-rest .ensures ∙ sym (whole ∙ simp (ne-eqb _ _ (r .1), ne-eqb _ _ (r .0 .1), ne-eqb _ _ (r .0 .0 .1), ne-eqb _ _ (r .0 .0 .0 .1), no-new-order _ (r .0 .0 .0 .0 .1)))
 
 pub fixed-wrong-spec : {M : Type 1} → statement M
 fixed-wrong-spec =

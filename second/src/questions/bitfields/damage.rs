@@ -16,15 +16,15 @@ use crate::rules::record::{
     BITFIELDS_PLACE, COUNT_PLACE, FIXED_PLACE, SESSION_SIZE, SIZE, SLOTS_PLACE,
 };
 
-/// Types of both directions and of none.
-const TYPE_BYTES: [u8; 14] = [
-    0x38, 0x39, 0x25, 0x2C, 0x26, 0x29, 0x2B, 0x37, 0x24, 0x00, 0x27, 0xFF, 0x3A, 0x47,
+/// Types of records of every direction and of none.
+const TYPE_BYTES: [u8; 15] = [
+    0x38, 0x39, 0x25, 0x2C, 0x26, 0x29, 0x2B, 0x37, 0x24, 0x00, 0x27, 0xFF, 0x3A, 0x47, 0xB8,
 ];
 
 /// A direction and the bytes of a damaged message, which may still be valid.
 pub fn message(random: &mut Random, sample: &Sample) -> (u8, Vec<u8>) {
     let (sample, strokes) = begun(random, sample);
-    let mut direction = sample.layout.direction;
+    let mut direction = sample.layout.direction();
     let mut bytes = sample.bytes();
     for _ in 0..strokes {
         strike_message(random, sample.layout, &mut direction, &mut bytes);
@@ -35,7 +35,7 @@ pub fn message(random: &mut Random, sample: &Sample) -> (u8, Vec<u8>) {
 /// A direction, a damaged record and a buffer for its message.
 pub fn record(random: &mut Random, sample: &Sample) -> (u8, Vec<u8>, Vec<u8>) {
     let (sample, strokes) = begun(random, sample);
-    let mut direction = sample.layout.direction;
+    let mut direction = sample.layout.direction();
     let mut bytes = Sample::lent(random, &sample.record());
     let mut room = sample.bytes().len();
     for _ in 0..strokes {

@@ -2,9 +2,9 @@
 //! first that is bad, alone and before others; the place that is told comes from the parts.
 
 use super::late::instruct;
-use super::sample::{never_blank, Sample, MODIFY, NEW_ORDER, PURGE};
+use super::sample::{never_blank, Sample, MODIFY, NEW_ORDER, OPTIONS, PURGE};
 use crate::questions::parts::{measure, Parts};
-use crate::questions::values::{spoil, textual};
+use crate::questions::values::{self, spoil};
 use crate::random::Random;
 use crate::rules::frame::HEADER;
 use crate::rules::kinds::Kind;
@@ -126,7 +126,7 @@ fn some_bits(random: &mut Random, bits: u8) -> u8 {
 /// Choices of fields that lack what is required whatever the values: none, and all but one.
 fn too_few(which: usize) -> &'static [&'static [&'static str]] {
     match which {
-        NEW_ORDER => &[
+        NEW_ORDER | OPTIONS => &[
             &[],
             &["Price", "OrdType"],
             &["Capacity", "Price", "OrdType"],
@@ -238,10 +238,11 @@ pub fn values(random: &mut Random, which: usize) -> Placed {
 /// The fields that a value can be bad in, in the order of the message.
 fn can_be_bad(layout: &Layout) -> Vec<&'static str> {
     let fixed = layout.fixed.iter().filter(|field| match field.rule {
-        Rule::Any(kind) | Rule::Filled(kind) => textual(kind),
+        Rule::Any(kind) | Rule::Filled(kind) => values::can_be_bad(kind),
         Rule::Quantity => true,
     });
-    let listed = layout.listed.iter().filter(|field| textual(field.kind));
+    let listed = layout.listed.iter();
+    let listed = listed.filter(|field| values::can_be_bad(field.kind));
     let middle = match layout.middle {
         Middle::Nothing => None,
         Middle::RiskGroups { .. } => Some(ID_COUNT),
@@ -371,6 +372,11 @@ mod tests {
             names(8),
             "RiskGroupIDCnt ClearingFirm MassCancelInst MassCancelID Symbol SymbolSfx"
         );
+        assert_eq!(
+            names(9),
+            "ClOrdID Side OrderQty ClearingFirm ClearingAccount ExecInst OrdType TimeInForce \
+             Symbol Capacity RoutingInst Account MaturityDate PutOrCall OpenClose"
+        );
     }
 
     /// Read and written, each is refused at its place.
@@ -395,7 +401,7 @@ mod tests {
                 check(missing(&mut random, which), Refusal::Missing);
                 check(late(&mut random, which), Refusal::Missing);
                 check(values(&mut random, which), Refusal::Value);
-                let direction = layout::ALL[which].direction;
+                let direction = layout::ALL[which].direction();
                 for (bytes, end) in totals(&mut random, which) {
                     let read = read::message(direction, &bytes);
                     assert_eq!(read, Err(Refusal::Total(end)));
@@ -418,6 +424,7 @@ mod tests {
             (6, 101, 119),
             (7, 51, 52),
             (8, 12, 13),
+            (9, 37, 45),
         ] {
             let places = bits(&mut random, which).into_iter();
             let places: BTreeSet<usize> = places.map(|(_, place)| place).collect();
@@ -428,9 +435,11 @@ mod tests {
             }
             assert_eq!(places, expected);
         }
-        let places = missing(&mut random, 0).into_iter();
-        let places: BTreeSet<usize> = places.map(|(_, place)| place).collect();
-        assert_eq!(places, (35..=45).collect());
+        for which in [0, 9] {
+            let places = missing(&mut random, which).into_iter();
+            let places: BTreeSet<usize> = places.map(|(_, place)| place).collect();
+            assert_eq!(places, (35..=45).collect());
+        }
         for (which, first) in [(7, 50), (8, 11)] {
             let places = missing(&mut random, which).into_iter();
             let places: BTreeSet<usize> = places.map(|(_, place)| place).collect();

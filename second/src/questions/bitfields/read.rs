@@ -6,15 +6,15 @@ mod values;
 
 use super::sample::{
     self, Sample, ACKNOWLEDGMENT, CANCEL, CANCEL_REJECTED, EXECUTION, MODIFY, MODIFY_REJECTED,
-    NEW_ORDER, ORDER_REJECTED, PURGE,
+    NEW_ORDER, OPTIONS, ORDER_REJECTED, PURGE,
 };
 use crate::examples;
-use crate::questions::parts::Parts;
+use crate::questions::parts::{other_directions, Parts};
 use crate::questions::reading::{self, add, measured, Asked};
 use crate::random::Random;
 use crate::rules::frame::HEADER;
 use crate::rules::layout;
-use crate::rules::types::{MEMBER, VENUE};
+use crate::rules::types::{MEMBER, OPTIONS_MEMBER, VENUE};
 
 pub fn ask(lines: &mut Vec<String>) {
     reading::ask(lines, messages());
@@ -68,6 +68,7 @@ fn from_the_documents(asked: &mut Asked) {
     asked.push((MEMBER, examples::purge_by_symbol_with_its_length()));
     let longer = [examples::purge_by_symbol(), vec![0; 2]].concat();
     asked.push((MEMBER, longer));
+    asked.push((OPTIONS_MEMBER, examples::options_order()));
     // P9 and P10 in other forms.
     let mut message = examples::cancel();
     message[30] = 3;
@@ -84,7 +85,7 @@ fn from_the_documents(asked: &mut Asked) {
 /// Length fields that are off, with the same bytes and with as many bytes as they say.
 fn lengths(asked: &mut Asked, random: &mut Random, which: usize) {
     let sample = Sample::with_first_field(random, which);
-    let direction = sample.layout.direction;
+    let direction = sample.layout.direction();
     let message = sample.bytes();
     let length = message.len() as u16 - 2;
     let others = [
@@ -119,7 +120,7 @@ fn lengths(asked: &mut Asked, random: &mut Random, which: usize) {
 /// other rules look at, since the place of the cut decides which of them is told.
 fn cuts(asked: &mut Asked, random: &mut Random, which: usize) {
     let layout = &layout::ALL[which];
-    let direction = layout.direction;
+    let direction = layout.direction();
     let whole = match which {
         NEW_ORDER => examples::new_order(),
         CANCEL => examples::cancel(),
@@ -129,6 +130,7 @@ fn cuts(asked: &mut Asked, random: &mut Random, which: usize) {
         CANCEL_REJECTED => examples::cancel_rejected(),
         MODIFY => examples::modify(),
         PURGE => examples::purge_by_ids_with_its_length(),
+        OPTIONS => examples::options_order(),
         _ => examples::modify_rejected(),
     };
     reading::cut_anywhere(asked, direction, &whole);
@@ -166,7 +168,7 @@ fn after(asked: &mut Asked, random: &mut Random, which: usize) {
         random.bytes(7),
         message.clone(),
     ];
-    reading::followed(asked, sample.layout.direction, &message, &more);
+    reading::followed(asked, sample.layout.direction(), &message, &more);
 }
 
 fn headers(asked: &mut Asked, random: &mut Random, which: usize) {
@@ -192,7 +194,7 @@ fn headers(asked: &mut Asked, random: &mut Random, which: usize) {
         add(asked, &sample);
     }
     // Units and numbers together, which matter to what is unsequenced and to what is not.
-    if sample.layout.direction == VENUE {
+    if sample.layout.direction() == VENUE {
         for unit in [0, 1, 32, 33, 255] {
             for number in [0, 1, 256, 65_536, 0x0100_0000, 0xFFFF_FFFF] {
                 (sample.unit, sample.number) = (unit, number);
@@ -202,15 +204,23 @@ fn headers(asked: &mut Asked, random: &mut Random, which: usize) {
     }
 }
 
-/// Directions that the type does not have, also with faults of framing and of the unit.
+/// Other directions, also with faults of framing and of the unit; and the type of the record on the wire,
+/// where it is not the message's.
 fn directions(asked: &mut Asked, random: &mut Random, which: usize) {
     let mut sample = Sample::any(random, which);
-    let own = sample.layout.direction;
-    for direction in [1 - own, 2, 3, 127, 128, 129, 254, 255] {
+    let own = sample.layout.direction();
+    for direction in other_directions(own) {
         asked.push((direction, sample.bytes()));
     }
     let message = sample.bytes();
-    for direction in [1 - own, 2, 255] {
+    if sample.layout.record_type != sample.layout.type_byte {
+        let mut recorded = message.clone();
+        recorded[4] = sample.layout.record_type;
+        for direction in [own].into_iter().chain(other_directions(own)) {
+            asked.push((direction, recorded.clone()));
+        }
+    }
+    for direction in other_directions(own).take(3) {
         let mut start = message.clone();
         start[1] = 0;
         asked.push((direction, start));
@@ -221,16 +231,17 @@ fn directions(asked: &mut Asked, random: &mut Random, which: usize) {
         asked.push((direction, message[..4].to_vec()));
     }
     sample.unit = sample.layout.greatest_unit + 1;
-    for direction in [1 - own, 2, 255] {
+    for direction in other_directions(own).take(3) {
         asked.push((direction, sample.bytes()));
     }
 }
 
 /// Every type in a header alone, with a number that the session messages do not have.
 fn types(asked: &mut Asked) {
-    for direction in [MEMBER, VENUE] {
+    for direction in [MEMBER, VENUE, OPTIONS_MEMBER] {
+        let unit = u8::from(direction == VENUE);
         for type_byte in 0..=255 {
-            let message = [0xBA, 0xBA, 8, 0, type_byte, direction, 1, 0, 0, 0];
+            let message = [0xBA, 0xBA, 8, 0, type_byte, unit, 1, 0, 0, 0];
             asked.push((direction, message.to_vec()));
         }
     }
@@ -247,6 +258,7 @@ fn random_messages(asked: &mut Asked, random: &mut Random) {
         (MODIFY_REJECTED, 30),
         (MODIFY, 70),
         (PURGE, 90),
+        (OPTIONS, 140),
     ];
     reading::any::<Sample>(asked, random, &counts);
     let counts = [
@@ -259,6 +271,7 @@ fn random_messages(asked: &mut Asked, random: &mut Random) {
         (MODIFY_REJECTED, 50),
         (MODIFY, 90),
         (PURGE, 120),
+        (OPTIONS, 120),
     ];
     reading::damaged::<Sample>(asked, random, &counts);
 }
@@ -279,7 +292,7 @@ mod tests {
             if layout.type_byte == 0x47 {
                 numbers.push(23);
             }
-            judged::gets_each(&seen, layout.type_byte, &numbers);
+            judged::gets_each(&seen, layout.record_type, &numbers);
         }
     }
 }

@@ -7,8 +7,9 @@ use crate::questions::values::{full_value, some_number, some_value};
 use crate::random::Random;
 use crate::rules::desk::HANDED;
 use crate::rules::layout::{self, Layout, Listed, Middle, Rule};
+use crate::rules::market::Market;
 use crate::rules::record::{COUNT_PLACE, SESSION_SIZE, SIZE, SLOTS_PLACE};
-use crate::rules::types::{CANCEL_ORDER, MODIFY_ORDER, PURGE_ORDERS};
+use crate::rules::types::{CANCEL_ORDER, MODIFY_ORDER, OPTIONS_ORDER, PURGE_ORDERS};
 
 pub const NEW_ORDER: usize = 0;
 pub const CANCEL: usize = 1;
@@ -19,11 +20,21 @@ pub const CANCEL_REJECTED: usize = 5;
 pub const MODIFY_REJECTED: usize = 6;
 pub const MODIFY: usize = 7;
 pub const PURGE: usize = 8;
+pub const OPTIONS: usize = 9;
 /// How many there are.
 #[cfg(test)]
-pub const TYPES: usize = 9;
-/// Those that go out as orders.
-pub const ORDERS: [usize; 4] = [NEW_ORDER, CANCEL, MODIFY, PURGE];
+pub const TYPES: usize = 10;
+/// The New Orders of both markets, in the order of MARKET.
+pub const NEW_ORDERS: [usize; 2] = [NEW_ORDER, OPTIONS];
+/// Those that have an OrderQty.
+pub const WITH_QUANTITY: [usize; 6] = [
+    NEW_ORDER,
+    ACKNOWLEDGMENT,
+    EXECUTION,
+    ORDER_REJECTED,
+    MODIFY,
+    OPTIONS,
+];
 /// Those that are handed to the desk.
 pub const REJECTED: [usize; 3] = [ORDER_REJECTED, CANCEL_REJECTED, MODIFY_REJECTED];
 
@@ -254,11 +265,15 @@ impl Parts for Sample {
     }
 
     fn direction(&self) -> u8 {
-        self.layout.direction
+        self.layout.direction()
     }
 
     fn header(&self) -> (u8, u8, u32) {
         (self.layout.type_byte, self.unit, self.number)
+    }
+
+    fn record_type(&self) -> u8 {
+        self.layout.record_type
     }
 
     fn body(&self) -> Vec<u8> {
@@ -294,11 +309,11 @@ impl Parts for Sample {
     }
 
     /// Most have the bytes of the longest record, some their own alone or a few after them; of the
-    /// rejections, of Modify Order and of Purge Orders most have their own alone. What follows the
-    /// record plays no part: it is zero in most, but not in all.
+    /// rejections, of Modify Order, of Purge Orders and of the options New Order most have their own
+    /// alone. What follows the record plays no part: it is zero in most, but not in all.
     fn lent(random: &mut Random, record: &[u8]) -> Vec<u8> {
-        let alone =
-            HANDED.contains(&record[0]) || [MODIFY_ORDER, PURGE_ORDERS].contains(&record[0]);
+        let short = [MODIFY_ORDER, PURGE_ORDERS, OPTIONS_ORDER];
+        let alone = HANDED.contains(&record[0]) || short.contains(&record[0]);
         let (some, most) = match alone {
             true => (SESSION_SIZE, SIZE),
             false => (SIZE, SESSION_SIZE),
@@ -335,6 +350,11 @@ impl Parts for Sample {
     }
 }
 
+/// Those that go out as orders in a market, its New Order first.
+pub fn orders_of(market: Market) -> [usize; 4] {
+    [NEW_ORDERS[market as usize], CANCEL, MODIFY, PURGE]
+}
+
 fn set(bitfields: &mut Vec<u8>, byte: usize, bit: u8) {
     if bitfields.len() < byte {
         bitfields.resize(byte, 0);
@@ -358,7 +378,7 @@ fn never_blank_of(layout: &Layout) -> &'static str {
 /// A field without which a message of a type is refused.
 pub fn required_field(which: usize) -> Option<&'static str> {
     match which {
-        NEW_ORDER => Some("Capacity"),
+        NEW_ORDER | OPTIONS => Some("Capacity"),
         MODIFY => Some("OrderQty"),
         PURGE => Some("MassCancelInst"),
         _ => None,
@@ -414,12 +434,14 @@ mod tests {
         let mut random = Random::new(100);
         for which in 0..TYPES {
             let sample = Sample::least(&mut random, which);
-            let record = read::message(sample.layout.direction, &sample.bytes()).unwrap();
+            let record = read::message(sample.layout.direction(), &sample.bytes()).unwrap();
             assert_eq!(record, sample.record());
         }
-        let order = Sample::least(&mut random, NEW_ORDER);
-        assert_eq!(order.bitfields, [0x04, 0x41]);
-        assert_eq!(order.bytes().len(), 36 + 2 + 17);
+        for which in NEW_ORDERS {
+            let order = Sample::least(&mut random, which);
+            assert_eq!(order.bitfields, [0x04, 0x41]);
+            assert_eq!(order.bytes().len(), 36 + 2 + 17);
+        }
         let modify = Sample::least(&mut random, MODIFY);
         assert_eq!(modify.bitfields, [0x0C]);
         assert_eq!(modify.bytes().len(), 51 + 1 + 12);
@@ -482,7 +504,7 @@ mod tests {
                 assert!(set < 1_900 || always, "{}", field.name);
             }
             let least = match which {
-                NEW_ORDER => 2,
+                NEW_ORDER | OPTIONS => 2,
                 MODIFY | PURGE => 1,
                 _ => 0,
             };

@@ -61,7 +61,7 @@ mod tests {
         let counts: Vec<usize> = (0..TYPES)
             .map(|which| texts(&mut random, which).len())
             .collect();
-        assert_eq!(counts, [16, 2, 11, 14, 22, 11, 3, 8, 5]);
+        assert_eq!(counts, [16, 2, 11, 14, 22, 11, 3, 8, 5, 13]);
         for which in 0..TYPES {
             for mut text in texts(&mut random, which) {
                 let full = text.sample.value(text.name).clone();

@@ -6,10 +6,10 @@ mod unused;
 use super::read;
 use super::sample::{
     Sample, ACKNOWLEDGMENT, CANCEL, CANCEL_REJECTED, EXECUTION, MODIFY, MODIFY_REJECTED, NEW_ORDER,
-    ORDER_REJECTED, PURGE,
+    NEW_ORDERS, OPTIONS, ORDER_REJECTED, PURGE, WITH_QUANTITY,
 };
 use super::texts::texts;
-use crate::questions::parts::Parts;
+use crate::questions::parts::{other_directions, Parts};
 use crate::questions::values::bad_bytes;
 use crate::questions::writing::{self, add, line, pattern};
 use crate::random::Random;
@@ -41,6 +41,7 @@ pub fn ask(lines: &mut Vec<String>) {
         (MODIFY_REJECTED, 20),
         (MODIFY, 30),
         (PURGE, 50),
+        (OPTIONS, 50),
     ];
     writing::damaged::<Sample>(lines, &mut random, &counts);
 }
@@ -69,7 +70,7 @@ fn rooms(lines: &mut Vec<String>, random: &mut Random, which: usize) {
 
 fn headers(lines: &mut Vec<String>, random: &mut Random, which: usize) {
     let least = Sample::least(random, which);
-    let own = least.layout.direction;
+    let own = least.layout.direction();
     for unit in [0, 1, 2, 31, 32, 33, 64, 128, 255] {
         let mut sample = least.clone();
         sample.unit = unit;
@@ -95,7 +96,7 @@ fn headers(lines: &mut Vec<String>, random: &mut Random, which: usize) {
             add(lines, random, &sample);
         }
     }
-    for direction in [1 - own, 2, 3, 128, 254, 255] {
+    for direction in other_directions(own) {
         let room = random.between(0, 40);
         let buffer = pattern(random, room);
         let record = Sample::lent(random, &least.record());
@@ -103,7 +104,7 @@ fn headers(lines: &mut Vec<String>, random: &mut Random, which: usize) {
     }
     for type_byte in [
         0x00, 0x02, 0x26, 0x29, 0x2B, 0x2D, 0x36, 0x48, 0x38, 0x39, 0x25, 0x2C, 0x37, 0x24, 0x03,
-        0x09, 0xFF, 0x3A, 0x47,
+        0x09, 0xFF, 0x3A, 0x47, 0xB8,
     ] {
         let mut record = Sample::lent(random, &least.record());
         record[0] = type_byte;
@@ -173,11 +174,11 @@ fn bad_texts(lines: &mut Vec<String>, random: &mut Random, which: usize) {
     }
 }
 
-/// OrderQty, which has a range in a New Order alone.
+/// OrderQty, which has a range in the New Orders alone.
 fn quantities(lines: &mut Vec<String>, random: &mut Random) {
-    for which in [NEW_ORDER, ACKNOWLEDGMENT, EXECUTION, ORDER_REJECTED, MODIFY] {
+    for which in WITH_QUANTITY {
         let mut sample = Sample::least(random, which);
-        if which != NEW_ORDER {
+        if !NEW_ORDERS.contains(&which) {
             sample.select("OrderQty");
         }
         for quantity in [0_u32, 1, 999_999, 1_000_000, 4_294_967_295] {
@@ -190,11 +191,13 @@ fn quantities(lines: &mut Vec<String>, random: &mut Random) {
 
 /// Every choice of the fields that a New Order's requirement names.
 fn required(lines: &mut Vec<String>, random: &mut Random) {
-    for choice in 0..16 {
-        let mut sample = Sample::least(random, NEW_ORDER);
-        sample.clear();
-        sample.select_required(choice);
-        add(lines, random, &sample);
+    for which in NEW_ORDERS {
+        for choice in 0..16 {
+            let mut sample = Sample::least(random, which);
+            sample.clear();
+            sample.select_required(choice);
+            add(lines, random, &sample);
+        }
     }
 }
 
@@ -215,7 +218,7 @@ mod tests {
             if layout.type_byte == 0x47 {
                 numbers.push(23);
             }
-            judged::gets_each(&seen, layout.type_byte, &numbers);
+            judged::gets_each(&seen, layout.record_type, &numbers);
         }
     }
 

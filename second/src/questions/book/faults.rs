@@ -136,7 +136,7 @@ pub fn changed_books() -> Vec<Vec<u8>> {
     }
     // Every type near the two that a book holds, and those of other messages.
     let others = [
-        0, 2, 3, 8, 9, 0x13, 0x36, 0x37, 0x38, 0x39, 0x48, 0xA5, 0xFF,
+        0, 2, 3, 8, 9, 0x13, 0x36, 0x37, 0x38, 0x39, 0x48, 0xA5, 0xB8, 0xFF,
     ];
     let types = (0x20..=0x30).chain(others);
     for value in types {

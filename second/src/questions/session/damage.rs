@@ -18,7 +18,7 @@ const MOSTLY_UNUSED: usize = 230;
 /// A direction and the bytes of a damaged message, which may still be valid.
 pub fn message(random: &mut Random, sample: &Sample) -> (u8, Vec<u8>) {
     let (sample, left) = struck(random, sample);
-    let mut direction = sample.session.direction;
+    let mut direction = sample.session.direction();
     let mut bytes = sample.bytes();
     for _ in 0..left {
         strike_bytes(random, &mut direction, &mut bytes);
@@ -29,7 +29,7 @@ pub fn message(random: &mut Random, sample: &Sample) -> (u8, Vec<u8>) {
 /// A direction, a damaged record and a buffer for its message.
 pub fn record(random: &mut Random, sample: &Sample) -> (u8, Vec<u8>, Vec<u8>) {
     let (sample, left) = struck(random, sample);
-    let mut direction = sample.session.direction;
+    let mut direction = sample.session.direction();
     let mut bytes = sample.record();
     let mut room = sample.bytes().len();
     for _ in 0..left {

@@ -283,7 +283,7 @@ mod tests {
                 let all = broken(&mut random, which);
                 assert!(all.len() > 20);
                 for sample in all {
-                    let direction = sample.session.direction;
+                    let direction = sample.session.direction();
                     let answer = read::message(direction, &sample.bytes());
                     assert_eq!(answer, Err(Refusal::Group), "{:?}", sample.groups);
                     let answer = write::record(direction, &sample.record(), &mut [0; 2_000]);
@@ -299,7 +299,7 @@ mod tests {
         for _ in 0..8 {
             for which in LISTED {
                 for sample in left(&mut random, which) {
-                    let direction = sample.session.direction;
+                    let direction = sample.session.direction();
                     let message = sample.bytes();
                     let answer = read::message(direction, &message);
                     assert_eq!(answer, Err(Refusal::Total(message.len())));
@@ -318,7 +318,7 @@ mod tests {
             let mut sample = Sample::whole(&mut random, which);
             for _ in 0..20 {
                 shuffle(&mut random, &mut sample.groups);
-                let direction = sample.session.direction;
+                let direction = sample.session.direction();
                 assert!(read::message(direction, &sample.bytes()).is_ok());
             }
         }

@@ -80,7 +80,7 @@ mod tests {
     fn places() {
         let mut random = Random::new(192);
         for which in 0..6 {
-            let direction = session::ALL[which].direction;
+            let direction = session::ALL[which].direction();
             let mut places = BTreeSet::new();
             for (sample, place) in values(&mut random, which) {
                 let refusal = Refusal::Value(place);

@@ -6,7 +6,7 @@ mod values;
 
 use super::sample::{Sample, BARE, LISTED, LOGIN, LOGOUT, RESPONSE};
 use crate::examples;
-use crate::questions::parts::Parts;
+use crate::questions::parts::{other_directions, Parts};
 use crate::questions::reading::{self, add, measured, Asked};
 use crate::random::Random;
 use crate::rules::frame::HEADER;
@@ -60,16 +60,16 @@ fn from_the_documents(asked: &mut Asked) {
     asked.push((VENUE, examples::logout_request()));
 }
 
-/// Directions that the type does not have, also with a fault of framing and of the unit.
+/// Other directions, also with a fault of framing and of the unit.
 fn directions(asked: &mut Asked, random: &mut Random, which: usize) {
     let mut sample = Sample::any(random, which);
     let message = sample.bytes();
-    let own = sample.session.direction;
-    for direction in [1 - own, 2, 3, 127, 128, 129, 254, 255] {
+    let own = sample.session.direction();
+    for direction in other_directions(own) {
         asked.push((direction, message.clone()));
     }
     sample.unit = 1;
-    for direction in [1 - own, 2] {
+    for direction in other_directions(own).take(3) {
         asked.push((direction, sample.bytes()));
         asked.push((direction, message[..message.len() - 1].to_vec()));
         let mut start = message.clone();
@@ -107,7 +107,7 @@ fn headers(asked: &mut Asked, random: &mut Random, which: usize) {
 /// Length fields that are off, with the same bytes; and more bytes, with a length that fits.
 fn lengths(asked: &mut Asked, random: &mut Random, which: usize) {
     let sample = Sample::whole(random, which);
-    let direction = sample.session.direction;
+    let direction = sample.session.direction();
     let message = sample.bytes();
     let length = message.len() as u16 - 2;
     let others = [
@@ -148,13 +148,13 @@ fn after(asked: &mut Asked, random: &mut Random, which: usize) {
         vec![0; 500],
         message.clone(),
     ];
-    reading::followed(asked, sample.session.direction, &message, &more);
+    reading::followed(asked, sample.session.direction(), &message, &more);
 }
 
 /// Messages cut at every byte, with a length that fits; two of them also as they are. Then again
 /// with faults that other rules look at.
 fn cuts(asked: &mut Asked, random: &mut Random, which: usize) {
-    let direction = session::ALL[which].direction;
+    let direction = session::ALL[which].direction();
     let wholes = match which {
         LOGIN => vec![examples::login(), examples::options_login()],
         RESPONSE => vec![examples::login_response_of_the_notes()],

@@ -206,7 +206,7 @@ impl Parts for Sample {
     }
 
     fn direction(&self) -> u8 {
-        self.session.direction
+        self.session.direction()
     }
 
     fn header(&self) -> (u8, u8, u32) {

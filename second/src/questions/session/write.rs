@@ -5,7 +5,7 @@ mod order;
 use super::faults;
 use super::read;
 use super::sample::{Group, Sample, BARE, BODY_PLACE, LISTED, LOGIN, LOGOUT, RECORD, RESPONSE};
-use crate::questions::parts::Parts;
+use crate::questions::parts::{other_directions, Parts};
 use crate::questions::values::{bad_bytes, textual};
 use crate::questions::writing::{self, add, add_record, line, pattern};
 use crate::random::Random;
@@ -56,7 +56,7 @@ fn rooms(lines: &mut Vec<String>, random: &mut Random, which: usize) {
 /// Units and numbers, which are all 0; directions; and other types over the same record.
 fn headers(lines: &mut Vec<String>, random: &mut Random, which: usize) {
     let least = Sample::least(random, which);
-    let own = least.session.direction;
+    let own = least.session.direction();
     for (unit, number) in [
         (0, 0),
         (1, 0),
@@ -73,7 +73,7 @@ fn headers(lines: &mut Vec<String>, random: &mut Random, which: usize) {
         (sample.unit, sample.number) = (unit, number);
         add(lines, random, &sample);
     }
-    for direction in [1 - own, 2, 3, 128, 255] {
+    for direction in other_directions(own) {
         let room = random.between(0, 40);
         let buffer = pattern(random, room);
         lines.push(line(direction, &least.record(), &buffer));

@@ -1,27 +1,17 @@
 //! The table of each message with bitfields. The fixed part of Order Execution and the choice of
 //! its bits are those of document 000, and so is all of the rejections, of Modify Order and of Purge
-//! Orders.
+//! Orders. The options New Order is that of document 002, with byte 4 of document 02, request 4.
 
 use super::{Fixed, Layout, Listed, Middle, Rule};
 use crate::rules::kinds::Kind;
-use crate::rules::types::{self, MEMBER, VENUE};
+use crate::rules::types::{self, MEMBER, MEMBERS, OPTIONS_MEMBER, VENUE};
 
-pub static ALL: [Layout; 9] = [
+pub static ALL: [Layout; 10] = [
+    new_order(&[MEMBER], types::NEW_ORDER, NEW_ORDER_LISTED),
     Layout {
-        direction: MEMBER,
-        type_byte: types::NEW_ORDER,
-        least_unit: 0,
-        greatest_unit: 0,
-        greatest_number: ANY_NUMBER,
-        fixed: NEW_ORDER_FIXED,
-        most: 10,
-        listed: NEW_ORDER_LISTED,
-        required: &[&["Symbol"], &["Capacity"], &["Price", "OrdType"]],
-        middle: Middle::Nothing,
-    },
-    Layout {
-        direction: MEMBER,
+        directions: MEMBERS,
         type_byte: types::CANCEL_ORDER,
+        record_type: types::CANCEL_ORDER,
         least_unit: 0,
         greatest_unit: 0,
         greatest_number: ANY_NUMBER,
@@ -32,8 +22,9 @@ pub static ALL: [Layout; 9] = [
         middle: Middle::Nothing,
     },
     Layout {
-        direction: VENUE,
+        directions: &[VENUE],
         type_byte: types::ACKNOWLEDGMENT,
+        record_type: types::ACKNOWLEDGMENT,
         least_unit: 1,
         greatest_unit: 32,
         greatest_number: ANY_NUMBER,
@@ -44,8 +35,9 @@ pub static ALL: [Layout; 9] = [
         middle: Middle::Nothing,
     },
     Layout {
-        direction: VENUE,
+        directions: &[VENUE],
         type_byte: types::EXECUTION,
+        record_type: types::EXECUTION,
         least_unit: 1,
         greatest_unit: 32,
         greatest_number: ANY_NUMBER,
@@ -60,8 +52,9 @@ pub static ALL: [Layout; 9] = [
     rejected(types::MODIFY_REJECTED, &[]),
     // OrdType stands in for Price in the bitfields; its value is judged later.
     Layout {
-        direction: MEMBER,
+        directions: MEMBERS,
         type_byte: types::MODIFY_ORDER,
+        record_type: types::MODIFY_ORDER,
         least_unit: 0,
         greatest_unit: 0,
         greatest_number: ANY_NUMBER,
@@ -72,8 +65,9 @@ pub static ALL: [Layout; 9] = [
         middle: Middle::Nothing,
     },
     Layout {
-        direction: MEMBER,
+        directions: MEMBERS,
         type_byte: types::PURGE_ORDERS,
+        record_type: types::PURGE_ORDERS,
         least_unit: 0,
         greatest_unit: 0,
         greatest_number: ANY_NUMBER,
@@ -83,16 +77,43 @@ pub static ALL: [Layout; 9] = [
         required: &[&["MassCancelInst"]],
         middle: Middle::RiskGroups { most: 10 },
     },
+    new_order(
+        &[OPTIONS_MEMBER],
+        types::OPTIONS_ORDER,
+        OPTIONS_ORDER_LISTED,
+    ),
 ];
 
 const ANY_NUMBER: u32 = u32::MAX;
+
+/// The New Orders of both markets, which have the same type on the wire, and are alike but for their bits.
+const fn new_order(
+    directions: &'static [u8],
+    record_type: u8,
+    listed: &'static [Listed],
+) -> Layout {
+    Layout {
+        directions,
+        type_byte: types::NEW_ORDER,
+        record_type,
+        least_unit: 0,
+        greatest_unit: 0,
+        greatest_number: ANY_NUMBER,
+        fixed: NEW_ORDER_FIXED,
+        most: 10,
+        listed,
+        required: &[&["Symbol"], &["Capacity"], &["Price", "OrdType"]],
+        middle: Middle::Nothing,
+    }
+}
 
 /// The three rejections of request 2: unsequenced, and alike but for their bits. Table 67 marks none
 /// for User Modify Rejected.
 const fn rejected(type_byte: u8, listed: &'static [Listed]) -> Layout {
     Layout {
-        direction: VENUE,
+        directions: &[VENUE],
         type_byte,
+        record_type: type_byte,
         least_unit: 0,
         greatest_unit: 0,
         greatest_number: 0,
@@ -111,6 +132,7 @@ const T: Kind = Kind::Text;
 const B: Kind = Kind::Binary;
 const P: Kind = Kind::Price;
 const F: Kind = Kind::FilledText;
+const D: Kind = Kind::Day;
 const IDENTIFIER: Rule = Rule::Filled(Kind::Identifier);
 
 const fn fixed(name: &'static str, width: usize, rule: Rule) -> Fixed {
@@ -295,4 +317,24 @@ const PURGE_ORDERS_LISTED: &[Listed] = &[
     bit(2, 1, "Symbol", 8, N),
     bit(2, 2, "SymbolSfx", 8, N),
     bit(2, 128, "MatchingUnit", 1, B),
+];
+
+/// Byte 1 and the marks of byte 2 are those of document 002.
+const OPTIONS_ORDER_LISTED: &[Listed] = &[
+    bit(1, 1, "ClearingFirm", 4, A),
+    bit(1, 2, "ClearingAccount", 4, T),
+    bit(1, 4, "Price", 8, P),
+    bit(1, 8, "ExecInst", 1, T),
+    bit(1, 16, "OrdType", 1, N),
+    bit(1, 32, "TimeInForce", 1, N),
+    bit(1, 64, "MinQty", 4, B),
+    bit(1, 128, "MaxFloor", 4, B),
+    bit(2, 1, "Symbol", 8, N),
+    bit(2, 64, "Capacity", 1, A),
+    bit(2, 128, "RoutingInst", 4, T),
+    bit(3, 1, "Account", 16, T),
+    bit(4, 1, "MaturityDate", 4, D),
+    bit(4, 2, "StrikePrice", 8, P),
+    bit(4, 4, "PutOrCall", 1, N),
+    bit(4, 16, "OpenClose", 1, N),
 ];

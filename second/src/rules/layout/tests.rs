@@ -1,10 +1,11 @@
 use super::*;
 use crate::rules::record;
-use crate::rules::types::MEMBER;
+use crate::rules::types::{MEMBER, OPTIONS_MEMBER};
 
-fn layout(type_byte: u8) -> &'static Layout {
+/// By the type of its record.
+fn layout(record_type: u8) -> &'static Layout {
     ALL.iter()
-        .find(|layout| layout.type_byte == type_byte)
+        .find(|layout| layout.record_type == record_type)
         .unwrap()
 }
 
@@ -22,7 +23,12 @@ fn places_of_the_fixed_parts() {
         assert_eq!(at, layout(type_byte).count_place());
         text
     };
-    assert_eq!(places(0x38), "ClOrdID 10 Side 30 OrderQty 31 count 35");
+    for record_type in [0x38, 0xB8] {
+        assert_eq!(
+            places(record_type),
+            "ClOrdID 10 Side 30 OrderQty 31 count 35"
+        );
+    }
     assert_eq!(places(0x39), "OrigClOrdID 10 count 30");
     assert_eq!(
         places(0x25),
@@ -123,6 +129,14 @@ fn forms_of_the_fields() {
          byte 1: 1 4A 4 16F 16 20T \
          byte 2: 1 8N 2 8N 128 1B"
     );
+    assert_eq!(
+        forms(0xB8),
+        "20I! 1N! 4quantity most 10 \
+         byte 1: 1 4A 2 4T 4 8P 8 1T 16 1N 32 1N 64 4B 128 4B \
+         byte 2: 1 8N 64 1A 128 4T \
+         byte 3: 1 16T \
+         byte 4: 1 4D 2 8P 4 1N 16 1N"
+    );
 }
 
 /// First byte first and lowest bit first, each of them a single bit within the bitfields.
@@ -162,7 +176,8 @@ fn counts_and_sums_of_the_bits() {
             (12, 113),
             (0, 0),
             (10, 36),
-            (6, 57)
+            (6, 57),
+            (16, 70)
         ]
     );
     let bitfields = |type_byte: u8| {
@@ -184,6 +199,7 @@ fn counts_and_sums_of_the_bits() {
     assert_eq!(bitfields(0x29), [0; 19]);
     assert_eq!(bitfields(0x3A)[..3], [253, 131, 0]);
     assert_eq!(bitfields(0x47)[..3], [21, 131, 0]);
+    assert_eq!(bitfields(0xB8)[..6], [255, 193, 1, 23, 0, 0]);
 }
 
 /// A field has one width and one kind wherever it is listed.
@@ -213,17 +229,25 @@ fn all_fit_a_record() {
     }
 }
 
+/// On the wire both markets have the same types; the records of their New Orders have two.
 #[test]
 fn only_nine_types() {
     for direction in 0..=255 {
         for type_byte in 0..=255 {
+            let pair = (direction, type_byte);
+            let venue = matches!(pair, (1, 0x25 | 0x2C | 0x26 | 0x2B | 0x29));
+            let both = matches!(pair, (0 | 2, 0x39 | 0x3A | 0x47));
+            let expected = venue || both || matches!(pair, (0 | 2, 0x38));
             let known = Layout::of(direction, type_byte).is_ok();
-            let expected = matches!(
-                (direction, type_byte),
-                (0, 0x38 | 0x39 | 0x3A | 0x47) | (1, 0x25 | 0x2C | 0x26 | 0x2B | 0x29)
-            );
+            assert_eq!(known, expected, "{} {}", direction, type_byte);
+            let expected = venue || both || matches!(pair, (0, 0x38) | (2, 0xB8));
+            let known = Layout::of_record(direction, type_byte).is_ok();
             assert_eq!(known, expected, "{} {}", direction, type_byte);
         }
+    }
+    for (direction, record_type) in [(0, 0x38), (2, 0xB8)] {
+        let layout = Layout::of(direction, 0x38).unwrap();
+        assert_eq!((layout.type_byte, layout.record_type), (0x38, record_type));
     }
 }
 
@@ -233,8 +257,8 @@ fn units_and_numbers() {
         let unsequenced = [0x26, 0x2B, 0x29].contains(&layout.type_byte);
         for unit in 0..=255 {
             for number in [0, 1, 256, u32::MAX] {
-                let good = match layout.direction {
-                    MEMBER => unit == 0,
+                let good = match layout.direction() {
+                    MEMBER | OPTIONS_MEMBER => unit == 0,
                     _ if unsequenced => unit == 0 && number == 0,
                     _ => unit > 0 && unit < 33,
                 };
@@ -258,20 +282,21 @@ fn quantities() {
 /// All 16 choices of the four fields that the rule names.
 #[test]
 fn required_fields() {
-    let new_order = layout(0x38);
-    for choice in 0..16_u8 {
-        let (price, ord_type) = (choice & 1 != 0, choice & 2 != 0);
-        let (symbol, capacity) = (choice & 4 != 0, choice & 8 != 0);
-        let first = u8::from(price) * 4 + u8::from(ord_type) * 16;
-        let second = u8::from(symbol) + u8::from(capacity) * 64;
-        let good = symbol && capacity && (price || ord_type);
-        for bitfields in [vec![first, second], vec![first | 0x20, second | 0x80, 1]] {
-            let result = new_order.check_required(&bitfields);
-            assert_eq!(result.is_ok(), good, "{:?}", bitfields);
+    for new_order in [layout(0x38), layout(0xB8)] {
+        for choice in 0..16_u8 {
+            let (price, ord_type) = (choice & 1 != 0, choice & 2 != 0);
+            let (symbol, capacity) = (choice & 4 != 0, choice & 8 != 0);
+            let first = u8::from(price) * 4 + u8::from(ord_type) * 16;
+            let second = u8::from(symbol) + u8::from(capacity) * 64;
+            let good = symbol && capacity && (price || ord_type);
+            for bitfields in [vec![first, second], vec![first | 0x20, second | 0x80, 1]] {
+                let result = new_order.check_required(&bitfields);
+                assert_eq!(result.is_ok(), good, "{:?}", bitfields);
+            }
         }
+        assert_eq!(new_order.check_required(&[]), Err(Refusal::Missing(35)));
+        assert_eq!(new_order.check_required(&[0x14]), Err(Refusal::Missing(36)));
     }
-    assert_eq!(new_order.check_required(&[]), Err(Refusal::Missing(35)));
-    assert_eq!(new_order.check_required(&[0x14]), Err(Refusal::Missing(36)));
     for type_byte in [0x39, 0x25, 0x2C, 0x26, 0x2B, 0x29] {
         assert_eq!(layout(type_byte).check_required(&[]), Ok(()));
     }
@@ -295,16 +320,36 @@ fn required_fields_of_request_1() {
     assert_eq!(purge.check_required(&[0x11]), Err(Refusal::Missing(12)));
 }
 
+/// The selected fields with their places in the message and in the full layout.
+fn names(record_type: u8, bitfields: &[u8], middle: usize) -> String {
+    let places = layout(record_type).places(bitfields, middle);
+    let names = places.iter();
+    let names = names.map(|place| format!("{} {}/{}", place.field.name, place.wire, place.slot));
+    names.collect::<Vec<String>>().join(" ")
+}
+
+/// Document 002's example, and the longest options order.
+#[test]
+fn places_of_the_fields_of_request_4() {
+    assert_eq!(
+        names(0xB8, &[0x04, 0xC1, 0x01, 0x17], 0),
+        "Price 40/8 Symbol 48/27 Capacity 56/35 RoutingInst 57/36 Account 61/40 \
+         MaturityDate 77/56 StrikePrice 81/60 PutOrCall 89/68 OpenClose 90/69"
+    );
+    assert_eq!(layout(0xB8).total(&[0x04, 0xC1, 0x01, 0x17], 0), 91);
+    assert_eq!(
+        names(0xB8, &[0xFF, 0xC1, 0x01, 0x17], 0),
+        "ClearingFirm 40/0 ClearingAccount 44/4 Price 48/8 ExecInst 56/16 OrdType 57/17 \
+         TimeInForce 58/18 MinQty 59/19 MaxFloor 63/23 Symbol 67/27 Capacity 75/35 \
+         RoutingInst 76/36 Account 80/40 MaturityDate 96/56 StrikePrice 100/60 \
+         PutOrCall 108/68 OpenClose 109/69"
+    );
+    assert_eq!(layout(0xB8).total(&[0xFF, 0xC1, 0x01, 0x17], 0), 110);
+}
+
 /// Document 000's examples, and the longest messages.
 #[test]
 fn places_of_the_fields_of_request_1() {
-    let names = |type_byte: u8, bitfields: &[u8], middle: usize| {
-        let places = layout(type_byte).places(bitfields, middle);
-        let names = places.iter();
-        let names =
-            names.map(|place| format!("{} {}/{}", place.field.name, place.wire, place.slot));
-        names.collect::<Vec<String>>().join(" ")
-    };
     assert_eq!(names(0x3A, &[0x0C], 0), "OrderQty 52/4 Price 56/8");
     assert_eq!(
         names(0x47, &[0x15], 5),

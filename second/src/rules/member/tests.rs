@@ -13,7 +13,7 @@ const PHASES: [Phase; 4] = [Phase::Closed, Phase::Asked, Phase::Replaying, Phase
 fn member(phase: Phase) -> (Member, Vec<u8>) {
     let mut buffer = vec![0xFF; 300];
     let mut member = Member::blank();
-    assert_eq!(member.open(DATE, &mut buffer), Ok(()));
+    assert_eq!(member.open(DATE, &mut buffer, Market::Equities), Ok(()));
     let message = examples::booked_acknowledgment();
     assert_eq!(member.book.append(&mut buffer, &message), Ok(()));
     member.phase = phase;
@@ -341,13 +341,60 @@ fn heartbeats_and_logins() {
 fn openings_and_restarts() {
     let (mut member, mut buffer) = self::member(Phase::Live);
     let before = member.clone();
-    assert_eq!(refusal(member.open(20_250_832, &mut buffer[..0])), 19);
-    assert_eq!(refusal(member.open(DATE, &mut buffer[..15])), 13);
-    assert_eq!(refusal(member.restart(DATE, &buffer[..15])), 22);
+    let other = Market::Options;
+    let refused = member.open(20_250_832, &mut buffer[..0], other);
+    assert_eq!(refusal(refused), 19);
+    assert_eq!(refusal(member.open(DATE, &mut buffer[..15], other)), 13);
+    assert_eq!(refusal(member.restart(DATE, &buffer[..15], other)), 22);
     assert_eq!(member, before);
-    assert_eq!(member.restart(DATE, &buffer[..73]), Ok(()));
-    assert_eq!(member, Member::closed(before.book));
-    assert_eq!(member.open(DATE, &mut buffer[..16]), Ok(()));
-    assert_eq!(member, Member::closed(book::opened(DATE)));
-    assert_eq!(member.book, book::restart(DATE, &buffer[..16]).unwrap());
+    for market in [Market::Options, Market::Equities] {
+        assert_eq!(member.restart(DATE, &buffer[..73], market), Ok(()));
+        assert_eq!(member, Member::closed(before.book.clone(), market));
+    }
+    for market in [Market::Options, Market::Equities] {
+        assert_eq!(member.open(DATE, &mut buffer[..16], market), Ok(()));
+        assert_eq!(member, Member::closed(book::opened(DATE), market));
+        assert_eq!(member.book, book::restart(DATE, &buffer[..16]).unwrap());
+    }
+}
+
+/// Each market's session takes its own New Order and what both have; nothing but an opening or a restart
+/// changes the market.
+#[test]
+fn markets() {
+    for (market, own, other) in [
+        (Market::Equities, 0x38, 0xB8),
+        (Market::Options, 0xB8, 0x38),
+    ] {
+        let (mut member, mut buffer) = self::member(Phase::Live);
+        member.market = market;
+        for example in [
+            examples::new_order(),
+            examples::cancel(),
+            examples::modify(),
+            examples::purge_by_ids_with_its_length(),
+        ] {
+            let mut record = read::message(market.direction(), &example).unwrap();
+            let mut out = vec![0xEE; example.len()];
+            assert_eq!(member.order(&record, &mut out), Ok(()));
+            assert_eq!((out[4], &out[10..]), (example[4], &example[10..]));
+            let sent = member.outgoing;
+            if record[0] == own {
+                record[0] = other;
+                assert_eq!(refusal(member.order(&record, &mut out)), 4);
+                assert_eq!(refusal(member.order(&record[..290], &mut out)), 13);
+            }
+            record[0] = 3;
+            assert_eq!(refusal(member.order(&record, &mut out)), 4);
+            assert_eq!(member.outgoing, sent);
+        }
+        assert_eq!(refusal(member.get(&second_message(), &mut buffer)), 0);
+        member.broken(&mut buffer);
+        assert_eq!((member.phase, member.market), (Phase::Closed, market));
+        member.phase = Phase::Asked;
+        assert_eq!(refusal(member.get(&response(b'A'), &mut buffer)), 0);
+        let logout = examples::logout_with_its_length();
+        assert_eq!(refusal(member.get(&logout, &mut buffer)), 0);
+        assert_eq!((member.phase, member.market), (Phase::Closed, market));
+    }
 }

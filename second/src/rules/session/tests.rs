@@ -23,7 +23,7 @@ fn reads_measured(direction: u8, message: &[u8]) -> u8 {
 fn places_of_the_fixed_parts() {
     let places = |session: &Session| {
         let mut at = HEADER;
-        let mut text = format!("{:02X} {}:", session.type_byte, session.direction);
+        let mut text = format!("{:02X} {}:", session.type_byte, session.direction());
         for field in session.fields {
             let letter = field.kind.letter();
             text.push_str(&format!(" {} {} {}{}", field.name, at, field.width, letter));
@@ -79,7 +79,7 @@ fn examples_of_the_documents() {
     assert_eq!(number::get(&logout, 67, 4), 154_196);
     assert_eq!(reads(1, &examples::server_heartbeat()), 0);
     assert_eq!(reads(1, &examples::replay_complete()), 0);
-    for direction in [0, 1] {
+    for direction in [0, 1, 2] {
         assert_eq!(reads(direction, &examples::logout_request()), 4);
     }
 }
@@ -89,7 +89,11 @@ fn directions() {
     for session in &ALL {
         let message = [0xBA, 0xBA, 8, 0, session.type_byte, 0, 0, 0, 0, 0];
         for direction in 0..=255 {
-            let known = direction == session.direction;
+            // Both members send the same.
+            let known = match session.direction() {
+                0 => direction == 0 || direction == 2,
+                _ => direction == 1,
+            };
             assert_eq!(reads(direction, &message) == 4, !known);
         }
     }

@@ -18,7 +18,7 @@ unfolding endedBy
 returns c =
     let closed = c .before .before in
     let a = closed .before .before .before .before .before .args in
-    (ap (λ (b : Book). record { phase = Closed; outgoing = a .self .outgoing; book = b }) (closed .close .ensures .0), closed .close .ensures .1)
+    (ap (λ (b : Book). record { phase = Closed; outgoing = a .self .outgoing; market = a .self .market; book = b }) (closed .close .ensures .0), closed .close .ensures .1)
 
 pub ended-spec : {M : Type 1} → statement M
 ended-spec = tie.close (tie.spec close-requires same-length returns)

@@ -28,11 +28,11 @@ returns-3 c =
     let a = other .before .before .before .args in
     short (a .self) (now (a .given)) (sym (other .before .is-live .ensures) ∙ not-false _ (other .if1 .left)) (unused .if2 .left) (c .if3 .taken)
 
-shared-slice-read-of-member : tie.Need-shared-slice-read-of-member
-shared-slice-read-of-member c = search needs
+shared-slice-read-of-market : tie.Need-shared-slice-read-of-market
+shared-slice-read-of-market c = search needs
 
-of-member-requires : tie.Need-of-member-requires
-of-member-requires c κs = search needs
+of-market-requires : tie.Need-of-market-requires
+of-market-requires c κs = search needs
 
 returns-4 : tie.Need-returns-4
 returns-4 c =
@@ -40,7 +40,7 @@ returns-4 c =
     let unused = long .before in
     let other = unused .before .before in
     let a = other .before .before .before .args in
-    no-order (a .self) (now (a .given)) (sym (other .before .is-live .ensures) ∙ not-false _ (other .if1 .left)) (unused .if2 .left) (long .if3 .left) (sym (c .before .of-member .ensures) ∙ not-true _ (c .if4 .taken))
+    no-order (a .self) (now (a .given)) (sym (other .before .is-live .ensures) ∙ not-false _ (other .if1 .left)) (unused .if2 .left) (long .if3 .left) (sym (c .before .of-market .ensures) ∙ not-true _ (c .if4 .taken))
 
 returns-5 : tie.Need-returns-5
 returns-5 c =
@@ -48,7 +48,7 @@ returns-5 c =
     let unused = long .before in
     let other = unused .before .before in
     let a = other .before .before .before .args in
-    an-order (a .self) (now (a .given)) (sym (other .before .is-live .ensures) ∙ not-false _ (other .if1 .left)) (unused .if2 .left) (long .if3 .left) (sym (c .before .of-member .ensures) ∙ not-false _ (c .if4 .left))
+    an-order (a .self) (now (a .given)) (sym (other .before .is-live .ensures) ∙ not-false _ (other .if1 .left)) (unused .if2 .left) (long .if3 .left) (sym (c .before .of-market .ensures) ∙ not-false _ (c .if4 .left))
 
 pub gate-refusal-spec : {M : Type 1} → statement M
 gate-refusal-spec =
@@ -58,7 +58,7 @@ gate-refusal-spec =
     returns
     returns-2
     returns-3
-    shared-slice-read-of-member
-    of-member-requires
+    shared-slice-read-of-market
+    of-market-requires
     returns-4
     returns-5)

@@ -1,6 +1,6 @@
 //! Bits and counts of bitfields.
 
-use crate::questions::bitfields::sample::{Sample, CANCEL, NEW_ORDER, REQUIRED};
+use crate::questions::bitfields::sample::{Sample, CANCEL, NEW_ORDERS, OPTIONS, REQUIRED};
 use crate::questions::reading::{add, Asked};
 use crate::random::Random;
 use crate::rules::layout;
@@ -78,24 +78,29 @@ pub fn counts(asked: &mut Asked, random: &mut Random, which: usize) {
 
 /// Every choice of the fields that a New Order's requirement names, alone and among others.
 pub fn required(asked: &mut Asked, random: &mut Random) {
-    for choice in 0..16 {
-        for others in [false, true] {
-            let mut sample = Sample::least(random, NEW_ORDER);
-            sample.clear();
-            if others {
-                sample.select("TimeInForce");
-                sample.select("RoutingInst");
-                sample.select("StopPx");
+    for which in NEW_ORDERS {
+        for choice in 0..16 {
+            for others in [false, true] {
+                let mut sample = Sample::least(random, which);
+                sample.clear();
+                if others {
+                    sample.select("TimeInForce");
+                    sample.select("RoutingInst");
+                    sample.select(match which {
+                        OPTIONS => "StrikePrice",
+                        _ => "StopPx",
+                    });
+                }
+                sample.select_required(choice);
+                add(asked, &sample);
             }
-            sample.select_required(choice);
+        }
+        // Selected is enough: they may be blank.
+        let mut sample = Sample::least(random, which);
+        sample.select("OrdType");
+        for name in REQUIRED {
+            sample.value(name).fill(0);
             add(asked, &sample);
         }
-    }
-    // Selected is enough: they may be blank.
-    let mut sample = Sample::least(random, NEW_ORDER);
-    sample.select("OrdType");
-    for name in REQUIRED {
-        sample.value(name).fill(0);
-        add(asked, &sample);
     }
 }

@@ -2,7 +2,7 @@
 
 use crate::questions::bitfields::faults::{sets, small_with, spoil_value, CONFLICT};
 use crate::questions::order::{numbers, LATE};
-use crate::questions::parts::{measure, Parts};
+use crate::questions::parts::{measure, way_back, Parts};
 use crate::questions::reading::{self, Asked};
 use crate::random::Random;
 
@@ -15,9 +15,9 @@ fn faulty(random: &mut Random, which: usize, faults: u16) -> (u8, Vec<u8>) {
     let numbers = numbers(faults, &ORDER);
     let mut sample = small_with(random, which, &numbers);
     let layout = sample.layout;
-    let mut direction = layout.direction;
+    let mut direction = layout.direction();
     if numbers.contains(&4) {
-        direction = 1 - direction;
+        direction = way_back(direction);
     }
     if numbers.contains(&7) {
         sample.lengthen(layout.most + 1);

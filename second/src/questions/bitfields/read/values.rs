@@ -1,13 +1,13 @@
 //! Values of fields.
 
 use crate::questions::bitfields::sample::{
-    Sample, ACKNOWLEDGMENT, CANCEL, EXECUTION, MODIFY, NEW_ORDER, ORDER_REJECTED, PURGE, REJECTED,
+    Sample, ACKNOWLEDGMENT, CANCEL, EXECUTION, NEW_ORDERS, PURGE, REJECTED, WITH_QUANTITY,
 };
 use crate::questions::bitfields::texts::texts;
 use crate::questions::reading::{add, Asked};
-use crate::questions::values::{bad_bytes, end_bytes, textual};
+use crate::questions::values::{bad_bytes, end_value, textual};
 use crate::random::Random;
-use crate::rules::kinds::Kind;
+use crate::rules::kinds;
 use crate::rules::layout;
 
 /// In each text field: bad bytes first and last, and characters after a NUL.
@@ -72,15 +72,12 @@ pub fn ends(asked: &mut Asked, random: &mut Random, which: usize) {
         let mut sample = Sample::least(random, which);
         sample.select_all();
         for text in texts(random, which) {
-            let bytes = end_bytes(text.kind);
             let value = sample.value(text.name);
-            value.fill(bytes[round % bytes.len()]);
+            *value = end_value(text.kind, value.len(), round);
         }
         for field in layout.listed {
-            let bytes = end_bytes(field.kind);
             if !textual(field.kind) {
-                let value = sample.value(field.name);
-                value.fill(bytes[round % bytes.len()]);
+                *sample.value(field.name) = end_value(field.kind, field.width, round);
             }
         }
         add(asked, &sample);
@@ -89,18 +86,19 @@ pub fn ends(asked: &mut Asked, random: &mut Random, which: usize) {
     let mut sample = Sample::least(random, which);
     sample.select_all();
     for field in layout.listed {
-        if field.kind != Kind::FilledText {
-            sample.value(field.name).fill(0);
+        let blank = vec![0; field.width];
+        if kinds::agrees(field.kind, &blank) {
+            *sample.value(field.name) = blank;
         }
     }
     add(asked, &sample);
 }
 
-/// OrderQty, which has a range in a New Order alone.
+/// OrderQty, which has a range in the New Orders alone.
 pub fn quantities(asked: &mut Asked, random: &mut Random) {
-    for which in [NEW_ORDER, ACKNOWLEDGMENT, EXECUTION, ORDER_REJECTED, MODIFY] {
+    for which in WITH_QUANTITY {
         let mut sample = Sample::least(random, which);
-        if which != NEW_ORDER {
+        if !NEW_ORDERS.contains(&which) {
             sample.select("OrderQty");
         }
         for quantity in [

@@ -5,7 +5,7 @@ use crate::questions::bitfields::faults::{sets, small_with, spoil_value, CONFLIC
 use crate::questions::bitfields::late;
 use crate::questions::bitfields::sample::Sample;
 use crate::questions::order::{numbers, LATE};
-use crate::questions::parts::Parts;
+use crate::questions::parts::{way_back, Parts, NO_DIRECTION};
 use crate::questions::writing::{line, pattern};
 use crate::random::Random;
 use crate::rules::layout;
@@ -19,9 +19,9 @@ fn faulty(random: &mut Random, which: usize, faults: u16) -> (u8, Vec<u8>, Vec<u
     let numbers = numbers(faults, &ORDER);
     let mut sample = small_with(random, which, &numbers);
     let layout = sample.layout;
-    let mut direction = layout.direction;
+    let mut direction = layout.direction();
     if numbers.contains(&4) {
-        direction = random.pick(&[1 - layout.direction, 2]);
+        direction = random.pick(&[way_back(direction), NO_DIRECTION]);
     }
     if numbers.contains(&10) {
         spoil_value(random, &mut sample, 0, b';');

@@ -1,7 +1,7 @@
 //! The order of reading.
 
 use crate::questions::order::{self, numbers};
-use crate::questions::parts::{measure, Parts};
+use crate::questions::parts::{measure, way_back, Parts};
 use crate::questions::reading::{self, Asked};
 use crate::questions::session::faults;
 use crate::questions::session::sample::LISTED;
@@ -19,9 +19,9 @@ const LEFT: u16 = 1 << 5;
 fn faulty(random: &mut Random, which: usize, faults: u16) -> (u8, Vec<u8>) {
     let numbers = numbers(faults, &ORDER);
     let mut sample = faults::whole_or_broken(random, which, &numbers);
-    let mut direction = sample.session.direction;
+    let mut direction = sample.session.direction();
     if numbers.contains(&4) {
-        direction = 1 - direction;
+        direction = way_back(direction);
     }
     faults::spoil(random, &mut sample, &numbers);
     if faults & LEFT != 0 {

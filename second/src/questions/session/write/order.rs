@@ -1,7 +1,7 @@
 //! The order of writing.
 
 use crate::questions::order::{self, numbers};
-use crate::questions::parts::Parts;
+use crate::questions::parts::{way_back, Parts, NO_DIRECTION};
 use crate::questions::session::faults;
 use crate::questions::session::sample::{BODY_PLACE, LISTED, RECORD};
 use crate::questions::writing::{line, pattern};
@@ -17,9 +17,9 @@ fn faulty(random: &mut Random, which: usize, faults: u16) -> (u8, Vec<u8>, Vec<u
     let numbers = numbers(faults, &ORDER);
     let mut sample = faults::whole_or_broken(random, which, &numbers);
     let mut room = sample.bytes().len();
-    let mut direction = sample.session.direction;
+    let mut direction = sample.session.direction();
     if numbers.contains(&4) {
-        direction = random.pick(&[1 - direction, 2]);
+        direction = random.pick(&[way_back(direction), NO_DIRECTION]);
     }
     faults::spoil(random, &mut sample, &numbers);
     let mut record = sample.record();
