@@ -2,7 +2,7 @@
  *
  * usage: bench [bits | times | KIBIBYTES]
  *
- * It prints lines of WORKLOAD CALL SIDE COUNT. Before it counts it compares both sides on each message, on the three rejections and on four more
+ * It prints lines of WORKLOAD CALL SIDE COUNT. Before it counts it compares both sides on each message, on the three rejections and on five more
  * orders, on each with a byte changed or with bytes cut off, and on a small book in the same way; it says what differs and ends with status 1.
  * With `bits` it counts messages with more and more of their listed bits, in lines of MESSAGE BITS CALL SIDE COUNT. With `times` it counts
  * nothing and takes the calls' times (times.h). With a size it counts nothing: it makes a book of that size, restarts it once by each side, for a
@@ -81,6 +81,7 @@ static void count_all(void) {
     for (size_t i = 0; i < WORKLOADS + REJECTIONS + ORDERS; i++) {
         compare_good(&workloads[i]);
         compare_damaged(&workloads[i]);
+        compare_other_market(&workloads[i]);
     }
     compare_ids();
     compare_books();

@@ -63,9 +63,9 @@ void compare_good(struct workload *w) {
 
 /* Whether a direction has a session message of a type. */
 static int is_session(uint8_t direction, uint8_t type) {
-    if (direction == BOE_FROM_MEMBER)
-        return type == 0x37 || type == 0x03;
-    return type == 0x24 || type == 0x08 || type == 0x09 || type == 0x13;
+    if (direction == BOE_FROM_VENUE)
+        return type == 0x24 || type == 0x08 || type == 0x09 || type == 0x13;
+    return type == 0x37 || type == 0x03;
 }
 
 /* Each two of the first bytes replaced by one that no text has: of two bad fields the first is told. */
@@ -121,6 +121,16 @@ void compare_damaged(const struct workload *w) {
         bytes[at] = kept;
     }
     ask_pairs(w, "the writers differ on two damages", proved_write, base_write, w->record, RECORD, BOE_ORDER_RECORD_LEN);
+}
+
+void compare_other_market(const struct workload *w) {
+    static struct workload other;
+    if (w->direction != BOE_FROM_MEMBER || boe_read(BOE_FROM_OPTIONS_MEMBER, w->message, w->total, (struct boe_record *)other.record, RECORD) != 0)
+        return;
+    other = *w;
+    other.direction = BOE_FROM_OPTIONS_MEMBER;
+    compare_good(&other);
+    compare_damaged(&other);
 }
 
 void compare_ids(void) {

@@ -19,6 +19,10 @@ void compare_good(struct workload *w);
  * message, which the plain C does not know. */
 void compare_damaged(const struct workload *w);
 
+/* The same of a member's message in the other direction from a member, where that takes it: all but the orders that have bits of their market
+ * alone. */
+void compare_other_market(const struct workload *w);
+
 /* The same of the readers on Purge Orders with more and more RiskGroupIDs, and a total that agrees: what a changed byte alone does not make. */
 void compare_ids(void);
 

@@ -1,4 +1,4 @@
-/* The messages a to e, j and k, the three rejections, and four more orders. */
+/* The messages a to e and j to l, the three rejections, and five more orders. */
 #include "messages.h"
 
 #include <string.h>
@@ -11,8 +11,10 @@ void add(struct workload *w, const char *bytes, size_t n, size_t width) {
     w->total += width;
 }
 
-static struct workload *start(size_t at, const char *name, uint8_t direction) {
-    struct workload *w = &workloads[at];
+/* The next of the workloads, without a byte. */
+static struct workload *start(const char *name, uint8_t direction) {
+    static size_t started;
+    struct workload *w = &workloads[started++];
     w->name = name;
     w->direction = direction;
     w->total = 0;
@@ -26,7 +28,7 @@ void finish(struct workload *w) {
 
 void make_workloads(void) {
     /* a: 000's New Order, table 25 */
-    struct workload *w = start(0, "a", 0);
+    struct workload *w = start("a", BOE_FROM_MEMBER);
     ADD("\xBA\xBA\x00\x00\x38\x00\x64\x00\x00\x00", 10);
     ADD("ABC123", 20);
     ADD("1\xE8\x03\x00\x00", 5);
@@ -39,7 +41,7 @@ void make_workloads(void) {
     finish(w);
 
     /* b: New Order with all listed bits, its texts filled */
-    w = start(1, "b", 0);
+    w = start("b", BOE_FROM_MEMBER);
     ADD("\xBA\xBA\x00\x00\x38\x00\x64\x00\x00\x00", 10);
     ADD("ABCDEFGHIJ0123456789", 20);
     ADD("1\xE8\x03\x00\x00", 5);
@@ -67,7 +69,7 @@ void make_workloads(void) {
     finish(w);
 
     /* c: 000's smallest acknowledgment, table 35: no bitfields */
-    w = start(2, "c", 1);
+    w = start("c", BOE_FROM_VENUE);
     ADD("\xBA\xBA\x00\x00\x25\x03\x64\x00\x00\x00", 10);
     ADD("\xE0\xFA\x20\xF7\x36\x71\xF8\x11", 8);
     ADD("ABC123", 20);
@@ -76,7 +78,7 @@ void make_workloads(void) {
     finish(w);
 
     /* d: an acknowledgment with 15 bitfields and all listed bits, its texts filled */
-    w = start(3, "d", 1);
+    w = start("d", BOE_FROM_VENUE);
     ADD("\xBA\xBA\x00\x00\x25\x03\x64\x00\x00\x00", 10);
     ADD("\xE0\xFA\x20\xF7\x36\x71\xF8\x11", 8);
     ADD("ABCDEFGHIJ0123456789", 20);
@@ -103,7 +105,7 @@ void make_workloads(void) {
     finish(w);
 
     /* e: 000's Order Execution, table 50 */
-    w = start(4, "e", 1);
+    w = start("e", BOE_FROM_VENUE);
     ADD("\xBA\xBA\x00\x00\x2C\x03\x64\x00\x00\x00", 10);
     ADD("\xE0\xFA\x20\xF7\x36\x71\xF8\x11", 8);
     ADD("ABC123", 20);
@@ -120,7 +122,7 @@ void make_workloads(void) {
     finish(w);
 
     /* j: 000's Modify Order, table 29 */
-    w = start(5, "j", 0);
+    w = start("j", BOE_FROM_MEMBER);
     ADD("\xBA\xBA\x00\x00\x3A\x00\x64\x00\x00\x00", 10);
     ADD("ABC124", 20);
     ADD("ABC123", 20);
@@ -130,7 +132,7 @@ void make_workloads(void) {
     finish(w);
 
     /* k: 000's Purge Orders by symbol, table 32, with the length of its bytes */
-    w = start(6, "k", 0);
+    w = start("k", BOE_FROM_MEMBER);
     ADD("\xBA\xBA\x00\x00\x47\x00\x64\x00\x00\x00", 10);
     ADD("\x00\x02\x15\x01", 4);
     ADD("\x00", 1);
@@ -140,8 +142,25 @@ void make_workloads(void) {
     ADD("ABCDE", 8);
     finish(w);
 
+    /* l: 002's options New Order */
+    w = start("l", BOE_FROM_OPTIONS_MEMBER);
+    ADD("\xBA\xBA\x00\x00\x38\x00\x01\x00\x00\x00", 10);
+    ADD("ABC123", 20);
+    ADD("1\x0A\x00\x00\x00", 5);
+    ADD("\x04\x04\xC1\x01\x17", 5);
+    ADD("\x70\x17", 8);
+    ADD("MSFT", 8);
+    ADD("C", 1);
+    ADD("R", 4);
+    ADD("DEFG", 16);
+    ADD("\xEF\xDB\x32\x01", 4);
+    ADD("\x98\xAB\x02", 8);
+    ADD("1", 1);
+    ADD("O", 1);
+    finish(w);
+
     /* Order Rejected with 19 bitfields and all listed bits, its texts filled */
-    w = start(7, "Order Rejected", 1);
+    w = start("Order Rejected", BOE_FROM_VENUE);
     ADD("\xBA\xBA\x00\x00\x26\x00\x00\x00\x00\x00", 10);
     ADD("\xE0\xFA\x20\xF7\x36\x71\xF8\x11", 8);
     ADD("ABCDEFGHIJ0123456789", 20);
@@ -178,7 +197,7 @@ void make_workloads(void) {
     finish(w);
 
     /* Cancel Rejected with all listed bits */
-    w = start(8, "Cancel Rejected", 1);
+    w = start("Cancel Rejected", BOE_FROM_VENUE);
     ADD("\xBA\xBA\x00\x00\x2B\x00\x00\x00\x00\x00", 10);
     ADD("\xE0\xFA\x20\xF7\x36\x71\xF8\x11", 8);
     ADD("ABC123", 20);
@@ -200,7 +219,7 @@ void make_workloads(void) {
     finish(w);
 
     /* User Modify Rejected, which lists no bit, with two bitfields */
-    w = start(9, "User Modify Rejected", 1);
+    w = start("User Modify Rejected", BOE_FROM_VENUE);
     ADD("\xBA\xBA\x00\x00\x29\x00\x00\x00\x00\x00", 10);
     ADD("\xE0\xFA\x20\xF7\x36\x71\xF8\x11", 8);
     ADD("ABC123", 20);
@@ -209,8 +228,32 @@ void make_workloads(void) {
     ADD("\x00\x02\x00\x00", 2 + 2);
     finish(w);
 
+    /* options New Order with 10 bitfields and all listed bits, its texts filled */
+    w = start("Options New Order", BOE_FROM_OPTIONS_MEMBER);
+    ADD("\xBA\xBA\x00\x00\x38\x00\x64\x00\x00\x00", 10);
+    ADD("ABCDEFGHIJ0123456789", 20);
+    ADD("1\xE8\x03\x00\x00", 5);
+    ADD("\x0A\xFF\xC1\x01\x17", 1 + 10);
+    ADD("TEST", 4);             /* ClearingFirm */
+    ADD("123C", 4);             /* ClearingAccount */
+    ADD("\x70\x17", 8);         /* Price */
+    ADD("G", 1);                /* ExecInst */
+    ADD("2", 1);                /* OrdType */
+    ADD("0", 1);                /* TimeInForce */
+    ADD("\x64", 4);             /* MinQty */
+    ADD("\xC8", 4);             /* MaxFloor */
+    ADD("MSFTMSFT", 8);         /* Symbol */
+    ADD("C", 1);                /* Capacity */
+    ADD("R123", 4);             /* RoutingInst */
+    ADD("DEFGHIJKLMNOPQRS", 16); /* Account */
+    ADD("\xA5\x02\x33\x01", 4); /* MaturityDate: 29 February 2012 */
+    ADD("\x98\xAB\x02", 8);     /* StrikePrice */
+    ADD("0", 1);                /* PutOrCall */
+    ADD("C", 1);                /* OpenClose */
+    finish(w);
+
     /* Modify Order with all listed bits, its texts filled */
-    w = start(10, "Modify Order", 0);
+    w = start("Modify Order", BOE_FROM_MEMBER);
     ADD("\xBA\xBA\x00\x00\x3A\x00\x64\x00\x00\x00", 10);
     ADD("ABCDEFGHIJ0123456789", 20);
     ADD("9876543210JIHGFEDCBA", 20);
@@ -228,7 +271,7 @@ void make_workloads(void) {
     finish(w);
 
     /* Modify Order without Price, its identifiers a character each */
-    w = start(11, "Modify Order at the market", 0);
+    w = start("Modify Order at the market", BOE_FROM_MEMBER);
     ADD("\xBA\xBA\x00\x00\x3A\x00\x64\x00\x00\x00", 10);
     ADD("2", 20);
     ADD("1", 20);
@@ -238,7 +281,7 @@ void make_workloads(void) {
     finish(w);
 
     /* Purge Orders with ten RiskGroupIDs and all listed bits, its texts filled */
-    w = start(12, "Purge Orders", 0);
+    w = start("Purge Orders", BOE_FROM_MEMBER);
     ADD("\xBA\xBA\x00\x00\x47\x00\x64\x00\x00\x00", 10);
     ADD("\x5A\x02\x15\x83", 4);
     ADD("\x0A\xBF\xBE\xC0\xBE", 1 + 18);
@@ -252,7 +295,7 @@ void make_workloads(void) {
     finish(w);
 
     /* Purge Orders with MassCancelInst alone, a character, and no RiskGroupIDs */
-    w = start(13, "Purge Orders by its instruction alone", 0);
+    w = start("Purge Orders by its instruction alone", BOE_FROM_MEMBER);
     ADD("\xBA\xBA\x00\x00\x47\x00\x64\x00\x00\x00", 10);
     ADD("\x00\x01\x04\x00", 4);
     ADD("A", 16);

@@ -1,10 +1,10 @@
-/* The seven counted messages, and seven that are compared alone. */
+/* The eight counted messages, and eight that are compared alone. */
 #ifndef MESSAGES_H
 #define MESSAGES_H
 
 #include "boe.h"
 
-enum { RECORD = BOE_RECORD_LEN, LONGEST = 512, FILLING = 0xEE, WORKLOADS = 7, REJECTIONS = 3, ORDERS = 4 };
+enum { RECORD = BOE_RECORD_LEN, LONGEST = 512, FILLING = 0xEE, WORKLOADS = 8, REJECTIONS = 3, ORDERS = 5 };
 
 struct workload {
     const char *name;
@@ -14,8 +14,8 @@ struct workload {
     uint8_t record[RECORD];
 };
 
-/* a to e, j and k; then the three rejections, and two each of Modify Order and Purge Orders, which are not counted. Their records are made by
- * compare_good. */
+/* a to e and j to l; then the three rejections, an options New Order, and two each of Modify Order and Purge Orders, which are not counted. Their
+ * records are made by compare_good. */
 extern struct workload workloads[WORKLOADS + REJECTIONS + ORDERS];
 
 void make_workloads(void);

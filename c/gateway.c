@@ -278,7 +278,7 @@ static void judge(unsigned refusal, const uint8_t *bytes, size_t length, int *st
     refused[number]++;
     if (number == BOE_ALREADY_TAKEN) return;
     fprintf(stderr, "gateway: refused: ");
-    print_refused(stderr, refusal, bytes);
+    print_refused(stderr, refusal, BOE_FROM_VENUE, bytes);
     fprintf(stderr, ": ");
     for (size_t i = 0; i < length; i++) fprintf(stderr, "%02X", bytes[i]);
     fprintf(stderr, "\n");

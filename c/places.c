@@ -13,7 +13,7 @@ const char *refusal_name(uint32_t refusal) { return names[BOE_NUMBER(refusal)]; 
 /* How much further on a byte of a fixed part, or of a session message's body, stands in the message than in the record. */
 enum { FURTHER = 4 };
 
-/* The fields of each type in the order of the message, with the protocol's names: the fixed ones that can be bad, and all optional ones, since
+/* The fields of each type of record in the order of the message, with the protocol's names: the fixed ones that can be bad, and all optional ones, since
  * each moves those after it. A fixed one has its place, an optional one its bitfield byte, its bit and its width. RiskGroupIDCnt has none of these:
  * it stands behind the bitfields, and its ids after it. */
 static const struct field {
@@ -23,6 +23,14 @@ static const struct field {
 #define FIXED(message, field, name) {BOE_##message, BOE_##message##_##field##_AT + FURTHER, 0, 0, 0, name}
 #define FIELD(message, field, name) \
     {BOE_##message, 0, BOE_##message##_##field##_BYTE, BOE_##message##_##field##_BIT, BOE_##message##_##field##_LEN, name}
+/* as far as the New Orders of both markets have them alike: up to Symbol, and the three after it that both have */
+#define ORDER_FIELDS(message) \
+    FIXED(message, CL_ORD_ID, "ClOrdID"), FIXED(message, SIDE, "Side"), FIXED(message, ORDER_QTY, "OrderQty"), \
+    FIELD(message, CLEARING_FIRM, "ClearingFirm"), FIELD(message, CLEARING_ACCOUNT, "ClearingAccount"), FIELD(message, PRICE, "Price"), \
+    FIELD(message, EXEC_INST, "ExecInst"), FIELD(message, ORD_TYPE, "OrdType"), FIELD(message, TIME_IN_FORCE, "TimeInForce"), \
+    FIELD(message, MIN_QTY, "MinQty"), FIELD(message, MAX_FLOOR, "MaxFloor"), FIELD(message, SYMBOL, "Symbol")
+#define LATER_ORDER_FIELDS(message) \
+    FIELD(message, CAPACITY, "Capacity"), FIELD(message, ROUTING_INST, "RoutingInst"), FIELD(message, ACCOUNT, "Account")
 /* as far as Order Acknowledgment and Order Execution have them alike */
 #define VENUE_FIELDS(message) \
     FIELD(message, SIDE, "Side"), FIELD(message, PRICE, "Price"), FIELD(message, EXEC_INST, "ExecInst"), FIELD(message, ORD_TYPE, "OrdType"), \
@@ -36,14 +44,13 @@ static const struct field {
     FIELD(message, EXEC_INST, "ExecInst"), FIELD(message, ORD_TYPE, "OrdType"), FIELD(message, TIME_IN_FORCE, "TimeInForce"), \
     FIELD(message, MIN_QTY, "MinQty"), FIELD(message, SYMBOL, "Symbol"), FIELD(message, SYMBOL_SFX, "SymbolSfx"), FIELD(message, CAPACITY, "Capacity")
 
-    FIXED(NEW_ORDER, CL_ORD_ID, "ClOrdID"), FIXED(NEW_ORDER, SIDE, "Side"), FIXED(NEW_ORDER, ORDER_QTY, "OrderQty"),
-    FIELD(NEW_ORDER, CLEARING_FIRM, "ClearingFirm"), FIELD(NEW_ORDER, CLEARING_ACCOUNT, "ClearingAccount"), FIELD(NEW_ORDER, PRICE, "Price"),
-    FIELD(NEW_ORDER, EXEC_INST, "ExecInst"), FIELD(NEW_ORDER, ORD_TYPE, "OrdType"), FIELD(NEW_ORDER, TIME_IN_FORCE, "TimeInForce"),
-    FIELD(NEW_ORDER, MIN_QTY, "MinQty"), FIELD(NEW_ORDER, MAX_FLOOR, "MaxFloor"), FIELD(NEW_ORDER, SYMBOL, "Symbol"),
-    FIELD(NEW_ORDER, SYMBOL_SFX, "SymbolSfx"), FIELD(NEW_ORDER, CAPACITY, "Capacity"), FIELD(NEW_ORDER, ROUTING_INST, "RoutingInst"),
-    FIELD(NEW_ORDER, ACCOUNT, "Account"), FIELD(NEW_ORDER, LOCATE_REQD, "LocateReqd"), FIELD(NEW_ORDER, EXPIRE_TIME, "ExpireTime"),
-    FIELD(NEW_ORDER, DISPLAY_RANGE, "DisplayRange"), FIELD(NEW_ORDER, STOP_PX, "StopPx"), FIELD(NEW_ORDER, EX_DESTINATION, "ExDestination"),
-    FIELD(NEW_ORDER, ECHO_TEXT, "EchoText"), FIELD(NEW_ORDER, LOCATE_BROKER, "LocateBroker"),
+    ORDER_FIELDS(NEW_ORDER), FIELD(NEW_ORDER, SYMBOL_SFX, "SymbolSfx"), LATER_ORDER_FIELDS(NEW_ORDER),
+    FIELD(NEW_ORDER, LOCATE_REQD, "LocateReqd"), FIELD(NEW_ORDER, EXPIRE_TIME, "ExpireTime"), FIELD(NEW_ORDER, DISPLAY_RANGE, "DisplayRange"),
+    FIELD(NEW_ORDER, STOP_PX, "StopPx"), FIELD(NEW_ORDER, EX_DESTINATION, "ExDestination"), FIELD(NEW_ORDER, ECHO_TEXT, "EchoText"),
+    FIELD(NEW_ORDER, LOCATE_BROKER, "LocateBroker"),
+    ORDER_FIELDS(OPTIONS_NEW_ORDER), LATER_ORDER_FIELDS(OPTIONS_NEW_ORDER), FIELD(OPTIONS_NEW_ORDER, MATURITY_DATE, "MaturityDate"),
+    FIELD(OPTIONS_NEW_ORDER, STRIKE_PRICE, "StrikePrice"), FIELD(OPTIONS_NEW_ORDER, PUT_OR_CALL, "PutOrCall"),
+    FIELD(OPTIONS_NEW_ORDER, OPEN_CLOSE, "OpenClose"),
     FIXED(CANCEL_ORDER, ORIG_CL_ORD_ID, "OrigClOrdID"), FIELD(CANCEL_ORDER, CLEARING_FIRM, "ClearingFirm"),
     FIXED(MODIFY_ORDER, CL_ORD_ID, "ClOrdID"), FIXED(MODIFY_ORDER, ORIG_CL_ORD_ID, "OrigClOrdID"),
     FIELD(MODIFY_ORDER, CLEARING_FIRM, "ClearingFirm"), FIELD(MODIFY_ORDER, ORDER_QTY, "OrderQty"), FIELD(MODIFY_ORDER, PRICE, "Price"),
@@ -74,10 +81,11 @@ static const struct field {
     FIXED(LOGIN_RESPONSE, STATUS, "LoginResponseStatus"), FIXED(LOGIN_RESPONSE, TEXT, "LoginResponseText"),
     FIXED(LOGOUT, REASON, "LogoutReason"), FIXED(LOGOUT, TEXT, "LogoutReasonText")};
 
-/* The place of the count byte in an order message. */
+/* The place of the count byte in an order message, by the type of its record. */
 static unsigned count_place(uint8_t type) {
     switch (type) {
-    case BOE_NEW_ORDER: return 35;
+    case BOE_NEW_ORDER:
+    case BOE_OPTIONS_NEW_ORDER: return 35;
     case BOE_CANCEL_ORDER: return 30;
     case BOE_MODIFY_ORDER: return 50;
     case BOE_PURGE_ORDERS: return 11;
@@ -90,7 +98,12 @@ static unsigned count_place(uint8_t type) {
     }
 }
 
-/* What is refused, a message or a record: its type and its bytes, and where in these the count of bitfields stands and, in a Purge Orders,
+/* The type of the record of a message: only the direction tells of which market a New Order is. */
+static uint8_t record_type(uint8_t direction, uint8_t type) {
+    return direction == BOE_FROM_OPTIONS_MEMBER && type == BOE_NEW_ORDER ? BOE_OPTIONS_NEW_ORDER : type;
+}
+
+/* What is refused, a message or a record: the type of its record, its bytes, and where in these the count of bitfields stands and, in a Purge Orders,
  * RiskGroupIDCnt. */
 struct source {
     uint8_t type;
@@ -131,13 +144,14 @@ static void print_place(FILE *to, uint32_t refusal, const struct source *from) {
         fprintf(to, "bitfield %u", bitfield);
 }
 
-void print_refused(FILE *to, uint32_t refusal, const uint8_t *message) {
+void print_refused(FILE *to, uint32_t refusal, uint8_t direction, const uint8_t *message) {
     fprintf(to, "%u %s", BOE_NUMBER(refusal), refusal_name(refusal));
     if (BOE_NUMBER(refusal) == BOE_WRONG_TOTAL) {
         fprintf(to, " at byte %u, the end", BOE_PLACE(refusal));
     } else if (BOE_PLACE(refusal)) {
-        size_t count_at = count_place(message[4]);
-        print_place(to, refusal, &(struct source){message[4], message, count_at, count_at + 1 + message[count_at]});
+        uint8_t type = record_type(direction, message[4]);
+        size_t count_at = count_place(type);
+        print_place(to, refusal, &(struct source){type, message, count_at, count_at + 1 + message[count_at]});
     }
 }
 

@@ -64,7 +64,10 @@ static const uint8_t logout[91] = {
 static const uint8_t client_heartbeat[10] = {0xBA, 0xBA, 8, 0, 0x03};
 static const uint8_t server_heartbeat[10] = {0xBA, 0xBA, 8, 0, 0x09};
 static const uint8_t replay_complete[10] = {0xBA, 0xBA, 8, 0, 0x13};
-/* 002's login */
+/* 002's New Order, and its login */
+static const uint8_t options_order[91] = {
+    0xBA, 0xBA, 0x59, 0, 0x38, 0, 1, 0, 0, 0, 'A', 'B', 'C', '1', '2', '3', [30] = '1', 0x0A, 0, 0, 0, 4, 0x04, 0xC1, 0x01, 0x17, 0x70, 0x17,
+    [48] = 'M', 'S', 'F', 'T', [56] = 'C', 'R', [61] = 'D', 'E', 'F', 'G', [77] = 0xEF, 0xDB, 0x32, 0x01, 0x98, 0xAB, 0x02, [89] = '1', 'O'};
 static const uint8_t options_login[63] = {
     0xBA, 0xBA, 0x3D, 0, 0x37, 0, 0, 0, 0, 0, '0', '0', '0', '1', 'T', 'E', 'S', 'T', 'T', 'E', 'S', 'T', 'I', 'N', 'G', 0, 0, 0,
     3, 0x0F, 0, 0x80, 1, 2, 1, 0x4A, 0xBB, 0x01, 0, 2, 0, 0, 0, 0, 0x08, 0, 0x81, 0x25, 3, 0, 0x41, 0x05,
@@ -112,6 +115,80 @@ static void steps(void) {
     check(boe_table_step(1, UINT32_MAX, table, sizeof table) == BOE_ALREADY_TAKEN, "not even its own number");
 }
 
+/* ---- the directions */
+
+/* The members of both markets. */
+static const uint8_t members[] = {BOE_FROM_MEMBER, BOE_FROM_OPTIONS_MEMBER};
+
+/* Whether a direction has records of a type. */
+static int has_record(uint8_t direction, uint8_t type) {
+    switch (type) {
+    case BOE_NEW_ORDER:
+        return direction == BOE_FROM_MEMBER;
+    case BOE_OPTIONS_NEW_ORDER:
+        return direction == BOE_FROM_OPTIONS_MEMBER;
+    case BOE_CANCEL_ORDER:
+    case BOE_MODIFY_ORDER:
+    case BOE_PURGE_ORDERS:
+    case BOE_LOGIN_REQUEST:
+    case BOE_CLIENT_HEARTBEAT:
+        return direction == BOE_FROM_MEMBER || direction == BOE_FROM_OPTIONS_MEMBER;
+    case BOE_ACKNOWLEDGMENT:
+    case BOE_EXECUTION:
+    case BOE_REJECTION:
+    case BOE_CANCEL_REJECTION:
+    case BOE_MODIFY_REJECTION:
+    case BOE_LOGIN_RESPONSE:
+    case BOE_LOGOUT:
+    case BOE_SERVER_HEARTBEAT:
+    case BOE_REPLAY_COMPLETE:
+        return direction == BOE_FROM_VENUE;
+    default:
+        return 0;
+    }
+}
+
+/* Whether it has messages of a type: on the wire a New Order of either market has the same. */
+static int has_message(uint8_t direction, uint8_t type) {
+    if (type == BOE_NEW_ORDER) return has_record(direction, BOE_NEW_ORDER) || has_record(direction, BOE_OPTIONS_NEW_ORDER);
+    return type != BOE_OPTIONS_NEW_ORDER && has_record(direction, type);
+}
+
+/* The types that are read and written, in every direction. */
+static void types(void) {
+    for (unsigned direction = 0; direction < 256; direction++) {
+        for (unsigned type = 0; type < 256; type++) {
+            uint8_t header[10] = {0xBA, 0xBA, 8, 0, (uint8_t)type};
+            struct boe_record record;
+            uint32_t refusal = boe_read((uint8_t)direction, header, sizeof header, &record, sizeof record);
+            check((BOE_NUMBER(refusal) != BOE_UNKNOWN_TYPE) == has_message((uint8_t)direction, (uint8_t)type), "what is read in a direction");
+            memset(&record, 0, sizeof record);
+            record.bytes[BOE_RECORD_TYPE_AT] = (uint8_t)type;
+            refusal = boe_write((uint8_t)direction, &record, sizeof record, header, 0);
+            check((BOE_NUMBER(refusal) != BOE_UNKNOWN_TYPE) == has_record((uint8_t)direction, (uint8_t)type), "and written");
+        }
+    }
+}
+
+/* A message and its record are 4 in every direction that has no such type, and nothing is stored. */
+static void unknown_elsewhere(const uint8_t *message, size_t len, const struct boe_record *record) {
+    uint8_t read[BOE_RECORD_LEN], out[600];
+    memset(read, 0x5A, sizeof read);
+    memset(out, 0x5A, sizeof out);
+    for (unsigned direction = 0; direction < 256; direction++) {
+        uint8_t of = (uint8_t)direction;
+        if (!has_message(of, message[4]))
+            check(boe_read(of, message, len, (struct boe_record *)read, sizeof read) == BOE_UNKNOWN_TYPE, "read in a direction without its type");
+        if (!has_record(of, record->bytes[BOE_RECORD_TYPE_AT]))
+            check(boe_write(of, record, BOE_RECORD_LEN, out, len) == BOE_UNKNOWN_TYPE, "its record, written in such a direction");
+    }
+    check(all_are(read, sizeof read, 0x5A) && all_are(out, sizeof out, 0x5A), "refusals stored nothing");
+}
+
+/* A direction without the types of another, and one that is none. */
+static uint8_t opposite(uint8_t direction) { return direction == BOE_FROM_VENUE ? BOE_FROM_MEMBER : BOE_FROM_VENUE; }
+enum { NO_DIRECTION = 3 };
+
 /* A record is as long as its own type's, whatever the other types have: buffers and records of each of these lengths, for both kinds. */
 static void sizes(uint8_t direction, const uint8_t *message, size_t len) {
     static const size_t lengths[] = {0, 1, BOE_ORDER_RECORD_LEN - 1, BOE_ORDER_RECORD_LEN, BOE_RECORD_LEN - 1, BOE_RECORD_LEN};
@@ -128,8 +205,8 @@ static void sizes(uint8_t direction, const uint8_t *message, size_t len) {
         check(expected || memcmp(record, whole, own) == 0, "the record, whatever the buffer's length");
         check(all_are(record + (expected ? 0 : own), sizeof record - (expected ? 0 : own), 0x5A), "no byte past it, and none where it is refused");
         memset(out, 0x5A, sizeof out);
-        check(boe_write((uint8_t)(1 - direction), given, n, out, len) == (n ? BOE_UNKNOWN_TYPE : BOE_NO_ROOM), "4 comes before 13 where there is a type");
-        check(boe_write(2, given, n, out, len) == (n ? BOE_UNKNOWN_TYPE : BOE_NO_ROOM), "13 comes first where there is none");
+        check(boe_write(opposite(direction), given, n, out, len) == (n ? BOE_UNKNOWN_TYPE : BOE_NO_ROOM), "4 comes before 13 where there is a type");
+        check(boe_write(NO_DIRECTION, given, n, out, len) == (n ? BOE_UNKNOWN_TYPE : BOE_NO_ROOM), "13 comes first where there is none");
         check(all_are(out, sizeof out, 0x5A), "refusals stored nothing");
         check(boe_write(direction, given, n, out, len) == expected, "13 for a record under its own size, and no other");
         check(expected || memcmp(out, message, len) == 0, "the message, whatever the record's length");
@@ -152,23 +229,31 @@ static void again(uint8_t direction, const uint8_t *message, size_t len) {
     check(memcmp(out, message, len) == 0 && out[len] == 0x5A, "as the same bytes, and no byte more");
     memset(out, 0x5A, sizeof out);
     check(boe_write(direction, lent, BOE_RECORD_LEN, out, len - 1) == BOE_NO_ROOM, "one byte short");
-    check(boe_write((uint8_t)(1 - direction), lent, sizeof record, out, len) == BOE_UNKNOWN_TYPE, "the other direction");
-    check(boe_write(2, lent, sizeof record, out, len) == BOE_UNKNOWN_TYPE, "no direction");
     check(all_are(out, sizeof out, 0x5A), "refusals stored nothing");
+    unknown_elsewhere(message, len, lent);
     memset(record, 0x5A, sizeof record);
     check(boe_read(direction, bytes, len - 1, lent, sizeof record) == BOE_INCOMPLETE, "a cut message");
-    check(boe_read((uint8_t)(1 - direction), bytes, len, lent, sizeof record) == BOE_UNKNOWN_TYPE, "read in the other direction");
-    check(boe_read(255, bytes, len, lent, sizeof record) == BOE_UNKNOWN_TYPE, "read in no direction");
     check(boe_read(direction, bytes, 9, lent, 0) == BOE_INCOMPLETE, "13 comes after the message's refusals");
     check(all_are(record, sizeof record, 0x5A), "refusals stored nothing");
     sizes(direction, message, len);
+}
+
+/* What members of both markets send alike: the same record. */
+static void again_in_both(const uint8_t *message, size_t len) {
+    struct boe_record one, other;
+    memset(&one, 0x5A, sizeof one);
+    other = one;
+    for (size_t i = 0; i < sizeof members; i++) again(members[i], message, len);
+    check(boe_read(BOE_FROM_MEMBER, message, len, &one, sizeof one) == 0 && boe_read(BOE_FROM_OPTIONS_MEMBER, message, len, &other, sizeof other) == 0,
+          "a member's message in both markets");
+    check(memcmp(&one, &other, sizeof one) == 0, "and its record is the same");
 }
 
 static void messages(void) {
     struct boe_record record;
     uint8_t out[600];
     again(BOE_FROM_MEMBER, new_order, sizeof new_order);
-    again(BOE_FROM_MEMBER, cancel_order, sizeof cancel_order);
+    again_in_both(cancel_order, sizeof cancel_order);
     again(BOE_FROM_VENUE, acknowledgment, sizeof acknowledgment);
     again(BOE_FROM_VENUE, execution, sizeof execution);
     check(boe_read(BOE_FROM_MEMBER, new_order, sizeof new_order, &record, sizeof record) == 0, "New Order");
@@ -188,13 +273,15 @@ static void messages(void) {
 
 /* ---- the optional fields by their names */
 
-/* In the order of the message. */
+/* In the order of the message. A field that is a calendar day has the one that it is given here, any other 0. */
 struct optional {
     uint16_t at;
     uint8_t len, byte, bit;
+    uint32_t day;
 };
-#define OPTIONAL(message, name) \
-    {BOE_##message##_##name##_AT, BOE_##message##_##name##_LEN, BOE_##message##_##name##_BYTE, BOE_##message##_##name##_BIT}
+#define OPTIONAL(message, name) OPTIONAL_DAY(message, name, 0)
+#define OPTIONAL_DAY(message, name, day) \
+    {BOE_##message##_##name##_AT, BOE_##message##_##name##_LEN, BOE_##message##_##name##_BYTE, BOE_##message##_##name##_BIT, day}
 #define COUNT_OF(array) (sizeof array / sizeof *array)
 
 /* The record of an example without its fields, and with so many bitfields. */
@@ -207,6 +294,24 @@ static struct boe_record without_fields(uint8_t direction, const uint8_t *messag
 }
 
 static uint8_t *bitfield_of(struct boe_record *record, const struct optional *f) { return record->bytes + BOE_RECORD_BITFIELDS_AT + f->byte - 1; }
+
+/* A number's bytes, the lowest first. */
+static void put(uint8_t *at, unsigned len, uint64_t value) {
+    for (unsigned i = 0; i < len; i++, value >>= 8) at[i] = (uint8_t)value;
+}
+
+/* Gives the field that stands so many places after the first its value: its letter in each byte, or its day. */
+static void fill_field(const struct optional *f, size_t which, uint8_t *at) {
+    memset(at, 'A' + (int)which, f->len);
+    if (f->day) put(at, f->len, f->day);
+}
+
+/* Whether a field has that value. */
+static int field_holds(const struct optional *f, size_t which, const uint8_t *at) {
+    uint8_t value[BOE_RECORD_FIELDS_LEN];
+    fill_field(f, which, value);
+    return memcmp(at, value, f->len) == 0;
+}
 
 /* A record that has the required fields alone, and the place of the first: each other field is tried without its bit, which is 12, and with it. Then
  * all of them: each stands where the widths before it put it, the message reads back, and a byte less of room is 13. Answers this message's
@@ -221,7 +326,7 @@ static size_t by_name(uint8_t direction, struct boe_record bare, size_t first, c
         const struct optional *f = &fields[i];
         check(f->at == slot, "the fields fill the full layout, in their order");
         slot += f->len;
-        memset(record.bytes + f->at, 'A' + (int)i, f->len);
+        fill_field(f, i, record.bytes + f->at);
         *bitfield_of(&record, f) |= f->bit;
         if (*bitfield_of(&bare, f) & f->bit) {
             before += f->len;
@@ -229,19 +334,19 @@ static size_t by_name(uint8_t direction, struct boe_record bare, size_t first, c
         }
 
         some = bare;
-        memset(some.bytes + f->at, 'A' + (int)i, f->len);
+        fill_field(f, i, some.bytes + f->at);
         check(boe_write(direction, &some, sizeof some, out, sizeof out) == BOE_NOT_ZERO, "a field without its bit");
         *bitfield_of(&some, f) |= f->bit;
         check(boe_write(direction, &some, sizeof some, out, sizeof out) == 0, "a field with its bit");
         check(boe_frame_length(out, sizeof out) == least + f->len, "is so much longer");
-        check(all_are(out + before, f->len, (uint8_t)('A' + i)), "and has it behind the required ones before it");
+        check(field_holds(f, i, out + before), "and has it behind the required ones before it");
     }
     size_t total = first + slot - BOE_RECORD_FIELDS_AT;
     memset(out, 0x5A, sizeof out);
     check(boe_write(direction, &record, BOE_ORDER_RECORD_LEN, out, total - 1) == BOE_NO_ROOM && all_are(out, sizeof out, 0x5A), "one byte short");
     check(boe_write(direction, &record, BOE_ORDER_RECORD_LEN, out, total) == 0, "all fields");
     check(boe_frame_length(out, sizeof out) == total && all_are(out + total, sizeof out - total, 0x5A), "their widths, and no byte more");
-    for (size_t i = 0; i < count; place += fields[i++].len) check(all_are(out + place, fields[i].len, (uint8_t)('A' + i)), "each at its place");
+    for (size_t i = 0; i < count; place += fields[i++].len) check(field_holds(&fields[i], i, out + place), "each at its place");
     check(boe_read(direction, out, total, &back, sizeof back) == 0, "read again");
     check(memcmp(back.bytes, record.bytes, BOE_ORDER_RECORD_LEN) == 0, "as they were");
     return total;
@@ -342,7 +447,7 @@ static const struct rest purged[] = {
 
 /* An order that has the front of an example before its count byte: how it is refused, and that nothing is stored then; else it is written again as it
  * was. Into a buffer without room it is refused alike. */
-static void try_rest(const uint8_t *front, size_t count_at, const struct rest *r) {
+static void try_rest(uint8_t direction, const uint8_t *front, size_t count_at, const struct rest *r) {
     uint8_t bytes[600] = {0}, out[600];
     struct boe_record record, filled;
     memcpy(bytes, front, count_at);
@@ -352,32 +457,32 @@ static void try_rest(const uint8_t *front, size_t count_at, const struct rest *r
     memset(&filled, 0x5A, sizeof filled);
     record = filled;
     uint32_t expected = refused_at(r->number, r->place);
-    check(boe_read(BOE_FROM_MEMBER, bytes, r->total, &record, 0) == (expected ? expected : BOE_NO_ROOM), r->what);
+    check(boe_read(direction, bytes, r->total, &record, 0) == (expected ? expected : BOE_NO_ROOM), r->what);
     check(memcmp(&record, &filled, sizeof record) == 0, "no room, and nothing stored");
-    check(boe_read(BOE_FROM_MEMBER, bytes, r->total, &record, sizeof record) == expected, r->what);
+    check(boe_read(direction, bytes, r->total, &record, sizeof record) == expected, r->what);
     if (expected) {
         check(memcmp(&record, &filled, sizeof record) == 0, "refused, and nothing stored");
         return;
     }
     memset(out, 0x5A, sizeof out);
-    check(boe_write(BOE_FROM_MEMBER, &record, BOE_ORDER_RECORD_LEN, out, sizeof out) == 0, "written again");
+    check(boe_write(direction, &record, BOE_ORDER_RECORD_LEN, out, sizeof out) == 0, "written again");
     check(memcmp(out, bytes, r->total) == 0 && all_are(out + r->total, sizeof out - r->total, 0x5A), "as the same bytes, and no byte more");
 }
 
 /* The unit of a member's order is 0; its number is any. No book has it. */
-static void member_header(const uint8_t *message, size_t len) {
+static void member_header(uint8_t direction, const uint8_t *message, size_t len) {
     uint8_t bytes[600], buffer[BOE_MARK_BYTES + 100], out[600];
     struct boe_record record;
     struct boe_state state;
     memcpy(bytes, message, len);
     bytes[5] = 1;
-    check(boe_read(BOE_FROM_MEMBER, bytes, len, &record, sizeof record) == BOE_BAD_UNIT, "a unit");
+    check(boe_read(direction, bytes, len, &record, sizeof record) == BOE_BAD_UNIT, "a unit");
     bytes[5] = 0;
     memset(bytes + 6, 0xFF, 4);
-    check(boe_read(BOE_FROM_MEMBER, bytes, len, &record, sizeof record) == 0, "any number");
-    check(boe_write(BOE_FROM_MEMBER, &record, sizeof record, out, sizeof out) == 0 && memcmp(out, bytes, len) == 0, "written again");
+    check(boe_read(direction, bytes, len, &record, sizeof record) == 0, "any number");
+    check(boe_write(direction, &record, sizeof record, out, sizeof out) == 0 && memcmp(out, bytes, len) == 0, "written again");
     record.bytes[BOE_RECORD_UNIT_AT] = 1;
-    check(boe_write(BOE_FROM_MEMBER, &record, sizeof record, out, sizeof out) == BOE_BAD_UNIT, "its record with a unit");
+    check(boe_write(direction, &record, sizeof record, out, sizeof out) == BOE_BAD_UNIT, "its record with a unit");
     check(boe_book_open(20250819, buffer, sizeof buffer, &state, sizeof state) == 0, "a book is opened");
     check(boe_book_append(message, len, buffer, sizeof buffer, &state, sizeof state) == BOE_UNKNOWN_TYPE, "an order is not booked");
 }
@@ -390,11 +495,6 @@ static const struct optional modify_fields[] = {
 static const struct optional purge_fields[] = {
     OPTIONAL(PURGE_ORDERS, CLEARING_FIRM), OPTIONAL(PURGE_ORDERS, MASS_CANCEL_INST), OPTIONAL(PURGE_ORDERS, MASS_CANCEL_ID),
     OPTIONAL(PURGE_ORDERS, SYMBOL), OPTIONAL(PURGE_ORDERS, SYMBOL_SFX)};
-
-/* A number's bytes, the lowest first. */
-static void put(uint8_t *at, unsigned len, uint64_t value) {
-    for (unsigned i = 0; i < len; i++, value >>= 8) at[i] = (uint8_t)value;
-}
 
 /* docs/GUIDE.md's modify: 000's example, field by field. */
 static uint32_t modify_as_told(uint32_t number, uint8_t *out, size_t out_len) {
@@ -416,9 +516,11 @@ static void modifies(void) {
     check(modify_as_told(100, told, sizeof told) == 0 && memcmp(told, modify_order, sizeof told) == 0, "the guide's modify is the example");
     struct boe_record record;
     uint8_t bytes[sizeof modify_order];
-    again(BOE_FROM_MEMBER, modify_order, sizeof modify_order);
-    member_header(modify_order, sizeof modify_order);
-    for (size_t i = 0; i < COUNT_OF(modified); i++) try_rest(modify_order, 50, &modified[i]);
+    again_in_both(modify_order, sizeof modify_order);
+    for (size_t m = 0; m < COUNT_OF(members); m++) {
+        member_header(members[m], modify_order, sizeof modify_order);
+        for (size_t i = 0; i < COUNT_OF(modified); i++) try_rest(members[m], modify_order, 50, &modified[i]);
+    }
     memcpy(bytes, modify_order, sizeof bytes);
     memset(bytes + 30, 0, 20);
     check(boe_read(BOE_FROM_MEMBER, bytes, sizeof bytes, &record, sizeof record) == refused_at(BOE_BAD_VALUE, 30), "a blank OrigClOrdID");
@@ -432,15 +534,18 @@ static void modifies(void) {
     check(memcmp(record.bytes + BOE_MODIFY_ORDER_PRICE_AT, modify_order + 56, BOE_MODIFY_ORDER_PRICE_LEN) == 0, "Price is at 56");
     record = without_fields(BOE_FROM_MEMBER, modify_order, sizeof modify_order, 2);
     record.bytes[BOE_RECORD_BITFIELDS_AT] = BOE_MODIFY_ORDER_ORDER_QTY_BIT | BOE_MODIFY_ORDER_PRICE_BIT;
-    check(by_name(BOE_FROM_MEMBER, record, 53, modify_fields, COUNT_OF(modify_fields)) == 89, "the longest Modify Order");
+    for (size_t m = 0; m < COUNT_OF(members); m++)
+        check(by_name(members[m], record, 53, modify_fields, COUNT_OF(modify_fields)) == 89, "the longest Modify Order");
 }
 
-/* Tries a record that is refused without a place: nothing is stored, with room or without. */
+/* Tries a record of either market's members that is refused without a place: nothing is stored, with room or without. */
 static void unwritten(const struct boe_record *record, enum boe_refusal number, const char *what) {
     uint8_t out[600];
     memset(out, 0x5A, sizeof out);
-    check(boe_write(BOE_FROM_MEMBER, record, sizeof *record, out, sizeof out) == number, what);
-    check(boe_write(BOE_FROM_MEMBER, record, sizeof *record, out, 0) == number, "it comes before 13");
+    for (size_t m = 0; m < COUNT_OF(members); m++) {
+        check(boe_write(members[m], record, sizeof *record, out, sizeof out) == number, what);
+        check(boe_write(members[m], record, sizeof *record, out, 0) == number, "it comes before 13");
+    }
     check(all_are(out, sizeof out, 0x5A), "and nothing is stored");
 }
 
@@ -479,7 +584,8 @@ static void purge_by_name(struct boe_record bare, unsigned n) {
     memset(ids, 0, BOE_RISK_GROUP_IDS_MOST * BOE_RISK_GROUP_ID_LEN);
     for (unsigned i = 0; i < n; i++) memset(ids + BOE_RISK_GROUP_ID_LEN * i, 0xE0 + (int)i, BOE_RISK_GROUP_ID_LEN);
     bare.bytes[BOE_PURGE_ORDERS_RISK_GROUP_ID_CNT_AT] = (uint8_t)n;
-    check(by_name(BOE_FROM_MEMBER, bare, first, purge_fields, COUNT_OF(purge_fields)) == first + 56, "all fields but MatchingUnit");
+    for (size_t m = 0; m < COUNT_OF(members); m++)
+        check(by_name(members[m], bare, first, purge_fields, COUNT_OF(purge_fields)) == first + 56, "all fields but MatchingUnit");
     if (n) {
         bare.bytes[BOE_PURGE_ORDERS_RISK_GROUP_ID_CNT_AT]--;
         unwritten(&bare, BOE_NOT_ZERO, "a RiskGroupID after the last");
@@ -502,10 +608,12 @@ static void purge_by_name(struct boe_record bare, unsigned n) {
 static void purges(void) {
     struct boe_record record, bare;
     const uint8_t *ids = record.bytes + BOE_PURGE_ORDERS_RISK_GROUP_IDS_AT;
-    again(BOE_FROM_MEMBER, purge_orders, sizeof purge_orders);
-    again(BOE_FROM_MEMBER, purge_symbol, sizeof purge_symbol);
-    member_header(purge_orders, sizeof purge_orders);
-    for (size_t i = 0; i < COUNT_OF(purged); i++) try_rest(purge_orders, 11, &purged[i]);
+    again_in_both(purge_orders, sizeof purge_orders);
+    again_in_both(purge_symbol, sizeof purge_symbol);
+    for (size_t m = 0; m < COUNT_OF(members); m++) {
+        member_header(members[m], purge_orders, sizeof purge_orders);
+        for (size_t i = 0; i < COUNT_OF(purged); i++) try_rest(members[m], purge_orders, 11, &purged[i]);
+    }
     check(boe_read(BOE_FROM_MEMBER, purge_orders, sizeof purge_orders, &record, sizeof record) == 0, "Purge Orders by RiskGroupID");
     check(record.bytes[BOE_RECORD_TYPE_AT] == BOE_PURGE_ORDERS && record.bytes[BOE_RECORD_COUNT_AT] == 1, "its type and count");
     check(record.bytes[BOE_PURGE_ORDERS_RISK_GROUP_ID_CNT_AT] == 2 && BOE_PURGE_ORDERS_RISK_GROUP_ID_CNT_LEN == 1, "RiskGroupIDCnt is at 13");
@@ -528,20 +636,176 @@ static void purges(void) {
     purge_conflicts(bare);
 }
 
-/* The types that are read from the member. */
-static void member_types(void) {
-    for (unsigned type = 0; type < 256; type++) {
-        uint8_t header[10] = {0xBA, 0xBA, 8, 0, (uint8_t)type};
-        struct boe_record record;
-        int known = type == BOE_NEW_ORDER || type == BOE_CANCEL_ORDER || type == BOE_MODIFY_ORDER || type == BOE_PURGE_ORDERS ||
-                    type == BOE_LOGIN_REQUEST || type == BOE_CLIENT_HEARTBEAT;
-        uint32_t refusal = boe_read(BOE_FROM_MEMBER, header, sizeof header, &record, sizeof record);
-        check((BOE_NUMBER(refusal) != BOE_UNKNOWN_TYPE) == known, "what is read from the member");
-        memset(&record, 0, sizeof record);
-        record.bytes[BOE_RECORD_TYPE_AT] = (uint8_t)type;
-        refusal = boe_write(BOE_FROM_MEMBER, &record, sizeof record, header, 0);
-        check((BOE_NUMBER(refusal) != BOE_UNKNOWN_TYPE) == known, "and written");
+/* ---- options New Order */
+
+static const struct rest optioned[] = {
+#define LIMIT "\x70\x17\0\0\0\0\0\0"
+#define MSFT "MSFT\0\0\0\0"
+#define DAY "\xEF\xDB\x32\x01"
+    REST("\x02\x04\x41" LIMIT MSFT "C", 55, 0, 0, "what is required"),
+    REST("\x02\x10\x41" "1" MSFT "C", 48, 0, 0, "OrdType in the place of Price"),
+    REST("\x02\x04\x41", 55, 0, 0, "no price, and a blank Symbol and Capacity"),
+    REST("\x02\x03\x41", 55, BOE_NOT_SELECTED, 37, "neither Price nor OrdType"),
+    REST("\x02\x04\x40" LIMIT "C", 47, BOE_NOT_SELECTED, 37, "no Symbol"),
+    REST("\x02\x04\x01" LIMIT MSFT, 54, BOE_NOT_SELECTED, 37, "no Capacity"),
+    REST("\x01\x04" LIMIT, 45, BOE_NOT_SELECTED, 36, "a bitfield"),
+    REST("\x04\x04\x40\0\x17" LIMIT "C", 66, BOE_NOT_SELECTED, 39, "9 comes before 6"),
+    REST("\0", 36, BOE_NOT_SELECTED, 35, "no bitfields"),
+    REST("\x0B", 47, BOE_TOO_MANY_BITFIELDS, 35, "eleven bitfields"),
+    REST("\x0A\x04\x41\0\0\0\0\0\0\0\0" LIMIT MSFT "C", 63, 0, 0, "ten, eight of zeros"),
+    REST("\x0A\x04\x41\0\0\0\0\0\0\0\x02" LIMIT MSFT "C", 67, BOE_UNLISTED_BIT, 45, "the equities order's LocateBroker"),
+    REST("\x06\x04\x41\0\0\0\x02" LIMIT MSFT "C", 67, BOE_UNLISTED_BIT, 41, "its StopPx"),
+    REST("\x03\x04\x41\x80" LIMIT MSFT "C", 64, BOE_UNLISTED_BIT, 38, "its ExpireTime"),
+    REST("\x02\x04\x43" LIMIT MSFT "\0\0\0\0\0\0\0\0" "C", 63, BOE_UNLISTED_BIT, 37, "its SymbolSfx"),
+    REST("\x04\x04\x41\0\x08" LIMIT MSFT "C", 57, BOE_UNLISTED_BIT, 39, "a bit between PutOrCall and OpenClose"),
+    REST("\x04\x04\x41\0\x01" LIMIT MSFT "C" DAY, 61, 0, 0, "MaturityDate alone"),
+    REST("\x04\x04\x41\0\x01" LIMIT MSFT "C", 61, BOE_BAD_VALUE, 57, "which is 0"),
+    REST("\x04\x04\x41\0\x01" LIMIT MSFT "C" DAY, 60, BOE_WRONG_TOTAL, 60, "a byte less"),
+    REST("\x04\x04\x41\0\x01" LIMIT "MS-T\0\0\0\0" "C", 61, BOE_BAD_VALUE, 48, "Symbol comes before it"),
+    REST("\x04\x04\x41\0\x05" LIMIT MSFT "C\0\0\0\0-", 62, BOE_BAD_VALUE, 57, "and it before PutOrCall"),
+    REST("\x04\x04\x41\0\x02" LIMIT MSFT "C\xFF\xFF\xFF\xFF\xFF\xFF\xFF\xFF", 65, 0, 0, "any StrikePrice"),
+    REST("\x04\x04\x41\0\x04" LIMIT MSFT "C0", 58, 0, 0, "PutOrCall has digits"),
+    REST("\x04\x04\x41\0\x04" LIMIT MSFT "C", 58, 0, 0, "or is blank"),
+    REST("\x04\x04\x41\0\x04" LIMIT MSFT "C ", 58, BOE_BAD_VALUE, 57, "and is no space"),
+    REST("\x04\x04\x41\0\x10" LIMIT MSFT "CC", 58, 0, 0, "OpenClose has letters"),
+    REST("\x04\x04\x41\0\x10" LIMIT MSFT "C-", 58, BOE_BAD_VALUE, 57, "and no hyphen"),
+};
+
+static const struct optional options_fields[] = {
+    OPTIONAL(OPTIONS_NEW_ORDER, CLEARING_FIRM), OPTIONAL(OPTIONS_NEW_ORDER, CLEARING_ACCOUNT), OPTIONAL(OPTIONS_NEW_ORDER, PRICE),
+    OPTIONAL(OPTIONS_NEW_ORDER, EXEC_INST), OPTIONAL(OPTIONS_NEW_ORDER, ORD_TYPE), OPTIONAL(OPTIONS_NEW_ORDER, TIME_IN_FORCE),
+    OPTIONAL(OPTIONS_NEW_ORDER, MIN_QTY), OPTIONAL(OPTIONS_NEW_ORDER, MAX_FLOOR), OPTIONAL(OPTIONS_NEW_ORDER, SYMBOL),
+    OPTIONAL(OPTIONS_NEW_ORDER, CAPACITY), OPTIONAL(OPTIONS_NEW_ORDER, ROUTING_INST), OPTIONAL(OPTIONS_NEW_ORDER, ACCOUNT),
+    OPTIONAL_DAY(OPTIONS_NEW_ORDER, MATURITY_DATE, 20110319), OPTIONAL(OPTIONS_NEW_ORDER, STRIKE_PRICE), OPTIONAL(OPTIONS_NEW_ORDER, PUT_OR_CALL),
+    OPTIONAL(OPTIONS_NEW_ORDER, OPEN_CLOSE)};
+
+/* 002's options order, field by field: 10 calls MSFT of 19 March 2011 with strike 17.50, to open, at 0.60. */
+static uint32_t option_as_told(uint32_t number, uint8_t *out, size_t out_len) {
+    struct boe_record record = {{0}};
+    uint8_t *r = record.bytes, *bitfields = r + BOE_RECORD_BITFIELDS_AT;
+    r[BOE_RECORD_TYPE_AT] = BOE_OPTIONS_NEW_ORDER;
+    put(r + BOE_RECORD_NUMBER_AT, 4, number);
+    memcpy(r + BOE_OPTIONS_NEW_ORDER_CL_ORD_ID_AT, "ABC123", 6);
+    r[BOE_OPTIONS_NEW_ORDER_SIDE_AT] = '1';
+    put(r + BOE_OPTIONS_NEW_ORDER_ORDER_QTY_AT, BOE_OPTIONS_NEW_ORDER_ORDER_QTY_LEN, 10);
+    r[BOE_RECORD_COUNT_AT] = 4;
+    bitfields[0] = BOE_OPTIONS_NEW_ORDER_PRICE_BIT;
+    bitfields[1] = BOE_OPTIONS_NEW_ORDER_SYMBOL_BIT | BOE_OPTIONS_NEW_ORDER_CAPACITY_BIT | BOE_OPTIONS_NEW_ORDER_ROUTING_INST_BIT;
+    bitfields[2] = BOE_OPTIONS_NEW_ORDER_ACCOUNT_BIT;
+    bitfields[3] = BOE_OPTIONS_NEW_ORDER_MATURITY_DATE_BIT | BOE_OPTIONS_NEW_ORDER_STRIKE_PRICE_BIT | BOE_OPTIONS_NEW_ORDER_PUT_OR_CALL_BIT |
+                   BOE_OPTIONS_NEW_ORDER_OPEN_CLOSE_BIT;
+    put(r + BOE_OPTIONS_NEW_ORDER_PRICE_AT, BOE_OPTIONS_NEW_ORDER_PRICE_LEN, 6000);
+    memcpy(r + BOE_OPTIONS_NEW_ORDER_SYMBOL_AT, "MSFT", 4);
+    r[BOE_OPTIONS_NEW_ORDER_CAPACITY_AT] = 'C';
+    r[BOE_OPTIONS_NEW_ORDER_ROUTING_INST_AT] = 'R';
+    memcpy(r + BOE_OPTIONS_NEW_ORDER_ACCOUNT_AT, "DEFG", 4);
+    put(r + BOE_OPTIONS_NEW_ORDER_MATURITY_DATE_AT, BOE_OPTIONS_NEW_ORDER_MATURITY_DATE_LEN, 20110319);
+    put(r + BOE_OPTIONS_NEW_ORDER_STRIKE_PRICE_AT, BOE_OPTIONS_NEW_ORDER_STRIKE_PRICE_LEN, 175000);
+    r[BOE_OPTIONS_NEW_ORDER_PUT_OR_CALL_AT] = '1';
+    r[BOE_OPTIONS_NEW_ORDER_OPEN_CLOSE_AT] = 'O';
+    return boe_write(BOE_FROM_OPTIONS_MEMBER, &record, sizeof record, out, out_len);
+}
+
+/* The options order with other maturities, read and written: a calendar day of 1970 to 2099 is taken, and for any other number nothing stored. */
+static void maturities(void) {
+    static const struct {
+        uint32_t number;
+        int is_day;
+    } cases[] = {{20110319, 1}, {20110229, 0}, {0, 0}, {20120229, 1}, {20000229, 1}, {19700101, 1}, {19691231, 0}, {20991231, 1}, {21000101, 0},
+                 {20110431, 0}, {20111301, 0}, {20110001, 0}, {20110300, 0}, {20110332, 0}, {20111231, 1}, {110319, 0}, {UINT32_MAX, 0}};
+    for (size_t i = 0; i < COUNT_OF(cases); i++) {
+        uint8_t bytes[sizeof options_order], out[600];
+        struct boe_record good, record, filled;
+        uint32_t expected = cases[i].is_day ? 0 : refused_at(BOE_BAD_VALUE, 77);
+        memcpy(bytes, options_order, sizeof bytes);
+        put(bytes + 77, 4, cases[i].number);
+        memset(&filled, 0x5A, sizeof filled);
+        record = filled;
+        check(boe_read(BOE_FROM_OPTIONS_MEMBER, bytes, sizeof bytes, &record, sizeof record) == expected, "a MaturityDate that is a day, and no other");
+        if (expected) check(memcmp(&record, &filled, sizeof record) == 0, "refused, and nothing stored");
+        else check(number_at(record.bytes + BOE_OPTIONS_NEW_ORDER_MATURITY_DATE_AT) == cases[i].number, "as it was");
+        check(boe_read(BOE_FROM_OPTIONS_MEMBER, options_order, sizeof options_order, &good, sizeof good) == 0, "the example");
+        put(good.bytes + BOE_OPTIONS_NEW_ORDER_MATURITY_DATE_AT, BOE_OPTIONS_NEW_ORDER_MATURITY_DATE_LEN, cases[i].number);
+        memset(out, 0x5A, sizeof out);
+        check(boe_write(BOE_FROM_OPTIONS_MEMBER, &good, sizeof good, out, sizeof out) == expected, "its record");
+        if (expected) check(all_are(out, sizeof out, 0x5A), "refused, and nothing stored");
+        else check(memcmp(out, bytes, sizeof bytes) == 0, "written as it was read");
     }
+}
+
+/* The New Orders of one market in the other: the direction tells how a message is read, and a record tells its own market. */
+static void other_market(void) {
+    uint8_t bytes[sizeof new_order + BOE_NEW_ORDER_SYMBOL_SFX_LEN], out[600];
+    struct boe_record record, filled, order;
+    memset(&filled, 0x5A, sizeof filled);
+    memset(out, 0x5A, sizeof out);
+    record = filled;
+    check(boe_read(BOE_FROM_MEMBER, options_order, sizeof options_order, &record, sizeof record) == refused_at(BOE_UNLISTED_BIT, 39),
+          "the options order's fourth bitfield in an equities order");
+    check(memcmp(&record, &filled, sizeof record) == 0, "refused, and nothing stored");
+
+    again(BOE_FROM_OPTIONS_MEMBER, new_order, sizeof new_order);
+    check(boe_read(BOE_FROM_OPTIONS_MEMBER, new_order, sizeof new_order, &order, sizeof order) == 0, "000's order, whose bits both markets have");
+    check(order.bytes[BOE_RECORD_TYPE_AT] == BOE_OPTIONS_NEW_ORDER, "is an options order in direction 2");
+    check(memcmp(order.bytes + BOE_OPTIONS_NEW_ORDER_ACCOUNT_AT, new_order + 60, BOE_OPTIONS_NEW_ORDER_ACCOUNT_LEN) == 0, "its Account at that order's place");
+    order.bytes[BOE_RECORD_TYPE_AT] = BOE_NEW_ORDER;
+    check(boe_write(BOE_FROM_OPTIONS_MEMBER, &order, sizeof order, out, sizeof out) == BOE_UNKNOWN_TYPE, "a record of type 38 is none in direction 2");
+    check(boe_read(BOE_FROM_MEMBER, new_order, sizeof new_order, &order, sizeof order) == 0, "000's order");
+    check(order.bytes[BOE_RECORD_TYPE_AT] == BOE_NEW_ORDER, "is an equities order in direction 0");
+    order.bytes[BOE_RECORD_TYPE_AT] = BOE_OPTIONS_NEW_ORDER;
+    check(boe_write(BOE_FROM_MEMBER, &order, sizeof order, out, sizeof out) == BOE_UNKNOWN_TYPE, "nor is one of type B8 in direction 0");
+    check(boe_write(BOE_FROM_OPTIONS_MEMBER, &order, sizeof order, out, sizeof out) == refused_at(BOE_BAD_VALUE, 60),
+          "in direction 2 its Capacity stands in the place of Account");
+    check(all_are(out, sizeof out, 0x5A), "refusals stored nothing");
+
+    memcpy(bytes, new_order, 55);
+    memcpy(bytes + 55, "ABC\0\0\0\0", BOE_NEW_ORDER_SYMBOL_SFX_LEN);
+    memcpy(bytes + 55 + BOE_NEW_ORDER_SYMBOL_SFX_LEN, new_order + 55, sizeof new_order - 55);
+    bytes[2] += BOE_NEW_ORDER_SYMBOL_SFX_LEN;
+    bytes[36 + BOE_NEW_ORDER_SYMBOL_SFX_BYTE - 1] |= BOE_NEW_ORDER_SYMBOL_SFX_BIT;
+    check(boe_read(BOE_FROM_MEMBER, bytes, sizeof bytes, &record, sizeof record) == 0, "000's order with SymbolSfx");
+    record = filled;
+    check(boe_read(BOE_FROM_OPTIONS_MEMBER, bytes, sizeof bytes, &record, sizeof record) == refused_at(BOE_UNLISTED_BIT, 37),
+          "which options orders do not have");
+    memcpy(bytes, new_order, sizeof new_order);
+    bytes[4] = BOE_OPTIONS_NEW_ORDER;
+    for (unsigned direction = 0; direction < 256; direction++)
+        check(boe_read((uint8_t)direction, bytes, sizeof new_order, &record, sizeof record) == BOE_UNKNOWN_TYPE, "type B8 is on no wire");
+    check(memcmp(&record, &filled, sizeof record) == 0, "refused, and nothing stored");
+}
+
+static void options(void) {
+    uint8_t told[sizeof options_order];
+    struct boe_record record;
+    const uint8_t *at = record.bytes;
+    check(option_as_told(1, told, sizeof told) == 0 && memcmp(told, options_order, sizeof told) == 0, "the order made by name is the example");
+    again(BOE_FROM_OPTIONS_MEMBER, options_order, sizeof options_order);
+    member_header(BOE_FROM_OPTIONS_MEMBER, options_order, sizeof options_order);
+    for (size_t i = 0; i < COUNT_OF(optioned); i++) try_rest(BOE_FROM_OPTIONS_MEMBER, options_order, 35, &optioned[i]);
+    check(boe_read(BOE_FROM_OPTIONS_MEMBER, options_order, sizeof options_order, &record, sizeof record) == 0, "options New Order");
+    check(at[BOE_RECORD_TYPE_AT] == BOE_OPTIONS_NEW_ORDER && at[BOE_RECORD_COUNT_AT] == 4, "its type and count");
+    check(memcmp(at + BOE_OPTIONS_NEW_ORDER_CL_ORD_ID_AT, options_order + 10, BOE_OPTIONS_NEW_ORDER_CL_ORD_ID_LEN) == 0, "ClOrdID is at 10");
+    check(at[BOE_OPTIONS_NEW_ORDER_SIDE_AT] == '1' && BOE_OPTIONS_NEW_ORDER_SIDE_LEN == 1, "Side is at 30");
+    check(number_at(at + BOE_OPTIONS_NEW_ORDER_ORDER_QTY_AT) == 10 && BOE_OPTIONS_NEW_ORDER_ORDER_QTY_LEN == 4, "OrderQty is at 31");
+    static const struct {
+        struct optional field;
+        size_t place;
+        const char *what;
+    } placed[] = {
+        {OPTIONAL(OPTIONS_NEW_ORDER, PRICE), 40, "Price is at 40"}, {OPTIONAL(OPTIONS_NEW_ORDER, SYMBOL), 48, "Symbol is at 48"},
+        {OPTIONAL(OPTIONS_NEW_ORDER, CAPACITY), 56, "Capacity is at 56"}, {OPTIONAL(OPTIONS_NEW_ORDER, ROUTING_INST), 57, "RoutingInst is at 57"},
+        {OPTIONAL(OPTIONS_NEW_ORDER, ACCOUNT), 61, "Account is at 61"}, {OPTIONAL(OPTIONS_NEW_ORDER, MATURITY_DATE), 77, "MaturityDate is at 77"},
+        {OPTIONAL(OPTIONS_NEW_ORDER, STRIKE_PRICE), 81, "StrikePrice is at 81"},
+        {OPTIONAL(OPTIONS_NEW_ORDER, PUT_OR_CALL), 89, "PutOrCall is at 89"}, {OPTIONAL(OPTIONS_NEW_ORDER, OPEN_CLOSE), 90, "OpenClose is at 90"}};
+    for (size_t i = 0; i < COUNT_OF(placed); i++)
+        check(memcmp(at + placed[i].field.at, options_order + placed[i].place, placed[i].field.len) == 0, placed[i].what);
+
+    record = without_fields(BOE_FROM_OPTIONS_MEMBER, options_order, sizeof options_order, 10);
+    record.bytes[BOE_RECORD_BITFIELDS_AT] = BOE_OPTIONS_NEW_ORDER_PRICE_BIT;
+    record.bytes[BOE_RECORD_BITFIELDS_AT + 1] = BOE_OPTIONS_NEW_ORDER_SYMBOL_BIT | BOE_OPTIONS_NEW_ORDER_CAPACITY_BIT;
+    check(by_name(BOE_FROM_OPTIONS_MEMBER, record, 46, options_fields, COUNT_OF(options_fields)) == 116, "the longest options New Order");
+    maturities();
+    other_market();
 }
 
 /* ---- rejections */
@@ -744,8 +1008,8 @@ static void logins(void) {
     struct boe_record record;
     uint8_t out[600], bytes[600];
     const uint8_t *group = record.bytes + BOE_LOGIN_REQUEST_GROUPS_AT;
-    again(BOE_FROM_MEMBER, login, sizeof login);
-    again(BOE_FROM_MEMBER, options_login, sizeof options_login);
+    again_in_both(login, sizeof login);
+    again_in_both(options_login, sizeof options_login);
     check(boe_read(BOE_FROM_MEMBER, options_login, sizeof options_login, &record, sizeof record) == 0, "002's login");
     same_body(record.bytes, options_login, sizeof options_login);
     check(memcmp(record.bytes + BOE_LOGIN_REQUEST_SESSION_SUB_ID_AT, "0001", BOE_LOGIN_REQUEST_SESSION_SUB_ID_LEN) == 0, "SessionSubID");
@@ -903,6 +1167,7 @@ struct damage {
 };
 #define OF_MEMBER(message, ...) {BOE_FROM_MEMBER, message, sizeof message, __VA_ARGS__}
 #define OF_VENUE(message, ...) {BOE_FROM_VENUE, message, sizeof message, __VA_ARGS__}
+#define OF_OPTIONS(message, ...) {BOE_FROM_OPTIONS_MEMBER, message, sizeof message, __VA_ARGS__}
 
 static const struct damage messages_damaged[] = {
     OF_MEMBER(new_order, 60, 0x07, BOE_BAD_VALUE, 60, "Account's first byte"),
@@ -921,6 +1186,29 @@ static const struct damage messages_damaged[] = {
     OF_MEMBER(new_order, 37, 0xC0, BOE_NOT_SELECTED, 38, "no Symbol"),
     OF_MEMBER(new_order, 36, 0, BOE_NOT_SELECTED, 38, "neither Price nor OrdType"),
     OF_MEMBER(new_order, 35, 0, BOE_NOT_SELECTED, 35, "no bitfields"),
+    OF_OPTIONS(options_order, 10, 0, BOE_BAD_VALUE, 10, "ClOrdID"),
+    OF_OPTIONS(options_order, 30, 0, BOE_BAD_VALUE, 30, "Side"),
+    OF_OPTIONS(options_order, 31, 0, BOE_BAD_VALUE, 31, "no OrderQty"),
+    OF_OPTIONS(options_order, 34, 1, BOE_BAD_VALUE, 31, "OrderQty"),
+    OF_OPTIONS(options_order, 48, '-', BOE_BAD_VALUE, 48, "Symbol"),
+    OF_OPTIONS(options_order, 56, '1', BOE_BAD_VALUE, 56, "Capacity"),
+    OF_OPTIONS(options_order, 60, 'X', BOE_BAD_VALUE, 57, "RoutingInst's last byte, after NULs"),
+    OF_OPTIONS(options_order, 64, 0x07, BOE_BAD_VALUE, 61, "Account"),
+    OF_OPTIONS(options_order, 77, 0x95, BOE_BAD_VALUE, 77, "29 February 2011"),
+    OF_OPTIONS(options_order, 80, 0, BOE_BAD_VALUE, 77, "a later byte of MaturityDate"),
+    OF_OPTIONS(options_order, 89, '-', BOE_BAD_VALUE, 89, "PutOrCall"),
+    OF_OPTIONS(options_order, 90, ' ', BOE_BAD_VALUE, 90, "OpenClose"),
+    OF_OPTIONS(options_order, 2, 0x58, BOE_WRONG_TOTAL, 90, "a length less by one"),
+    OF_OPTIONS(options_order, 2, 0x5A, BOE_WRONG_TOTAL, 92, "a length more by one"),
+    OF_OPTIONS(options_order, 2, 33, BOE_WRONG_TOTAL, 35, "no count byte"),
+    OF_OPTIONS(options_order, 2, 37, BOE_WRONG_TOTAL, 39, "three bitfields of four"),
+    OF_OPTIONS(options_order, 35, 0x0B, BOE_TOO_MANY_BITFIELDS, 35, "the count"),
+    OF_OPTIONS(options_order, 35, 0, BOE_NOT_SELECTED, 35, "no bitfields"),
+    OF_OPTIONS(options_order, 36, 0, BOE_NOT_SELECTED, 39, "neither Price nor OrdType"),
+    OF_OPTIONS(options_order, 37, 0xC0, BOE_NOT_SELECTED, 39, "no Symbol"),
+    OF_OPTIONS(options_order, 37, 0x81, BOE_NOT_SELECTED, 39, "no Capacity"),
+    OF_OPTIONS(options_order, 37, 0xC3, BOE_UNLISTED_BIT, 37, "SymbolSfx"),
+    OF_OPTIONS(options_order, 39, 0x1F, BOE_UNLISTED_BIT, 39, "the fourth bitfield"),
     OF_MEMBER(cancel_order, 10, 0, BOE_BAD_VALUE, 10, "OrigClOrdID"),
     OF_MEMBER(cancel_order, 32, '0', BOE_BAD_VALUE, 32, "ClearingFirm"),
     OF_MEMBER(cancel_order, 30, 3, BOE_TOO_MANY_BITFIELDS, 30, "the count"),
@@ -1011,6 +1299,23 @@ static const struct damage records_damaged[] = {
     OF_MEMBER(new_order, BOE_RECORD_COUNT_AT, 0, BOE_NOT_SELECTED, 35, "no bitfields"),
     OF_MEMBER(new_order, BOE_RECORD_BITFIELDS_AT + 1, 0xC9, BOE_UNLISTED_BIT, 37, "the second bitfield"),
     OF_MEMBER(new_order, BOE_RECORD_BITFIELDS_AT + 1, 0xC0, BOE_NOT_SELECTED, 38, "no Symbol"),
+    OF_OPTIONS(options_order, BOE_OPTIONS_NEW_ORDER_CL_ORD_ID_AT, 0, BOE_BAD_VALUE, 10, "ClOrdID"),
+    OF_OPTIONS(options_order, BOE_OPTIONS_NEW_ORDER_SIDE_AT, 0, BOE_BAD_VALUE, 30, "Side"),
+    OF_OPTIONS(options_order, BOE_OPTIONS_NEW_ORDER_ORDER_QTY_AT, 0, BOE_BAD_VALUE, 31, "OrderQty"),
+    OF_OPTIONS(options_order, BOE_OPTIONS_NEW_ORDER_SYMBOL_AT, '-', BOE_BAD_VALUE, 48, "Symbol"),
+    OF_OPTIONS(options_order, BOE_OPTIONS_NEW_ORDER_ACCOUNT_AT + 3, 0x07, BOE_BAD_VALUE, 61, "Account"),
+    OF_OPTIONS(options_order, BOE_OPTIONS_NEW_ORDER_MATURITY_DATE_AT, 0x95, BOE_BAD_VALUE, 77, "29 February 2011"),
+    OF_OPTIONS(options_order, BOE_OPTIONS_NEW_ORDER_PUT_OR_CALL_AT, '-', BOE_BAD_VALUE, 89, "PutOrCall"),
+    OF_OPTIONS(options_order, BOE_OPTIONS_NEW_ORDER_OPEN_CLOSE_AT, ' ', BOE_BAD_VALUE, 90, "OpenClose"),
+    OF_OPTIONS(options_order, BOE_RECORD_COUNT_AT, 11, BOE_TOO_MANY_BITFIELDS, 35, "the count"),
+    OF_OPTIONS(options_order, BOE_RECORD_COUNT_AT, 0, BOE_NOT_SELECTED, 35, "no bitfields"),
+    OF_OPTIONS(options_order, BOE_RECORD_BITFIELDS_AT + 1, 0xC3, BOE_UNLISTED_BIT, 37, "SymbolSfx"),
+    OF_OPTIONS(options_order, BOE_RECORD_BITFIELDS_AT + 1, 0xC0, BOE_NOT_SELECTED, 39, "no Symbol"),
+    OF_OPTIONS(options_order, BOE_RECORD_BITFIELDS_AT + 3, 0x1F, BOE_UNLISTED_BIT, 39, "the fourth bitfield"),
+    OF_OPTIONS(options_order, BOE_RECORD_BITFIELDS_AT + 3, 0x16, BOE_NOT_ZERO, 0, "MaturityDate, which is not selected"),
+    OF_OPTIONS(options_order, BOE_RECORD_COUNT_AT, 3, BOE_NOT_ZERO, 0, "a bitfield after the last"),
+    OF_OPTIONS(options_order, BOE_OPTIONS_NEW_ORDER_ORD_TYPE_AT, '1', BOE_NOT_ZERO, 0, "OrdType, which is not selected"),
+    OF_OPTIONS(options_order, BOE_OPTIONS_NEW_ORDER_OPEN_CLOSE_AT + 1, 1, BOE_NOT_ZERO, 0, "a byte after the last field"),
     OF_MEMBER(cancel_order, BOE_CANCEL_ORDER_CLEARING_FIRM_AT, '0', BOE_BAD_VALUE, 32, "ClearingFirm"),
     OF_MEMBER(modify_order, BOE_MODIFY_ORDER_CL_ORD_ID_AT, 0, BOE_BAD_VALUE, 10, "ClOrdID"),
     OF_MEMBER(modify_order, BOE_MODIFY_ORDER_ORIG_CL_ORD_ID_AT + 19, 'X', BOE_BAD_VALUE, 30, "OrigClOrdID"),
@@ -1108,15 +1413,23 @@ static void refused_appending(const struct damage *d) {
     check(memcmp(&state, &kept, sizeof state) == 0, "and changed nothing");
 }
 
+/* Tries a damage in its direction; what members of both markets send alike, also in the other market's. */
+static void refused_in_both(const struct damage *d, void (*refused)(const struct damage *d)) {
+    struct damage other = *d;
+    refused(d);
+    other.direction = BOE_FROM_OPTIONS_MEMBER;
+    if (d->direction == BOE_FROM_MEMBER && d->message[4] != BOE_NEW_ORDER) refused(&other);
+}
+
 static void places(void) {
     struct boe_record record;
     uint8_t bytes[sizeof new_order];
     for (size_t i = 0; i < sizeof messages_damaged / sizeof *messages_damaged; i++) {
         const struct damage *d = &messages_damaged[i];
-        refused_reading(d);
+        refused_in_both(d, refused_reading);
         if (d->message == acknowledgment || d->message == execution) refused_appending(d);
     }
-    for (size_t i = 0; i < sizeof records_damaged / sizeof *records_damaged; i++) refused_writing(&records_damaged[i]);
+    for (size_t i = 0; i < sizeof records_damaged / sizeof *records_damaged; i++) refused_in_both(&records_damaged[i], refused_writing);
 
     memcpy(bytes, new_order, sizeof new_order);
     bytes[60] = 0x07;
@@ -1182,11 +1495,12 @@ void hand_made_cases(void) {
     messages();
     modifies();
     purges();
-    member_types();
+    options();
+    types();
     rejections();
     fates();
     logins();
-    header_alone(BOE_FROM_MEMBER, client_heartbeat);
+    for (size_t m = 0; m < COUNT_OF(members); m++) header_alone(members[m], client_heartbeat);
     header_alone(BOE_FROM_VENUE, server_heartbeat);
     header_alone(BOE_FROM_VENUE, replay_complete);
     books();

@@ -33,6 +33,7 @@ uint32_t entry(const uint8_t *table, unsigned unit) {
 size_t record_len(uint8_t type) {
     switch (type) {
     case BOE_NEW_ORDER:
+    case BOE_OPTIONS_NEW_ORDER:
     case BOE_CANCEL_ORDER:
     case BOE_MODIFY_ORDER:
     case BOE_PURGE_ORDERS:

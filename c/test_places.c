@@ -26,7 +26,7 @@ static void tell_reading(void) {
     uint32_t refusal = boe_read(direction, message, length, &unused, sizeof unused);
     if (!is_news(refusal)) return;
     printf("read ");
-    print_refused(stdout, refusal, message);
+    print_refused(stdout, refusal, direction, message);
     printf("\n");
 }
 

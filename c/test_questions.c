@@ -165,7 +165,7 @@ static int answer(char *question, char *out) {
 
 void stored_questions(FILE *questions, FILE *answers) {
     static char question[LONGEST], expected[LONGEST + 8], got[LONGEST + 8];
-    unsigned long line = 0, asked = 0, placed = 0, conflicts = 0;
+    unsigned long line = 0, asked = 0, placed = 0, conflicts = 0, options = 0;
     while (fgets(question, sizeof question, questions)) {
         line++;
         if (!fgets(expected, sizeof expected, answers)) {
@@ -178,11 +178,13 @@ void stored_questions(FILE *questions, FILE *answers) {
         asked++;
         placed += strchr(expected, '@') != NULL;
         conflicts += strncmp(expected, "23", 2) == 0;
+        options += strncmp(expected, "0 B8", 4) == 0;
         check_answer(line, expected, got);
     }
     check(fgets(expected, sizeof expected, answers) == NULL, "more answers than questions");
     check(asked > 50000, "the stored questions were asked, those on the day book too");
     check(placed > 4000, "and those whose refusal has a place");
     check(conflicts > 100, "and those whose fields do not go together");
+    check(options > 200, "and those on an options order that is read");
     check(fates >= 256, "and those on a type's fate");
 }

@@ -186,6 +186,7 @@ static void try_step(uint8_t unit, uint32_t value, const uint8_t *data, size_t n
 static size_t record_len(uint8_t type) {
     switch (type) {
     case BOE_NEW_ORDER:
+    case BOE_OPTIONS_NEW_ORDER:
     case BOE_CANCEL_ORDER:
     case BOE_MODIFY_ORDER:
     case BOE_PURGE_ORDERS:
@@ -400,7 +401,10 @@ static void try_close(uint32_t date, uint16_t after, const uint8_t *book, size_t
     ask();
 }
 
-/* ---- the day book with any 144 bytes as its state: asked as steps of a script, of a live member whose buffer holds FF */
+/* ---- the day book with any 144 bytes as its state: asked as steps of a script, of a live member whose buffer holds FF; the member's market, 0
+ * or 1, plays no part */
+
+static unsigned market;
 
 static void state_words(struct text *text) {
     number(text, number_at(state.at + BOE_STATE_DATE_AT));
@@ -414,6 +418,7 @@ static void member_words(unsigned phase) {
     for (size_t i = 0; i < BOE_TABLE_BYTES; i += 4) sum += number_at(state.at + i);
     number(&proved, phase);
     number(&proved, 0);
+    number(&proved, market);
     state_words(&proved);
     number(&proved, sum);
 }
@@ -425,6 +430,7 @@ static void ask_state(void) {
     name(&question, "m-state");
     number(&question, 3);
     number(&question, 0);
+    number(&question, market);
     state_words(&question);
     hex(&question, state.at, BOE_TABLE_BYTES);
     end_line(&question);
@@ -447,7 +453,10 @@ static void ask_book(void) {
     hex(&proved, state.at, BOE_TABLE_BYTES);
 }
 
-static void lend_state(const uint8_t *data, size_t n, size_t len) {
+/* The state's bytes and the member's market, which a choice gives. */
+static void lend_state(const uint8_t *data, size_t n, uint8_t choice) {
+    size_t len = room_by(choice, BOE_STATE_BYTES);
+    market = choice / 4 % 2;
     lend_filled(&state, 0, len);
     memcpy(state.at, data, n < len ? n : len);
     memcpy(state.was, state.at, len);
@@ -457,7 +466,7 @@ static void try_append_on(uint8_t choice, uint16_t out_len, const uint8_t *data,
     static const uint8_t mark[BOE_MARK_BYTES] = {0, 0, 0, 0, 0xC3, 0, 0x35, 1};
     size_t given = n < BOE_STATE_BYTES ? n : BOE_STATE_BYTES, k = n - given;
     const uint8_t *message = data + given;
-    lend_state(data, given, room_by(choice, BOE_STATE_BYTES));
+    lend_state(data, given, choice);
     lend_filled(&out, 0xFF, out_len % (BENCH_BYTES + 1));
     lend(&bytes, message, k);
     if (state.len < BOE_STATE_BYTES) {
@@ -498,7 +507,7 @@ static void try_append_on(uint8_t choice, uint16_t out_len, const uint8_t *data,
 }
 
 static void try_close_on(uint8_t choice, uint16_t out_len, const uint8_t *data, size_t n) {
-    lend_state(data, n < BOE_STATE_BYTES ? n : BOE_STATE_BYTES, room_by(choice, BOE_STATE_BYTES));
+    lend_state(data, n < BOE_STATE_BYTES ? n : BOE_STATE_BYTES, choice);
     lend_filled(&out, 0xFF, out_len % (BENCH_BYTES + 1));
     if (state.len < BOE_STATE_BYTES) {
         must(boe_book_close(out.at, out.len, state_in(&state), state.len) == BOE_NO_ROOM, "13 for a short state");
@@ -572,6 +581,30 @@ static void mend_ids(uint8_t *message, size_t n) {
         if (BOE_NUMBER(boe_read(BOE_FROM_MEMBER, message, n, &unused, sizeof unused)) != BOE_WRONG_TOTAL) return;
 }
 
+/* A date made of four bytes: a day of 1970 to 2099, but for the last days of the shorter months. */
+static void mend_date(uint8_t *at) { put_number(at, (1970 + at[0] % 130u) * 10000 + (1 + at[1] % 12u) * 100 + 1 + at[2] % 31u); }
+
+/* An options New Order whose MaturityDate is its first bad field gets a day there. A date is no good value of any other field that can be bad, so
+ * that these stay as they are. */
+static void mend_maturity(uint8_t *message, size_t n) {
+    struct boe_record unused;
+    uint8_t kept[4];
+    uint32_t refusal = boe_read(BOE_FROM_OPTIONS_MEMBER, message, n, &unused, sizeof unused), at = BOE_PLACE(refusal);
+    if (BOE_NUMBER(refusal) != BOE_BAD_VALUE || message[4] != BOE_NEW_ORDER || n - at < sizeof kept) return;
+    memcpy(kept, message + at, sizeof kept);
+    mend_date(message + at);
+    if (boe_read(BOE_FROM_OPTIONS_MEMBER, message, n, &unused, sizeof unused) == refusal) memcpy(message + at, kept, sizeof kept);
+}
+
+/* A record of a New Order gets the direction of its market, and an options one that has a MaturityDate a day. */
+static void mend_record(uint8_t *direction, uint8_t *record, size_t n) {
+    enum { DATE_AT = BOE_OPTIONS_NEW_ORDER_MATURITY_DATE_AT, END = DATE_AT + BOE_OPTIONS_NEW_ORDER_MATURITY_DATE_LEN };
+    if (n > BOE_RECORD_TYPE_AT && record[BOE_RECORD_TYPE_AT] == BOE_NEW_ORDER) *direction = BOE_FROM_MEMBER;
+    if (n < END || record[BOE_RECORD_TYPE_AT] != BOE_OPTIONS_NEW_ORDER) return;
+    *direction = BOE_FROM_OPTIONS_MEMBER;
+    if (number_at(record + DATE_AT) != 0) mend_date(record + DATE_AT);
+}
+
 static void mend_message(uint8_t *message, size_t n) {
     if (n < 10 || n > 2048) return;
     message[0] = message[1] = 0xBA;
@@ -611,8 +644,12 @@ void mend(uint8_t *data, size_t size) {
     uint8_t *args = data + 1, *rest = args + before[call];
     size_t n = size - 1 - before[call], k;
     switch (call) {
-    case FRAME:
-    case READ: mend_message(rest, n); break;
+    case FRAME: mend_message(rest, n); break;
+    case READ:
+        mend_message(rest, n);
+        if (args[0] == BOE_FROM_OPTIONS_MEMBER) mend_maturity(rest, n);
+        break;
+    case WRITE: mend_record(args, rest, n); break;
     case RESTART: mend_book(number_at(args + 1), rest, n, reached); break;
     case CLOSE: mend_book(number_at(args), rest, n, reached); break;
     case APPEND:

@@ -27,8 +27,8 @@ enum call {
 /* Puts an input's call to the C entry points, looks at every buffer they were lent, and hands on the question and what they answered. */
 void try_input(const uint8_t *data, size_t size);
 
-/* Makes parts of an input right that random changes seldom get right: a message's start and length and the count of its RiskGroupIDs, a book's
- * marks and numbers. */
+/* Makes parts of an input right that random changes seldom get right: a message's start and length and the count of its RiskGroupIDs, the
+ * MaturityDate of an options order, the direction of a New Order's record, a book's marks and numbers. */
 void mend(uint8_t *data, size_t size);
 
 /* Questions of the format of second/README.md, each line ended by LF, and the C entry points' answers to them. Each program has its own. */

@@ -130,9 +130,9 @@ static void write_input(const char *folder, unsigned long line, const char *form
     if (fclose(to) != 0) fail(path);
 }
 
-/* The type of a message or record in hex, or -- for one that neither direction has. */
+/* The type of a message or record in hex, or -- for one that no direction has. */
 static void type_of(const char *hex, size_t at, char *type) {
-    static const char known[] = "03 08 09 13 24 25 26 29 2B 2C 37 38 39 3A 47";
+    static const char known[] = "03 08 09 13 24 25 26 29 2B 2C 37 38 39 3A 47 B8";
     memcpy(type, "--", 3);
     if (strlen(hex) < at + 2) return;
     memcpy(type, hex + at, 2);
@@ -146,7 +146,7 @@ static void kind_of(char **word, const char *answer, char *kind, size_t room) {
     sscanf(answer, "%d %d", &refusal, &appended);
     if (reading || strcmp(word[0], "write") == 0) {
         type_of(word[2], reading ? 8 : 0, type);
-        snprintf(kind, room, "%s %s %s %d", word[0], strlen(word[1]) == 1 && word[1][0] < '2' ? word[1] : "-", type, refusal);
+        snprintf(kind, room, "%s %s %s %d", word[0], strlen(word[1]) == 1 && word[1][0] < '3' ? word[1] : "-", type, refusal);
     } else {
         snprintf(kind, room, "%.20s %d %d", word[0], refusal, strcmp(word[0], "append") == 0 ? appended : 0);
     }
@@ -225,12 +225,23 @@ static size_t below(size_t end) {
     return (size_t)((mixed ^ mixed >> 31) % end);
 }
 
-/* One change of the input: bytes set, added to, left out, put in, or taken from another seed. */
+/* A message is read, or a record written, as of the other market's member: the directions of members are 0 and 2. A New Order's record may become
+ * one of that market, too. */
+static void change_market(void) {
+    enum { DIRECTION_AT = 1, RECORD_AT = 5 };
+    unsigned call = input[0] % CALLS;
+    if ((call != READ && call != WRITE) || input_len <= DIRECTION_AT) return;
+    input[DIRECTION_AT] ^= BOE_FROM_MEMBER ^ BOE_FROM_OPTIONS_MEMBER;
+    if (call == READ || input_len <= RECORD_AT || below(2) == 0) return;
+    if (input[RECORD_AT] == BOE_NEW_ORDER || input[RECORD_AT] == BOE_OPTIONS_NEW_ORDER) input[RECORD_AT] ^= BOE_NEW_ORDER ^ BOE_OPTIONS_NEW_ORDER;
+}
+
+/* One change of the input: bytes set, added to, left out, put in, taken from another seed, or the market. */
 static void change(void) {
     static const uint8_t ends[] = {0x00, 0x01, 0x20, 0x41, 0x7F, 0x80, 0xBA, 0xFF};
     size_t at = below(input_len), n = 1 + below(8), from, other = below(inputs);
     if (n > input_len - at) n = input_len - at;
-    switch (below(6)) {
+    switch (below(7)) {
     case 0: input[at] = (uint8_t)below(256); break;
     case 1: input[at] = ends[below(sizeof ends)]; break;
     case 2: input[at] = (uint8_t)(input[at] + 1 - 2 * (int)below(2)); break;
@@ -252,6 +263,7 @@ static void change(void) {
         memcpy(input + at, held[other] + from, n);
         if (at + n > input_len) input_len = at + n;
         break;
+    case 6: change_market(); break;
     }
 }
 

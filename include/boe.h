@@ -70,7 +70,7 @@ enum boe_refusal {
  * second is S or B and no MassCancelID. A field that is selected is there, blank or not. After it comes 23: for a MassCancelInst whose third
  * character is L and whose first is not F; and for Symbol and MatchingUnit both selected, and a MatchingUnit other than 0.
  *
- * Of a message, 5 is for a unit other than 0 from the member; for a unit outside 1 to 32 in an acknowledgment or execution; and for a unit or a
+ * Of a message, 5 is for a unit other than 0 from a member; for a unit outside 1 to 32 in an acknowledgment or execution; and for a unit or a
  * number other than 0 in a rejection or a session message. */
 #define BOE_NUMBER(refusal) ((uint32_t)(refusal) & 0xFF)
 #define BOE_PLACE(refusal) ((uint32_t)(refusal) >> 8)
@@ -166,13 +166,13 @@ struct boe_record {
 #define BOE_RECORD_UNIT_AT 1
 #define BOE_RECORD_NUMBER_AT 2
 
-/* A record of an order message, the first BOE_ORDER_RECORD_LEN bytes of its buffer. Order messages are those with bitfields: New Order, Cancel
- * Order, Modify Order, Purge Orders, Order Acknowledgment, Order Execution, and the three rejections, Order Rejected, Cancel Rejected and User
- * Modify Rejected. Prices are signed and in ten-thousandths.
+/* A record of an order message, the first BOE_ORDER_RECORD_LEN bytes of its buffer. Order messages are those with bitfields: New Order of either
+ * market, Cancel Order, Modify Order, Purge Orders, Order Acknowledgment, Order Execution, and the three rejections, Order Rejected, Cancel Rejected
+ * and User Modify Rejected. Prices are signed and in ten-thousandths.
  *
  *   place  bytes
- *       0      1   type
- *       1      1   unit: 0 from the member and in a rejection, else 1 to 32
+ *       0      1   type: the message's, but 0xB8 for an options New Order
+ *       1      1   unit: 0 from a member and in a rejection, else 1 to 32
  *       2      4   number: 0 in a rejection
  *       6     90   the fixed part as on the wire, from byte 10 of the message up to its count byte; of Purge Orders also what stands between
  *                  the bitfields and the optional fields, RiskGroupIDCnt and the RiskGroupIDs; zero after it
@@ -230,20 +230,27 @@ struct boe_record {
 #define BOE_BITFIELDS_GROUP_COUNT_LEN 1
 #define BOE_BITFIELDS_GROUP_BITFIELDS_AT 5
 
-/* The directions. */
+/* The directions: from a member of an equities market, from the venue, and from a member of an options market. A member's messages are read and
+ * written alike in both markets, but for New Order: the type 0x38 is the equities New Order in direction 0 and the options New Order in
+ * direction 2, and each has its own bits and fields. The venue's messages are the same in both markets.
+ *
+ * The record of an options New Order has the type 0xB8, though its message has 0x38 on the wire. So a record tells its own dictionary: the same
+ * bits and places mean other fields in the other market, and no record is taken for one of it. A record of type 0xB8 is 4 in every direction but 2,
+ * one of type 0x38 is 4 in every direction but 0, and a message of type 0xB8 is 4 in every direction. */
 #define BOE_FROM_MEMBER 0
 #define BOE_FROM_VENUE 1
+#define BOE_FROM_OPTIONS_MEMBER 2
 
 /* Reads the first whole message of the bytes into a record: 0, and the record stands in its buffer, in the first 291 bytes for an order
  * message, in the first 439 for a session message; the bytes after these stay. Otherwise the buffer is as it was: 1 to 11 and 23 by the message
- * (4 also for a direction that is neither), and after all of these 13 for a buffer under the 291 or 439 bytes of this message's record. Bytes
- * after the message play no part. */
+ * (4 also for a direction other than these three), and after all of these 13 for a buffer under the 291 or 439 bytes of this message's record.
+ * Bytes after the message play no part. */
 uint32_t boe_read(uint8_t direction, const uint8_t *bytes, size_t len, struct boe_record *record, size_t record_len);
 
 /* Writes the message of a record: 0, and the message stands in the front of the buffer; its length less 2 is in its bytes 2 and 3.
- * Otherwise the buffer is as it was: 13 for an empty record, which has no type; 4 (also for a direction that is neither), however short the
- * record is; 13 for a record under the bytes of its own type, 291 for an order message and 439 for a session message; 5; and then in this
- * order
+ * Otherwise the buffer is as it was: 13 for an empty record, which has no type; 4 (also for a direction other than these three, and for a New
+ * Order of the other market), however short the record is; 13 for a record under the bytes of its own type, 291 for an order message and 439 for a
+ * session message; 5; and then in this order
  *   for an order message 7, 8, 9, 10, the late 9, 23 (these two by selected fields alone), 12;
  *   for Login Request, Login Response and Logout 10, 11 (also for a byte that is not zero after the last group or pair);
  *   for a heartbeat and Replay Complete 12 (a byte of the body that is not zero);
@@ -251,7 +258,8 @@ uint32_t boe_read(uint8_t direction, const uint8_t *bytes, size_t len, struct bo
  * message, play no part. */
 uint32_t boe_write(uint8_t direction, const struct boe_record *record, size_t record_len, uint8_t *out, size_t out_len);
 
-/* New Order (0x38), from the member: place and width in a record; for an optional field also its bitfield byte, counted from 1, and its bit */
+/* New Order (0x38), from a member of an equities market: place and width in a record; for an optional field also its bitfield byte, counted from
+ * 1, and its bit */
 #define BOE_NEW_ORDER 0x38
 #define BOE_NEW_ORDER_CL_ORD_ID_AT 6
 #define BOE_NEW_ORDER_CL_ORD_ID_LEN 20
@@ -340,7 +348,82 @@ uint32_t boe_write(uint8_t direction, const struct boe_record *record, size_t re
 #define BOE_NEW_ORDER_LOCATE_BROKER_BYTE 10
 #define BOE_NEW_ORDER_LOCATE_BROKER_BIT 0x02
 
-/* Cancel Order (0x39), from the member: place and width in a record; for an optional field also its bitfield byte, counted from 1, and its bit */
+/* Options New Order (0xB8 in a record, 0x38 on the wire), from a member of an options market: place and width in a record; for an optional field
+ * also its bitfield byte, counted from 1, and its bit. A MaturityDate that is selected is a calendar day of 1970 to 2099 as YYYYMMDD, else 10; 0 is
+ * no day. StrikePrice is a price. */
+#define BOE_OPTIONS_NEW_ORDER 0xB8
+#define BOE_OPTIONS_NEW_ORDER_CL_ORD_ID_AT 6
+#define BOE_OPTIONS_NEW_ORDER_CL_ORD_ID_LEN 20
+#define BOE_OPTIONS_NEW_ORDER_SIDE_AT 26
+#define BOE_OPTIONS_NEW_ORDER_SIDE_LEN 1
+#define BOE_OPTIONS_NEW_ORDER_ORDER_QTY_AT 27
+#define BOE_OPTIONS_NEW_ORDER_ORDER_QTY_LEN 4
+#define BOE_OPTIONS_NEW_ORDER_CLEARING_FIRM_AT (BOE_RECORD_FIELDS_AT + 0)
+#define BOE_OPTIONS_NEW_ORDER_CLEARING_FIRM_LEN 4
+#define BOE_OPTIONS_NEW_ORDER_CLEARING_FIRM_BYTE 1
+#define BOE_OPTIONS_NEW_ORDER_CLEARING_FIRM_BIT 0x01
+#define BOE_OPTIONS_NEW_ORDER_CLEARING_ACCOUNT_AT (BOE_RECORD_FIELDS_AT + 4)
+#define BOE_OPTIONS_NEW_ORDER_CLEARING_ACCOUNT_LEN 4
+#define BOE_OPTIONS_NEW_ORDER_CLEARING_ACCOUNT_BYTE 1
+#define BOE_OPTIONS_NEW_ORDER_CLEARING_ACCOUNT_BIT 0x02
+#define BOE_OPTIONS_NEW_ORDER_PRICE_AT (BOE_RECORD_FIELDS_AT + 8)
+#define BOE_OPTIONS_NEW_ORDER_PRICE_LEN 8
+#define BOE_OPTIONS_NEW_ORDER_PRICE_BYTE 1
+#define BOE_OPTIONS_NEW_ORDER_PRICE_BIT 0x04
+#define BOE_OPTIONS_NEW_ORDER_EXEC_INST_AT (BOE_RECORD_FIELDS_AT + 16)
+#define BOE_OPTIONS_NEW_ORDER_EXEC_INST_LEN 1
+#define BOE_OPTIONS_NEW_ORDER_EXEC_INST_BYTE 1
+#define BOE_OPTIONS_NEW_ORDER_EXEC_INST_BIT 0x08
+#define BOE_OPTIONS_NEW_ORDER_ORD_TYPE_AT (BOE_RECORD_FIELDS_AT + 17)
+#define BOE_OPTIONS_NEW_ORDER_ORD_TYPE_LEN 1
+#define BOE_OPTIONS_NEW_ORDER_ORD_TYPE_BYTE 1
+#define BOE_OPTIONS_NEW_ORDER_ORD_TYPE_BIT 0x10
+#define BOE_OPTIONS_NEW_ORDER_TIME_IN_FORCE_AT (BOE_RECORD_FIELDS_AT + 18)
+#define BOE_OPTIONS_NEW_ORDER_TIME_IN_FORCE_LEN 1
+#define BOE_OPTIONS_NEW_ORDER_TIME_IN_FORCE_BYTE 1
+#define BOE_OPTIONS_NEW_ORDER_TIME_IN_FORCE_BIT 0x20
+#define BOE_OPTIONS_NEW_ORDER_MIN_QTY_AT (BOE_RECORD_FIELDS_AT + 19)
+#define BOE_OPTIONS_NEW_ORDER_MIN_QTY_LEN 4
+#define BOE_OPTIONS_NEW_ORDER_MIN_QTY_BYTE 1
+#define BOE_OPTIONS_NEW_ORDER_MIN_QTY_BIT 0x40
+#define BOE_OPTIONS_NEW_ORDER_MAX_FLOOR_AT (BOE_RECORD_FIELDS_AT + 23)
+#define BOE_OPTIONS_NEW_ORDER_MAX_FLOOR_LEN 4
+#define BOE_OPTIONS_NEW_ORDER_MAX_FLOOR_BYTE 1
+#define BOE_OPTIONS_NEW_ORDER_MAX_FLOOR_BIT 0x80
+#define BOE_OPTIONS_NEW_ORDER_SYMBOL_AT (BOE_RECORD_FIELDS_AT + 27)
+#define BOE_OPTIONS_NEW_ORDER_SYMBOL_LEN 8
+#define BOE_OPTIONS_NEW_ORDER_SYMBOL_BYTE 2
+#define BOE_OPTIONS_NEW_ORDER_SYMBOL_BIT 0x01
+#define BOE_OPTIONS_NEW_ORDER_CAPACITY_AT (BOE_RECORD_FIELDS_AT + 35)
+#define BOE_OPTIONS_NEW_ORDER_CAPACITY_LEN 1
+#define BOE_OPTIONS_NEW_ORDER_CAPACITY_BYTE 2
+#define BOE_OPTIONS_NEW_ORDER_CAPACITY_BIT 0x40
+#define BOE_OPTIONS_NEW_ORDER_ROUTING_INST_AT (BOE_RECORD_FIELDS_AT + 36)
+#define BOE_OPTIONS_NEW_ORDER_ROUTING_INST_LEN 4
+#define BOE_OPTIONS_NEW_ORDER_ROUTING_INST_BYTE 2
+#define BOE_OPTIONS_NEW_ORDER_ROUTING_INST_BIT 0x80
+#define BOE_OPTIONS_NEW_ORDER_ACCOUNT_AT (BOE_RECORD_FIELDS_AT + 40)
+#define BOE_OPTIONS_NEW_ORDER_ACCOUNT_LEN 16
+#define BOE_OPTIONS_NEW_ORDER_ACCOUNT_BYTE 3
+#define BOE_OPTIONS_NEW_ORDER_ACCOUNT_BIT 0x01
+#define BOE_OPTIONS_NEW_ORDER_MATURITY_DATE_AT (BOE_RECORD_FIELDS_AT + 56)
+#define BOE_OPTIONS_NEW_ORDER_MATURITY_DATE_LEN 4
+#define BOE_OPTIONS_NEW_ORDER_MATURITY_DATE_BYTE 4
+#define BOE_OPTIONS_NEW_ORDER_MATURITY_DATE_BIT 0x01
+#define BOE_OPTIONS_NEW_ORDER_STRIKE_PRICE_AT (BOE_RECORD_FIELDS_AT + 60)
+#define BOE_OPTIONS_NEW_ORDER_STRIKE_PRICE_LEN 8
+#define BOE_OPTIONS_NEW_ORDER_STRIKE_PRICE_BYTE 4
+#define BOE_OPTIONS_NEW_ORDER_STRIKE_PRICE_BIT 0x02
+#define BOE_OPTIONS_NEW_ORDER_PUT_OR_CALL_AT (BOE_RECORD_FIELDS_AT + 68)
+#define BOE_OPTIONS_NEW_ORDER_PUT_OR_CALL_LEN 1
+#define BOE_OPTIONS_NEW_ORDER_PUT_OR_CALL_BYTE 4
+#define BOE_OPTIONS_NEW_ORDER_PUT_OR_CALL_BIT 0x04
+#define BOE_OPTIONS_NEW_ORDER_OPEN_CLOSE_AT (BOE_RECORD_FIELDS_AT + 69)
+#define BOE_OPTIONS_NEW_ORDER_OPEN_CLOSE_LEN 1
+#define BOE_OPTIONS_NEW_ORDER_OPEN_CLOSE_BYTE 4
+#define BOE_OPTIONS_NEW_ORDER_OPEN_CLOSE_BIT 0x10
+
+/* Cancel Order (0x39), from a member: place and width in a record; for an optional field also its bitfield byte, counted from 1, and its bit */
 #define BOE_CANCEL_ORDER 0x39
 #define BOE_CANCEL_ORDER_ORIG_CL_ORD_ID_AT 6
 #define BOE_CANCEL_ORDER_ORIG_CL_ORD_ID_LEN 20
@@ -349,7 +432,7 @@ uint32_t boe_write(uint8_t direction, const struct boe_record *record, size_t re
 #define BOE_CANCEL_ORDER_CLEARING_FIRM_BYTE 1
 #define BOE_CANCEL_ORDER_CLEARING_FIRM_BIT 0x01
 
-/* Modify Order (0x3A), from the member: place and width in a record; for an optional field also its bitfield byte, counted from 1, and its bit */
+/* Modify Order (0x3A), from a member: place and width in a record; for an optional field also its bitfield byte, counted from 1, and its bit */
 #define BOE_MODIFY_ORDER 0x3A
 #define BOE_MODIFY_ORDER_CL_ORD_ID_AT 6
 #define BOE_MODIFY_ORDER_CL_ORD_ID_LEN 20
@@ -396,7 +479,7 @@ uint32_t boe_write(uint8_t direction, const struct boe_record *record, size_t re
 #define BOE_MODIFY_ORDER_LOCATE_BROKER_BYTE 2
 #define BOE_MODIFY_ORDER_LOCATE_BROKER_BIT 0x80
 
-/* Purge Orders (0x47), from the member: place and width in a record; for an optional field also its bitfield byte, counted from 1, and its bit. In
+/* Purge Orders (0x47), from a member: place and width in a record; for an optional field also its bitfield byte, counted from 1, and its bit. In
  * the message RiskGroupIDCnt, at most 10, and as many RiskGroupIDs of any value stand between the bitfields and the optional fields. The record has
  * them in its fixed part, behind the reserved byte that the message has before its count byte: ten places, zero after the last id. */
 #define BOE_PURGE_ORDERS 0x47
@@ -777,7 +860,7 @@ uint32_t boe_write(uint8_t direction, const struct boe_record *record, size_t re
 #define BOE_MODIFY_REJECTION_TEXT_AT 35
 #define BOE_MODIFY_REJECTION_TEXT_LEN 60
 
-/* Login Request (0x37), from the member: place and width in a record. The groups stand one after the other. */
+/* Login Request (0x37), from a member: place and width in a record. The groups stand one after the other. */
 #define BOE_LOGIN_REQUEST 0x37
 #define BOE_LOGIN_REQUEST_SESSION_SUB_ID_AT 6
 #define BOE_LOGIN_REQUEST_SESSION_SUB_ID_LEN 4
@@ -816,7 +899,7 @@ uint32_t boe_write(uint8_t direction, const struct boe_record *record, size_t re
 #define BOE_LOGOUT_NUMBER_OF_UNITS_LEN 1
 #define BOE_LOGOUT_PAIRS_AT 72
 
-/* The messages that are their header alone: Client Heartbeat from the member, Server Heartbeat and Replay Complete from the venue */
+/* The messages that are their header alone: Client Heartbeat from a member, Server Heartbeat and Replay Complete from the venue */
 #define BOE_CLIENT_HEARTBEAT 0x03
 #define BOE_SERVER_HEARTBEAT 0x09
 #define BOE_REPLAY_COMPLETE 0x13
