@@ -6,3 +6,4 @@ pub mod FixedLaws
 pub mod SelectionLaws
 pub mod KeptLaws
 pub mod RiskGroupLaws
+pub mod OtherTypeLaws
