@@ -1,15 +1,16 @@
-/* Counts the instructions of a call of the proved reader, writer and restart, and of the plain C ones, on messages and on books.
+/* Counts the instructions of a call of the proved reader, writer, restart and append, and of the plain C ones, on messages and on books.
  *
  * usage: bench [bits | times | KIBIBYTES]
  *
  * It prints lines of WORKLOAD CALL SIDE COUNT. Before it counts it compares both sides on each message, on the three rejections and on five more
- * orders, on each with a byte changed or with bytes cut off, and on a small book in the same way; it says what differs and ends with status 1.
+ * orders, on each with a byte changed or with bytes cut off, on a small book in the same way, and on messages that are appended; it says what
+ * differs and ends with status 1.
  * With `bits` it counts messages with more and more of their listed bits, in lines of MESSAGE BITS CALL SIDE COUNT. With `times` it counts
  * nothing and takes the calls' times (times.h). With a size it counts nothing: it makes a book of that size, restarts it once by each side, for a
  * counter outside, and prints its bytes and messages alone. */
+#include "appends.h"
 #include "baseline.h"
 #include "bits.h"
-#include "books.h"
 #include "compare.h"
 #include "count.h"
 #include "times.h"
@@ -25,7 +26,7 @@ static void tell(const char *name, const char *call_and_side, uint64_t number) {
 
 static void count_call(const struct workload *w, const char *call_and_side, counted *function, const struct arguments *arguments) {
     uint32_t refusal;
-    uint64_t instructions = count(function, arguments, &refusal);
+    uint64_t instructions = count(function, &(const union words){.five = *arguments}, 5, &refusal);
     if (refusal != 0)
         differ(w, "a counted call is refused");
     tell(w->name, call_and_side, instructions);
@@ -53,12 +54,31 @@ static void count_bits(const struct bits *of) {
 
 static uint64_t count_restart(counted *restart, size_t len) {
     static uint8_t state[STATE];
-    const struct arguments arguments = {DATE, book, len, state, STATE};
+    const union words arguments = {.five = {DATE, book, len, state, STATE}};
     uint32_t refusal;
-    uint64_t instructions = count(restart, &arguments, &refusal);
+    uint64_t instructions = count(restart, &arguments, 5, &refusal);
     if (refusal != 0)
         books_differ("a counted call is refused");
     return instructions;
+}
+
+/* The side whose append is counted, and its instructions so far. */
+static counted *append_side;
+static uint64_t append_sum;
+
+static uint32_t counted_append(const uint8_t *bytes, size_t len, uint8_t *buffer, size_t buffer_len, uint8_t *state, size_t state_len) {
+    const union words arguments = {.six = {bytes, len, buffer, buffer_len, state, state_len}};
+    uint32_t refusal;
+    append_sum += count(append_side, &arguments, 6, &refusal);
+    return refusal;
+}
+
+/* The instructions of appending the book's messages, all together. */
+static uint64_t count_append(counted *append, size_t len) {
+    append_side = append;
+    append_sum = 0;
+    append_book(counted_append, len);
+    return append_sum;
 }
 
 static struct books tell_size(const char *name, size_t kibibytes) {
@@ -73,6 +93,8 @@ static void count_book(const char *name, size_t kibibytes) {
     ask_book("the sides differ on a counted book", DATE, b.length, STATE);
     tell(name, " restart proved ", count_restart((counted *)boe_restart, b.length));
     tell(name, " restart baseline ", count_restart((counted *)base_restart, b.length));
+    tell(name, " append proved ", count_append((counted *)boe_book_append, b.length));
+    tell(name, " append baseline ", count_append((counted *)base_append, b.length));
 }
 
 /* ---- the runs */
@@ -85,6 +107,7 @@ static void count_all(void) {
     }
     compare_ids();
     compare_books();
+    compare_appends();
     count_traps();
     for (size_t i = 0; i < WORKLOADS; i++)
         count_message(&workloads[i]);

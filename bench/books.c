@@ -8,7 +8,7 @@
 
 uint8_t book[BOE_BOOK_MOST_BYTES];
 
-static void put_number(uint8_t *at, uint32_t number) {
+void put_number(uint8_t *at, uint32_t number) {
     for (size_t i = 0; i < 4; i++)
         at[i] = (uint8_t)(number >> 8 * i);
 }
@@ -68,7 +68,7 @@ struct books make_book(size_t most, size_t mark_every) {
 }
 
 void books_differ(const char *what) {
-    say(2, "bench: restart: ");
+    say(2, "bench: books: ");
     say(2, what);
     say(2, "\n");
     end(1);

@@ -13,6 +13,9 @@ struct books {
     uint32_t numbers[33];
 };
 
+/* Stores a number's four bytes, the lowest first. */
+void put_number(uint8_t *at, uint32_t number);
+
 /* The two messages of which books are made; make_workloads comes before it. */
 void make_items(void);
 

@@ -42,7 +42,7 @@ compile() { # NAME FLAG..
 }
 compile baseline -O3
 compile memory -O2 -ffreestanding -fno-builtin
-for part in bench bits books compare count messages times; do compile "$part" -O2 -ffreestanding; done
+for part in appends bench bits books compare count messages times; do compile "$part" -O2 -ffreestanding; done
 "$tools/ld.lld" -static -o "$made/bench" "${objects[@]}" target/staticlib/libgateway.a || fail "the bench does not link"
 
 # ---- the long books: too long for the bench's own counter, and counted by valgrind, where it is there

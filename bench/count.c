@@ -44,7 +44,7 @@ uint64_t nanoseconds(void) {
 }
 
 /* Makes a call with the trap flag set. `nothing` is a call that returns at once. */
-uint32_t stepped(counted *function, const struct arguments *arguments);
+uint32_t stepped(counted *function, const union words *arguments);
 counted nothing;
 void back_from_signal(void);
 
@@ -71,6 +71,7 @@ __asm__(".text\n"
         "    mov 16(%rbx), %rdx\n"
         "    mov 24(%rbx), %rcx\n"
         "    mov 32(%rbx), %r8\n"
+        "    mov 40(%rbx), %r9\n"
         "    call *%rax\n"
         "    pushfq\n"
         "    andq $~0x100, (%rsp)\n"
@@ -98,19 +99,19 @@ void count_traps(void) {
     }
 }
 
-static uint64_t steps_of(counted *function, const struct arguments *arguments, uint32_t *refusal) {
+static uint64_t steps_of(counted *function, const union words *arguments, uint32_t *refusal) {
     steps = 0;
     *refusal = stepped(function, arguments);
     return steps;
 }
 
-uint64_t count(counted *function, const struct arguments *arguments, uint32_t *refusal) {
+uint64_t count(counted *function, const union words *arguments, size_t how_many, uint32_t *refusal) {
     uint32_t none;
-    uint64_t least = steps_of(nothing, arguments, &none);
+    uint64_t least = steps_of(nothing, arguments, &none); /* six arguments, the call and the return, and the flag's own */
     uint64_t all = steps_of(function, arguments, refusal);
-    if (least < 7 || all <= least) {
+    if (least < 8 || all <= least) {
         say(2, "bench: the trap flag counts nothing here\n");
         end(1);
     }
-    return all - least + 7;
+    return all - least + how_many + 2;
 }

@@ -5,15 +5,32 @@
 #include <stddef.h>
 #include <stdint.h>
 
-/* Any of the counted calls: five arguments. */
+/* Any of the counted calls. */
 typedef void counted(void);
 
+/* Of reading, writing and restart. */
 struct arguments {
     uint64_t first; /* the direction, or the date */
     const uint8_t *from;
     uint64_t from_len;
     uint8_t *to;
     uint64_t to_len;
+};
+
+/* Of appending. */
+struct appending {
+    const uint8_t *bytes;
+    uint64_t len;
+    uint8_t *buffer;
+    uint64_t buffer_len;
+    uint8_t *state;
+    uint64_t state_len;
+};
+
+/* Those of a counted call, as many as six, each a word of the processor's. */
+union words {
+    struct arguments five;
+    struct appending six;
 };
 
 void end(int status);
@@ -26,7 +43,7 @@ uint64_t nanoseconds(void);
 /* To be called once, before anything is counted. */
 void count_traps(void);
 
-/* The instructions of a call: its five arguments, the call itself and all to the return. */
-uint64_t count(counted *function, const struct arguments *arguments, uint32_t *refusal);
+/* The instructions of a call: its arguments, five or six, the call itself and all to the return. */
+uint64_t count(counted *function, const union words *arguments, size_t how_many, uint32_t *refusal);
 
 #endif

@@ -1,8 +1,8 @@
 /* The sides of all calls take turns in rounds, and the least time of each over all rounds is its time. */
 #include "times.h"
 
+#include "appends.h"
 #include "baseline.h"
-#include "books.h"
 #include "compare.h"
 #include "count.h"
 
@@ -37,36 +37,38 @@ static void add_message_rows(struct row *at, struct workload *w) {
                          {TIMED(boe_write), TIMED(base_write)}, {0}};
 }
 
-/* A book that has its first mark alone, and the one that is made of its messages by appending. */
-static uint8_t unmarked[BOOK], appended[BOOK];
+/* A book that has its first mark alone. */
+static uint8_t unmarked[BOOK];
 
-/* Opens a book for the date and appends to it each message of an unmarked one. */
-static uint32_t append_all(uint64_t date, const uint8_t *bytes, uint64_t len, uint8_t *to, uint64_t to_len) {
-    struct boe_state *state = (struct boe_state *)to;
-    uint32_t refusals = boe_book_open((uint32_t)date, appended, BOOK, state, to_len);
-    for (size_t at = BOE_MARK_BYTES, total; at < len; at += total) {
-        total = 2u + bytes[at + 2] + 256u * bytes[at + 3];
-        refusals |= boe_book_append(bytes + at, total, appended, BOOK, state, to_len);
-    }
-    return refusals;
+/* Each side's appending of the messages of such a book. */
+static uint32_t proved_all(uint64_t date, const uint8_t *bytes, uint64_t len, uint8_t *to, uint64_t to_len) {
+    (void)date;
+    return append_all(APPENDS(boe_book_append), bytes, len, to, to_len);
+}
+
+static uint32_t base_all(uint64_t date, const uint8_t *bytes, uint64_t len, uint8_t *to, uint64_t to_len) {
+    (void)date;
+    return append_all(base_append, bytes, len, to, to_len);
 }
 
 /* A row of the book that stands in `book`, with the state of its restart as the answer; its bytes are read at `from`. */
-static struct row book_row(const char *call, timed *proved, const struct books *b, const uint8_t *from, uint8_t *answer) {
+static struct row book_row(const char *call, timed *proved, timed *baseline, const struct books *b, const uint8_t *from, uint8_t *answer) {
     static uint8_t to[STATE];
     ask_book("the sides differ on a timed book", DATE, b->length, STATE);
     if (base_restart(DATE, book, b->length, answer, STATE) != 0)
         books_differ("a timed book is refused");
-    return (struct row){"h", call, {DATE, from, b->length, to, STATE}, 1, b->messages, answer, {proved, TIMED(base_restart)}, {0}};
+    return (struct row){"h", call, {DATE, from, b->length, to, STATE}, 1, b->messages, answer, {proved, baseline}, {0}};
 }
 
 static void add_book_rows(struct row *at) {
     static uint8_t states[2][STATE];
     struct books b = make_book(BOOK, BOOK); /* fewer messages than bytes: no second mark */
     memcpy(unmarked, book, b.length);
-    at[1] = book_row(" append", append_all, &b, unmarked, states[1]);
+    append_book(APPENDS(boe_book_append), b.length);
+    append_book(base_append, b.length);
+    at[1] = book_row(" append", proved_all, base_all, &b, unmarked, states[1]);
     b = make_book(BOOK, MARK_EVERY);
-    at[0] = book_row(" restart", TIMED(boe_restart), &b, book, states[0]);
+    at[0] = book_row(" restart", TIMED(boe_restart), TIMED(base_restart), &b, book, states[0]);
 }
 
 /* ---- the rounds */
@@ -114,8 +116,6 @@ void time_all(void) {
     add_book_rows(&rows[2 * WORKLOADS]);
     for (size_t i = 0; i < ROUNDS * ROWS; i++)
         time_row(&rows[i % ROWS]);
-    if (memcmp(appended, unmarked, rows[ROWS - 1].arguments.from_len) != 0)
-        books_differ("the appended book is not the one that its messages are of");
     for (size_t i = 0; i < ROWS; i++)
         tell_row(&rows[i]);
 }

@@ -5,6 +5,8 @@
  * usage: gateway DATE BOOKFILE [LOGIN] < LINE    DATE as YYYYMMDD; LINE is what the venue sends on one line, from the Login Response on;
  *                                                LOGIN, a new file, gets the bytes of the login, which a gateway sends on that line
  *        gateway --messages DATE BOOKFILE        writes the book's messages to standard output, in order and without the marks
+ *        gateway --last DATE BOOKFILE            writes a line for each unit that has a message in the book: the last one's type, unit and number,
+ *                                                where in the book it starts, and its bytes
  *        gateway --help
  *
  * Standard output is the desk: it gets a line for each message of the book, first those of earlier starts, and each new one when the file
@@ -141,10 +143,15 @@ static size_t next_message(size_t *at) {
     return 0;
 }
 
-/* Hands the messages from a place on to the desk: a line each with type, unit and number. They are in the book, and the file is flushed. */
+/* Prints type, unit and number of the message at a place of the book. */
+static void print_message(size_t at) { printf("%02X %u %lu", book[at + 4], book[at + 5], (unsigned long)number_at(book + at + 6)); }
+
+/* Hands the messages from a place on to the desk: a line each. They are in the book, and the file is flushed. */
 static void hand_on(size_t at) {
-    for (size_t length; (length = next_message(&at)) != 0; at += length)
-        printf("%02X %u %lu\n", book[at + 4], book[at + 5], (unsigned long)number_at(book + at + 6));
+    for (size_t length; (length = next_message(&at)) != 0; at += length) {
+        print_message(at);
+        printf("\n");
+    }
     if (fflush(stdout) != 0) fail("standard output");
 }
 
@@ -158,6 +165,19 @@ static void settle(void) {
 static void write_messages(void) {
     size_t at = 0;
     for (size_t length; (length = next_message(&at)) != 0; at += length) fwrite(book + at, 1, length, stdout);
+}
+
+/* Tells where each unit stopped: a line for its last message. 26 is a unit that has none; no other refusal comes of a state and its own book. */
+static unsigned write_last(void) {
+    for (uint8_t unit = 1; unit <= BOE_UNITS; unit++) {
+        unsigned refusal = boe_last_refusal(unit, book, sizeof book, &state, sizeof state);
+        if (refusal == BOE_NONE) continue;
+        if (refusal) return refusal;
+        size_t at = boe_last_at(unit, book, sizeof book, &state, sizeof state);
+        print_message(at);
+        printf(" at %zu %zu\n", at, boe_last_length(unit, book, sizeof book, &state, sizeof state));
+    }
+    return 0;
 }
 
 /* ---- the start */
@@ -365,11 +385,13 @@ static int run(uint32_t date, const char *path, const char *login) {
 
 int main(int argc, char **argv) {
     static const char usage[] = "usage: gateway DATE BOOKFILE [LOGIN] < LINE    DATE as YYYYMMDD, LOGIN a new file\n"
-                                "       gateway --messages DATE BOOKFILE\n";
+                                "       gateway --messages DATE BOOKFILE\n"
+                                "       gateway --last DATE BOOKFILE\n";
     keep_standard_streams();
-    bool help = argc == 2 && strcmp(argv[1], "--help") == 0, messages = argc == 4 && strcmp(argv[1], "--messages") == 0;
-    char **words = argv + 1 + messages;
-    int count = argc - 1 - messages, status = 0;
+    bool help = argc == 2 && strcmp(argv[1], "--help") == 0, last = argc == 4 && strcmp(argv[1], "--last") == 0;
+    bool asks = last || (argc == 4 && strcmp(argv[1], "--messages") == 0);
+    char **words = argv + 1 + asks;
+    int count = argc - 1 - asks, status = 0;
     if (help) {
         printf("%s", usage);
     } else if (count < 2 || count > 3 || !usable(words, count)) {
@@ -379,10 +401,11 @@ int main(int argc, char **argv) {
         /* what is no day is told before there is a file: a restart on no bytes is 19, or 22 */
         uint32_t date = (uint32_t)strtoul(words[0], NULL, 10);
         status = (int)BOE_NUMBER(boe_restart(date, book, 0, &state, sizeof state));
-        if (status == BOE_NO_FIRST_MARK && messages) {
+        if (status == BOE_NO_FIRST_MARK && asks) {
             open_file(words[1], false);
             status = (int)BOE_NUMBER(boe_restart(date, book, load(), &state, sizeof state));
-            if (status == 0) write_messages();
+            if (status == 0 && last) status = (int)write_last();
+            else if (status == 0) write_messages();
         } else if (status == BOE_NO_FIRST_MARK) {
             status = run(date, words[1], words[2]);
         }

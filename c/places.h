@@ -6,7 +6,7 @@
 
 #include <stdio.h>
 
-/* The name of a refusal, without its BOE_. */
+/* The name of a refusal, without its BOE_; 24 and 25 have none, and no call answers them. */
 const char *refusal_name(uint32_t refusal);
 
 /* Prints number and name of a refusal, and where it has a place the place and what is there: the end, the count of bitfields, a bitfield by its

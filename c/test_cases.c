@@ -282,7 +282,6 @@ struct optional {
 #define OPTIONAL(message, name) OPTIONAL_DAY(message, name, 0)
 #define OPTIONAL_DAY(message, name, day) \
     {BOE_##message##_##name##_AT, BOE_##message##_##name##_LEN, BOE_##message##_##name##_BYTE, BOE_##message##_##name##_BIT, day}
-#define COUNT_OF(array) (sizeof array / sizeof *array)
 
 /* The record of an example without its fields, and with so many bitfields. */
 static struct boe_record without_fields(uint8_t direction, const uint8_t *message, size_t len, uint8_t bitfields) {
@@ -294,11 +293,6 @@ static struct boe_record without_fields(uint8_t direction, const uint8_t *messag
 }
 
 static uint8_t *bitfield_of(struct boe_record *record, const struct optional *f) { return record->bytes + BOE_RECORD_BITFIELDS_AT + f->byte - 1; }
-
-/* A number's bytes, the lowest first. */
-static void put(uint8_t *at, unsigned len, uint64_t value) {
-    for (unsigned i = 0; i < len; i++, value >>= 8) at[i] = (uint8_t)value;
-}
 
 /* Gives the field that stands so many places after the first its value: its letter in each byte, or its day. */
 static void fill_field(const struct optional *f, size_t which, uint8_t *at) {
@@ -1082,8 +1076,6 @@ static void header_alone(uint8_t direction, const uint8_t *message) {
     check(boe_read(direction, bytes, sizeof bytes, &record, sizeof record) == BOE_BAD_UNIT, "5 comes before 6");
 }
 
-static int same_bytes(const uint8_t *a, const uint8_t *b, size_t n) { return memcmp(a, b, n) == 0; }
-
 /* The day book: the first acknowledgment taken, marks, restart, and each refusal's place and that it changes nothing. */
 static void books(void) {
     enum { DATE = 20250819, ROOM = 16 + sizeof acknowledgment + 16 };
@@ -1100,6 +1092,7 @@ static void books(void) {
     check(all_are(buffer, 4, 0) && number_at(buffer + 4) == DATE && all_are(buffer + 8, 8, 0), "its first mark");
     check(all_are(buffer + 16, sizeof buffer - 16, 0x5A), "and no byte more");
     check(all_are(state + BOE_STATE_TABLE_AT, BOE_TABLE_BYTES, 0) && number_at(state + BOE_STATE_DATE_AT) == DATE, "its table and date");
+    check(all_are(state + BOE_STATE_PLACES_AT, BOE_TABLE_BYTES, 0), "and no place");
     check(number_at(state + BOE_STATE_LENGTH_AT) == 16 && all_are(state + BOE_STATE_LAST_MARK_AT, 8, 0), "its length, mark and messages");
     check(all_are(state + BOE_STATE_BYTES, 4, 0x5A), "bytes past the state stay");
 
@@ -1465,7 +1458,8 @@ static void most(void) {
     check(boe_frame_length(out, sizeof out) == BOE_MESSAGE_MOST_BYTES, "the longest message");
     out[2]++;
     check(boe_frame_refusal(out, sizeof out) == BOE_BAD_LENGTH, "one byte longer");
-    check(BOE_TABLE_BYTES == 4 * BOE_UNITS && BOE_REFUSALS == BOE_CONFLICT, "units and refusals");
+    check(BOE_TABLE_BYTES == 4 * BOE_UNITS && BOE_REFUSALS == BOE_NONE, "units and refusals");
+    check(BOE_STATE_PLACES_AT == BOE_STATE_MESSAGES_AT + 4 && BOE_STATE_PLACES_AT + BOE_TABLE_BYTES == BOE_STATE_BYTES, "a state ends with its places");
     check(BOE_RECORD_FIXED_AT + BOE_RECORD_FIXED_LEN == BOE_RECORD_COUNT_AT && BOE_RECORD_COUNT_AT + 1 == BOE_RECORD_BITFIELDS_AT, "a record's fixed part");
     check(BOE_RECORD_BITFIELDS_AT + BOE_RECORD_BITFIELDS_LEN == BOE_RECORD_FIELDS_AT, "and its bitfields");
 

@@ -1,4 +1,5 @@
-/* Checks the C entry points: hand-made cases, and every stored question on framing, table steps, reading, writing and the day book.
+/* Checks the C entry points: hand-made cases, and every stored question on framing, table steps, reading, writing, the day book and the last message
+ * of a unit in it.
  * usage: test_gateway QUESTIONS ANSWERS */
 #include "test_gateway.h"
 
@@ -24,6 +25,10 @@ void check_answer(unsigned long line, const char *expected, const char *got) {
 
 uint32_t number_at(const uint8_t *p) {
     return p[0] | (uint32_t)p[1] << 8 | (uint32_t)p[2] << 16 | (uint32_t)p[3] << 24;
+}
+
+void put(uint8_t *at, unsigned len, uint64_t value) {
+    for (unsigned i = 0; i < len; i++, value >>= 8) at[i] = (uint8_t)value;
 }
 
 uint32_t entry(const uint8_t *table, unsigned unit) {
@@ -54,6 +59,8 @@ int all_are(const uint8_t *bytes, size_t len, uint8_t byte) {
     return 1;
 }
 
+int same_bytes(const uint8_t *a, const uint8_t *b, size_t n) { return memcmp(a, b, n) == 0; }
+
 uint32_t refused_at(enum boe_refusal number, unsigned place) { return number + 256u * place; }
 
 int main(int argc, char **argv) {
@@ -67,6 +74,7 @@ int main(int argc, char **argv) {
         return 2;
     }
     hand_made_cases();
+    last_messages();
     stored_questions(questions, answers);
     printf("test_gateway: %lu checks, %lu failed\n", checks, failures);
     return failures == 0 ? 0 : 1;

@@ -11,16 +11,25 @@ void check(int ok, const char *what);
 /* The same of the answer to the question of a line. */
 void check_answer(unsigned long line, const char *expected, const char *got);
 
+#define COUNT_OF(array) (sizeof array / sizeof *array)
+
 uint32_t number_at(const uint8_t *p);
+/* Stores a number's bytes, the lowest first. */
+void put(uint8_t *at, unsigned len, uint64_t value);
+/* A unit's number in a table, or its place in the places of a state. */
 uint32_t entry(const uint8_t *table, unsigned unit);
 /* The bytes of the record of a type. */
 size_t record_len(uint8_t type);
 int all_are(const uint8_t *bytes, size_t len, uint8_t byte);
+int same_bytes(const uint8_t *a, const uint8_t *b, size_t n);
 /* What a call answers that refuses with a number and a place. */
 uint32_t refused_at(enum boe_refusal number, unsigned place);
 
 /* test_cases.c */
 void hand_made_cases(void);
+
+/* test_last.c */
+void last_messages(void);
 
 /* test_questions.c */
 void stored_questions(FILE *questions, FILE *answers);

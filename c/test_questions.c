@@ -50,10 +50,41 @@ static uint32_t restarted(const char *date, const uint8_t *book, size_t n, struc
     return boe_restart((uint32_t)strtoul(date, NULL, 10), buffer, n, state, sizeof *state);
 }
 
+/* How many questions asked for the last message of a unit and were answered one. */
+static unsigned long lasts;
+
+/* The last message of a unit as an answer has it: the refusal, its place and its bytes. */
+static int told_last(const char *unit, const uint8_t *book, size_t n, const struct boe_state *state, size_t state_len, char *out) {
+    static char hex[2 * MOST_BYTES + 2];
+    uint8_t of = (uint8_t)atoi(unit);
+    uint32_t refusal = boe_last_refusal(of, book, n, state, state_len);
+    size_t at = boe_last_at(of, book, n, state, state_len), length = boe_last_length(of, book, n, state, state_len);
+    lasts += refusal == 0;
+    if (at > n || length > n - at) return sprintf(out, "a message past the book");
+    tohex(book + at, (long)length, hex);
+    return sprintf(out, "%s %zu %s", told(refusal), at, hex);
+}
+
+/* What the C entry points answer to a question for the last message of a unit, or 0 where it is none. */
+static int last_answer(const char *call, const char *first, const char *unit, const char *book, char *out) {
+    static uint8_t bytes[MOST_BYTES], given[MOST_BYTES], buffer[MOST_BYTES];
+    struct boe_state state;
+    int of_state = strcmp(call, "last-state") == 0;
+    if (!of_state && strcmp(call, "last") != 0) return 0;
+    long n = book ? unhex(book, bytes) : -1, k = of_state ? unhex(first, given) : 0;
+    if (n < 0 || k < 0) return 0;
+    if (of_state) return told_last(unit, bytes, (size_t)n, (struct boe_state *)given, (size_t)k, out);
+    uint32_t refusal = restarted(first, bytes, (size_t)n, &state, buffer, 0);
+    int told_first = sprintf(out, "%s", told(refusal));
+    if (refusal) return told_first;
+    out[told_first] = ' ';
+    return told_last(unit, buffer, (size_t)n, &state, sizeof state, out + told_first + 1);
+}
+
 /* What the C entry points answer to a question on the day book, or 0 where it is none. */
 static int book_answer(const char *call, const char *date, const char *book, const char *third, const char *fourth, char *out) {
     static uint8_t bytes[MOST_BYTES], given[MOST_BYTES], buffer[2 * MOST_BYTES];
-    static char hex[2 * MOST_BYTES + 2];
+    static char hex[2 * MOST_BYTES + 2], places[2 * BOE_TABLE_BYTES + 1];
     struct boe_state state;
     long n = book ? unhex(book, bytes) : -1;
     size_t room = third ? strtoul(third, NULL, 10) : 0;
@@ -68,11 +99,12 @@ static int book_answer(const char *call, const char *date, const char *book, con
     if (strcmp(call, "restart") == 0 && !third) {
         uint32_t refusal = restarted(date, bytes, (size_t)n, &state, buffer, 0);
         tohex(state.bytes + BOE_STATE_TABLE_AT, BOE_TABLE_BYTES, hex);
+        tohex(state.bytes + BOE_STATE_PLACES_AT, BOE_TABLE_BYTES, places);
         if (refusal)
             sprintf(out, all_are(state.bytes, sizeof state, 0x5A) ? "%s" : "a refused restart has stored: %s", told(refusal));
         else
-            sprintf(out, "0 %lu %lu %lu %s", (unsigned long)number_at(state.bytes + BOE_STATE_LENGTH_AT), (unsigned long)number_at(state.bytes + BOE_STATE_LAST_MARK_AT),
-                    (unsigned long)number_at(state.bytes + BOE_STATE_MESSAGES_AT), hex);
+            sprintf(out, "0 %lu %lu %lu %s %s", (unsigned long)number_at(state.bytes + BOE_STATE_LENGTH_AT), (unsigned long)number_at(state.bytes + BOE_STATE_LAST_MARK_AT),
+                    (unsigned long)number_at(state.bytes + BOE_STATE_MESSAGES_AT), hex, places);
         return 1;
     }
     if (strcmp(call, "append") == 0 && fourth) {
@@ -106,6 +138,7 @@ static int answer(char *question, char *out) {
     char *call = strtok(question, " "), *first = strtok(NULL, " "), *second = strtok(NULL, " "), *third = strtok(NULL, " ");
     char *fourth = strtok(NULL, " ");
     if (!call || !first || (fourth && strtok(NULL, " "))) return 0;
+    if (second && !fourth && last_answer(call, first, second, third, out)) return 1;
     if (book_answer(call, first, second, third, fourth, out)) return 1;
     if (strcmp(call, "told") == 0 && !second) {
         fates++;
@@ -187,4 +220,5 @@ void stored_questions(FILE *questions, FILE *answers) {
     check(conflicts > 100, "and those whose fields do not go together");
     check(options > 200, "and those on an options order that is read");
     check(fates >= 256, "and those on a type's fate");
+    check(lasts > 150, "and those on the last message of a unit");
 }

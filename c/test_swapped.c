@@ -2,14 +2,15 @@
  * stand in their places. */
 #include "boe.h"
 
-uint32_t call(const uint8_t *bytes, uint8_t *buffer, struct boe_record *record, struct boe_state *state);
+uint32_t call(const uint8_t *bytes, uint8_t *buffer, struct boe_record *record, struct boe_state *state, const struct boe_state *kept);
 
-uint32_t call(const uint8_t *bytes, uint8_t *buffer, struct boe_record *record, struct boe_state *state) {
-    (void)bytes, (void)buffer, (void)record, (void)state;
+uint32_t call(const uint8_t *bytes, uint8_t *buffer, struct boe_record *record, struct boe_state *state, const struct boe_state *kept) {
+    (void)bytes, (void)buffer, (void)record, (void)state, (void)kept;
 #if SWAPPED == 0
     return boe_table_step(1, 1, buffer, 1) || boe_read(0, bytes, 1, record, sizeof *record) || boe_write(0, record, sizeof *record, buffer, 1) ||
            boe_book_open(1, buffer, 1, state, sizeof *state) || boe_book_append(bytes, 1, buffer, 1, state, sizeof *state) ||
-           boe_book_close(buffer, 1, state, sizeof *state) || boe_restart(1, bytes, 1, state, sizeof *state) || boe_told(1);
+           boe_book_close(buffer, 1, state, sizeof *state) || boe_restart(1, bytes, 1, state, sizeof *state) || boe_told(1) ||
+           boe_last_refusal(1, bytes, 1, kept, sizeof *kept) || boe_last_at(1, bytes, 1, kept, sizeof *kept) || boe_last_length(1, bytes, 1, kept, sizeof *kept);
 #elif SWAPPED == 1
     return boe_read(0, record, sizeof *record, bytes, 1);
 #elif SWAPPED == 2
@@ -36,6 +37,16 @@ uint32_t call(const uint8_t *bytes, uint8_t *buffer, struct boe_record *record, 
     return boe_told(bytes);
 #elif SWAPPED == 13
     return boe_told(record);
+#elif SWAPPED == 14
+    return boe_last_refusal(1, kept, sizeof *kept, bytes, 1);
+#elif SWAPPED == 15
+    return boe_last_at(1, kept, sizeof *kept, bytes, 1) != 0;
+#elif SWAPPED == 16
+    return boe_last_length(1, kept, sizeof *kept, bytes, 1) != 0;
+#elif SWAPPED == 17
+    return boe_last_refusal(1, bytes, 1, record, sizeof *record);
+#elif SWAPPED == 18
+    return boe_book_append(bytes, 1, buffer, 1, kept, sizeof *kept);
 #else
 #error "no such number"
 #endif

@@ -313,6 +313,12 @@ static void try_open(uint8_t choice, uint32_t date, const uint8_t *data, size_t 
     ask();
 }
 
+/* The numbers of a state's table, and its places. */
+static void table_words(struct text *text) {
+    hex(text, state.at + BOE_STATE_TABLE_AT, BOE_TABLE_BYTES);
+    hex(text, state.at + BOE_STATE_PLACES_AT, BOE_TABLE_BYTES);
+}
+
 static void try_restart(uint8_t choice, uint32_t date, const uint8_t *data, size_t n) {
     lend(&bytes, data, n);
     lend_filled(&state, FILL, BOE_STATE_BYTES + 1);
@@ -327,7 +333,7 @@ static void try_restart(uint8_t choice, uint32_t date, const uint8_t *data, size
         number(&proved, number_at(state.at + BOE_STATE_LENGTH_AT));
         number(&proved, number_at(state.at + BOE_STATE_LAST_MARK_AT));
         number(&proved, number_at(state.at + BOE_STATE_MESSAGES_AT));
-        hex(&proved, state.at, BOE_TABLE_BYTES);
+        table_words(&proved);
         must(number_at(state.at + BOE_STATE_DATE_AT) == date, "the date of the state");
         must_be_state_of(date, bytes.at, number_at(state.at + BOE_STATE_LENGTH_AT));
     }
@@ -401,7 +407,53 @@ static void try_close(uint32_t date, uint16_t after, const uint8_t *book, size_t
     ask();
 }
 
-/* ---- the day book with any 144 bytes as its state: asked as steps of a script, of a live member whose buffer holds FF; the member's market, 0
+/* ---- the last message of a unit */
+
+/* What a reading from the front finds last of a unit in a book: where the message starts, or the book's length. What framing does not take is a
+ * mark. */
+static size_t found_last(uint8_t unit, const uint8_t *book, size_t length) {
+    size_t last = length, total;
+    for (size_t at = 0; at < length; at += total) {
+        total = boe_frame_length(book + at, length - at);
+        if (total == 0) total = BOE_MARK_BYTES;
+        else if (book[at + 5] == unit) last = at;
+    }
+    return last;
+}
+
+/* The three calls on the book's buffer, which is in `out`, and the state: the refusal, and the answer's words. */
+static uint32_t tell_last(uint8_t unit) {
+    const struct boe_state *lent = state_in(&state);
+    uint32_t refusal = boe_last_refusal(unit, out.at, out.len, lent, state.len);
+    size_t at = boe_last_at(unit, out.at, out.len, lent, state.len), length = boe_last_length(unit, out.at, out.len, lent, state.len);
+    must(stayed(&out) && stayed(&state), "a question has stored");
+    must(at <= out.len && length <= out.len - at, "a message past its book");
+    must(refusal ? at == 0 && length == 0 : length != 0, "a place or a length of no message, or none of one");
+    refused(refusal, 0);
+    number(&proved, at);
+    hex(&proved, out.at + at, length);
+    return refusal;
+}
+
+static void try_last(uint32_t date, uint16_t after, uint8_t unit, const uint8_t *book, size_t n) {
+    after %= 2101;
+    name(&question, "last");
+    number(&question, date);
+    number(&question, unit);
+    hex(&question, book, n);
+    uint32_t refusal = restarted(date, book, n, after);
+    refused(refusal, 0);
+    if (refusal == 0) {
+        size_t length = number_at(state.at + BOE_STATE_LENGTH_AT), last = found_last(unit, out.at, length);
+        refusal = tell_last(unit);
+        if (unit < 1 || unit > BOE_UNITS) must(refusal == BOE_BAD_UNIT, "5 for a unit that there is not");
+        else must(refusal == (last == length ? BOE_NONE : 0), "26 for a unit without a message, and no other refusal of a book's own state");
+        if (refusal == 0) must(boe_last_at(unit, out.at, out.len, state_in(&state), state.len) == last, "what a reading from the front finds last");
+    }
+    ask();
+}
+
+/* ---- the day book with any 272 bytes as its state: asked as steps of a script, of a live member whose buffer holds FF; the member's market, 0
  * or 1, plays no part */
 
 static unsigned market;
@@ -413,14 +465,20 @@ static void state_words(struct text *text) {
     number(text, number_at(state.at + BOE_STATE_MESSAGES_AT));
 }
 
-static void member_words(unsigned phase) {
+/* The sum of the state's 32 numbers from a place on. */
+static uint64_t sum_at(size_t from) {
     uint64_t sum = 0;
-    for (size_t i = 0; i < BOE_TABLE_BYTES; i += 4) sum += number_at(state.at + i);
+    for (size_t i = 0; i < BOE_TABLE_BYTES; i += 4) sum += number_at(state.at + from + i);
+    return sum;
+}
+
+static void member_words(unsigned phase) {
     number(&proved, phase);
     number(&proved, 0);
     number(&proved, market);
     state_words(&proved);
-    number(&proved, sum);
+    number(&proved, sum_at(BOE_STATE_TABLE_AT));
+    number(&proved, sum_at(BOE_STATE_PLACES_AT));
 }
 
 /* The member gets the state. */
@@ -432,7 +490,7 @@ static void ask_state(void) {
     number(&question, 0);
     number(&question, market);
     state_words(&question);
-    hex(&question, state.at, BOE_TABLE_BYTES);
+    table_words(&question);
     end_line(&question);
     number(&proved, 0);
     end_line(&proved);
@@ -450,7 +508,7 @@ static void ask_book(void) {
     end_line(&proved);
     name(&question, "m-book");
     hex(&proved, book, length < sizeof book ? length : sizeof book);
-    hex(&proved, state.at, BOE_TABLE_BYTES);
+    table_words(&proved);
 }
 
 /* The state's bytes and the member's market, which a choice gives. */
@@ -531,6 +589,19 @@ static void try_close_on(uint8_t choice, uint16_t out_len, const uint8_t *data, 
     ask();
 }
 
+/* Any bytes as a book and as its state: this question has a line of its own. */
+static void try_last_on(uint8_t choice, uint8_t unit, const uint8_t *data, size_t n) {
+    size_t given = n < BOE_STATE_BYTES ? n : BOE_STATE_BYTES;
+    lend_state(data, given, choice);
+    lend(&out, data + given, n - given);
+    name(&question, "last-state");
+    hex(&question, state.at, state.len);
+    number(&question, unit);
+    hex(&question, out.at, out.len);
+    tell_last(unit);
+    ask();
+}
+
 /* ---- an input */
 
 static uint16_t short_at(const uint8_t *at) { return (uint16_t)(at[0] | at[1] << 8); }
@@ -538,7 +609,7 @@ static uint16_t short_at(const uint8_t *at) { return (uint16_t)(at[0] | at[1] <<
 /* The bytes of a call's arguments that come before the last. */
 static const size_t before[CALLS] = {
     [FRAME] = 0, [STEP] = 5, [READ] = 2, [WRITE] = 4, [OPEN] = 5, [RESTART] = 5, [APPEND] = 8, [CLOSE] = 6, [APPEND_ON] = 3, [CLOSE_ON] = 3,
-    [TOLD] = 1,
+    [TOLD] = 1, [LAST] = 7, [LAST_ON] = 2,
 };
 
 /* The bytes of an append's message among those that follow its numbers. */
@@ -567,6 +638,8 @@ void try_input(const uint8_t *data, size_t size) {
     case APPEND_ON: try_append_on(args[0], short_at(args + 1), rest, n); break;
     case CLOSE_ON: try_close_on(args[0], short_at(args + 1), rest, n); break;
     case TOLD: try_told(args[0]); break;
+    case LAST: try_last(number_at(args), short_at(args + 4), args[6], rest, n); break;
+    case LAST_ON: try_last_on(args[0], args[1], rest, n); break;
     case CALLS: break;
     }
 }
@@ -614,8 +687,13 @@ static void mend_message(uint8_t *message, size_t n) {
     if (message[4] == BOE_PURGE_ORDERS) mend_ids(message, n);
 }
 
-/* Marks get the date and what goes before them, messages their unit's next number; the numbers reached are left in `reached`. */
-static void mend_book(uint32_t date, uint8_t *book, size_t n, uint32_t *reached) {
+/* A unit's last message in a book. */
+struct reached {
+    uint32_t number, place;
+};
+
+/* Marks get the date and what goes before them, messages their unit's next number; what each unit has come to is left in `reached`. */
+static void mend_book(uint32_t date, uint8_t *book, size_t n, struct reached *reached) {
     size_t at = 0, last = 0, total;
     uint32_t messages = 0;
     while (n - at >= BOE_MARK_BYTES) {
@@ -627,7 +705,8 @@ static void mend_book(uint32_t date, uint8_t *book, size_t n, uint32_t *reached)
             last = at;
             at += BOE_MARK_BYTES;
         } else if ((total = boe_frame_length(book + at, n - at)) != 0) {
-            put_number(book + at + 6, ++reached[book[at + 5]]);
+            put_number(book + at + 6, ++reached[book[at + 5]].number);
+            reached[book[at + 5]].place = (uint32_t)at;
             messages++;
             at += total;
         } else {
@@ -636,8 +715,18 @@ static void mend_book(uint32_t date, uint8_t *book, size_t n, uint32_t *reached)
     }
 }
 
+/* The first unit from this one on, and round, that has come to a message; where there is none, a unit of 1 to 32. */
+static uint8_t mend_unit(uint8_t unit, const struct reached *reached) {
+    unsigned first = (unit - 1u) % BOE_UNITS, next = first;
+    do {
+        if (reached[next + 1].number != 0) break;
+        next = (next + 1) % BOE_UNITS;
+    } while (next != first);
+    return (uint8_t)(next + 1);
+}
+
 void mend(uint8_t *data, size_t size) {
-    uint32_t reached[256] = {0};
+    struct reached reached[256] = {0};
     if (size < 1) return;
     enum call call = data[0] % CALLS;
     if (size - 1 < before[call]) return;
@@ -656,13 +745,26 @@ void mend(uint8_t *data, size_t size) {
         k = message_len(args, n);
         mend_book(number_at(args), rest + k, n - k, reached);
         mend_message(rest, k);
-        if (k >= 10) put_number(rest + 6, reached[rest[5]] + 1);
+        if (k >= 10) put_number(rest + 6, reached[rest[5]].number + 1);
         break;
     case APPEND_ON:
         if (n < BOE_STATE_BYTES + 10) break;
         mend_message(rest + BOE_STATE_BYTES, n - BOE_STATE_BYTES);
         k = (rest[BOE_STATE_BYTES + 5] - 1u) % 32;
         put_number(rest + BOE_STATE_BYTES + 6, number_at(rest + 4 * k) + 1);
+        break;
+    case LAST:
+        mend_book(number_at(args), rest, n, reached);
+        args[6] = mend_unit(args[6], reached);
+        break;
+    case LAST_ON:
+        if (n < BOE_STATE_BYTES) break;
+        mend_book(number_at(rest + BOE_STATE_DATE_AT), rest + BOE_STATE_BYTES, n - BOE_STATE_BYTES, reached);
+        args[1] = mend_unit(args[1], reached);
+        k = 4 * (args[1] - 1u);
+        put_number(rest + BOE_STATE_TABLE_AT + k, reached[args[1]].number);
+        put_number(rest + BOE_STATE_PLACES_AT + k, reached[args[1]].place);
+        put_number(rest + BOE_STATE_LENGTH_AT, (uint32_t)(n - BOE_STATE_BYTES));
         break;
     default: break;
     }

@@ -18,9 +18,11 @@ enum call {
     RESTART,     /* room of the state, date (4), book */
     APPEND,      /* date (4), room (2), bytes of the message (2), message, book */
     CLOSE,       /* date (4), room (2), book */
-    APPEND_ON,   /* room of the state, room (2), state (144), message */
-    CLOSE_ON,    /* room of the state, room (2), state (144) */
+    APPEND_ON,   /* room of the state, room (2), state (272), message */
+    CLOSE_ON,    /* room of the state, room (2), state (272) */
     TOLD,        /* type */
+    LAST,        /* date (4), room (2), unit, book */
+    LAST_ON,     /* room of the state, unit, state (272), book */
     CALLS
 };
 
@@ -28,7 +30,7 @@ enum call {
 void try_input(const uint8_t *data, size_t size);
 
 /* Makes parts of an input right that random changes seldom get right: a message's start and length and the count of its RiskGroupIDs, the
- * MaturityDate of an options order, the direction of a New Order's record, a book's marks and numbers. */
+ * MaturityDate of an options order, the direction of a New Order's record, a book's marks and numbers, a unit's number and place in a state. */
 void mend(uint8_t *data, size_t size);
 
 /* Questions of the format of second/README.md, each line ended by LF, and the C entry points' answers to them. Each program has its own. */

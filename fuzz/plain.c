@@ -98,27 +98,46 @@ static int input_of(char **word, int words) {
         put(value(word[1]), 4);
         put(value(word[3]), 2);
         put_bytes(word[2]);
+    } else if (words == 4 && strcmp(call, "last") == 0) {
+        put(LAST, 1);
+        put(value(word[1]), 4);
+        put(0, 2);
+        put(value(word[2]), 1);
+        put_bytes(word[3]);
+    } else if (words == 4 && strcmp(call, "last-state") == 0) {
+        size_t len = strcmp(word[1], "-") == 0 ? 0 : strlen(word[1]) / 2;
+        put(LAST_ON, 1);
+        put(len < BOE_STATE_BYTES ? (unsigned)(192 + len * 64 / BOE_STATE_BYTES) : 0, 1);
+        put(value(word[2]), 1);
+        size_t from = input_len;
+        put_bytes(word[1]);
+        for (input_len = from + BOE_STATE_BYTES; len < BOE_STATE_BYTES; len++) input[from + len] = 0;
+        put_bytes(word[3]);
     } else {
         return 0;
     }
     return input_len <= MOST_INPUT;
 }
 
-/* The input of an append or close on the state that a restart from its book leaves: 0 where restart refuses. */
+/* The input of an append, a close or a question for a unit's last message on the state that a restart from its book leaves: 0 where restart
+ * refuses. */
 static int input_on(char **word, int words) {
     static uint8_t book[sizeof input];
     static struct boe_state state;
+    int last = strcmp(word[0], "last") == 0;
     input_len = 0;
-    size_t n = put_bytes(word[2]), end = n + value(word[3]);
+    size_t n = put_bytes(word[last ? 3 : 2]);
     memcpy(book, input, n);
     if (boe_restart(value(word[1]), book, n, &state, sizeof state) != 0) return 0;
     input_len = 0;
-    put(words == 5 ? APPEND_ON : CLOSE_ON, 1);
+    put(last ? LAST_ON : words == 5 ? APPEND_ON : CLOSE_ON, 1);
     put(0, 1);
-    put((unsigned)end, 2);
+    if (last) put(value(word[2]), 1);
+    else put((unsigned)n + value(word[3]), 2);
     memcpy(input + input_len, state.bytes, sizeof state);
     input_len += sizeof state;
-    if (words == 5) put_bytes(word[4]);
+    if (last) put_bytes(word[3]);
+    else if (words == 5) put_bytes(word[4]);
     return input_len <= MOST_INPUT;
 }
 
@@ -141,14 +160,14 @@ static void type_of(const char *hex, size_t at, char *type) {
 
 /* What a seed is for: the call, a reading's or writing's direction and type, and the refusals. */
 static void kind_of(char **word, const char *answer, char *kind, size_t room) {
-    int refusal = 0, appended = 0, reading = strcmp(word[0], "read") == 0;
+    int refusal = 0, then = 0, reading = strcmp(word[0], "read") == 0;
     char type[3] = "";
-    sscanf(answer, "%d %d", &refusal, &appended);
+    sscanf(answer, "%d %d", &refusal, &then);
     if (reading || strcmp(word[0], "write") == 0) {
         type_of(word[2], reading ? 8 : 0, type);
         snprintf(kind, room, "%s %s %s %d", word[0], strlen(word[1]) == 1 && word[1][0] < '3' ? word[1] : "-", type, refusal);
     } else {
-        snprintf(kind, room, "%.20s %d %d", word[0], refusal, strcmp(word[0], "append") == 0 ? appended : 0);
+        snprintf(kind, room, "%.20s %d %d", word[0], refusal, strcmp(word[0], "append") == 0 || strcmp(word[0], "last") == 0 ? then : 0);
     }
 }
 
@@ -175,7 +194,7 @@ static int seeds(const char *questions, const char *answers, const char *folder)
         kinds[i].made++;
         made++;
         write_input(folder, at, "");
-        if ((strcmp(word[0], "append") == 0 || strcmp(word[0], "close") == 0) && input_on(word, words)) {
+        if ((strcmp(word[0], "append") == 0 || strcmp(word[0], "close") == 0 || strcmp(word[0], "last") == 0) && input_on(word, words)) {
             made++;
             write_input(folder, at, "-on");
         }

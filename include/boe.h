@@ -45,11 +45,12 @@ enum boe_refusal {
     BOE_NUMBERS_USED_UP = 20,   /* the outgoing number 4,294,967,295 is already used */
     BOE_OLD_NUMBER = 21,        /* venue: a nonzero number at or below the last one */
     BOE_NO_FIRST_MARK = 22,     /* restart on a book under 16 bytes */
-    BOE_CONFLICT = 23           /* Purge Orders: a lockout without F, or Symbol together with a MatchingUnit other than 0 */
+    BOE_CONFLICT = 23,          /* Purge Orders: a lockout without F, or Symbol together with a MatchingUnit other than 0 */
+    BOE_NONE = 26               /* a unit that has no message in the book */
 };
 
-/* The highest of these numbers. */
-#define BOE_REFUSALS 23
+/* The highest of these numbers; no call answers 24 or 25. */
+#define BOE_REFUSALS 26
 
 /* What a call answers: a refusal's number in the low byte, and above it the place, 0 where there is none. 6 to 10 have a place, and no other:
  * a byte of the message, counted from its first, which is 0. None is below 10. A bad field at byte 60 is 10 + 256 * 60.
@@ -91,13 +92,13 @@ size_t boe_frame_length(const uint8_t *bytes, size_t len);
 #define BOE_UNITS 32
 #define BOE_TABLE_BYTES 128
 
-/* A message of a unit with a number. 0: it is the next of its unit, and the table now has its number. Otherwise the table is as it
- * was: 5 for a unit outside 1 to 32, 13 for a table under 128 bytes, 14 for a number at or below the table's, 15 for one two or
- * more above it, in this order. Bytes past 128 are not touched. */
+/* A message of a unit with a number, for a gateway that has a table and no day book. 0: it is the next of its unit, and the table now has its
+ * number. Otherwise the table is as it was: 5 for a unit outside 1 to 32, 13 for a table under 128 bytes, 14 for a number at or below the
+ * table's, 15 for one two or more above it, in this order. Bytes past 128 are not touched. */
 uint32_t boe_table_step(uint8_t unit, uint32_t number, uint8_t *table, size_t table_len);
 
 /* The day book. Its bytes stand in a buffer of the caller's: the book is the first `length` bytes of it, and the caller keeps them in its file.
- * What is known of a book beside its bytes is its state, 144 bytes of the caller's with the lowest byte of a number first:
+ * What is known of a book beside its bytes is its state, 272 bytes of the caller's with the lowest byte of a number first:
  *
  *   place  bytes
  *       0    128   the sequence table, as above
@@ -105,15 +106,17 @@ uint32_t boe_table_step(uint8_t unit, uint32_t number, uint8_t *table, size_t ta
  *     132      4   the book's length in bytes
  *     136      4   where its last mark starts
  *     140      4   its messages
+ *     144    128   where the last message of unit 1 starts in the book, of unit 2 and on to unit 32, each in 4 bytes; 0 where there is none
  *
- * Any 144 bytes are taken as a state: a length past the buffer or past 16,777,216, a last mark past the length, or more than 16,777,216
- * messages are no room. A state's buffer may be longer; its bytes past 144 are not touched. */
-#define BOE_STATE_BYTES 144
+ * Any 272 bytes are taken as a state: a length past the buffer or past 16,777,216, a last mark past the length, or more than 16,777,216
+ * messages are no room. A state's buffer may be longer; its bytes past 272 are not touched. */
+#define BOE_STATE_BYTES 272
 #define BOE_STATE_TABLE_AT 0
 #define BOE_STATE_DATE_AT 128
 #define BOE_STATE_LENGTH_AT 132
 #define BOE_STATE_LAST_MARK_AT 136
 #define BOE_STATE_MESSAGES_AT 140
+#define BOE_STATE_PLACES_AT 144
 #define BOE_MARK_BYTES 16
 #define BOE_BOOK_MOST_BYTES 16777216
 
@@ -122,25 +125,38 @@ struct boe_state {
 };
 
 /* Opens a book for a date. 0: its first mark stands in the front of the buffer, and the state is that of a book of 16 bytes with a table of
- * zeros. Otherwise buffer and state are as they were: 19, then 13 for a buffer under 16 bytes or a state under 144. What the buffer held
- * before plays no part, so that a book of 22 is opened afresh by this call. */
+ * zeros and places of zeros. Otherwise buffer and state are as they were: 19, then 13 for a buffer under 16 bytes or a state under 272. What the
+ * buffer held before plays no part, so that a book of 22 is opened afresh by this call. */
 uint32_t boe_book_open(uint32_t date, uint8_t *buffer, size_t buffer_len, struct boe_state *state, size_t state_len);
 
 /* Appends the first whole message of the bytes to the book. 0: its bytes stand at the book's end, and the state has the message: its unit's
- * number, the length, the messages. Otherwise buffer and state are as they were: 13 for a state under 144 bytes, which comes first, since
- * there is no book to judge by; then 1 to 10 by the message (4 for a type other than 0x25 and 0x2C, so for a rejection too; places are counted in
- * the message, not in the book), 14 and 15 by the table, and last 13 if the message finds no room in the buffer or within 16,777,216 bytes. */
+ * number, and its place, which is the length before; the length, the messages. Otherwise buffer and state are as they were: 13 for a state under
+ * 272 bytes, which comes first, since there is no book to judge by; then 1 to 10 by the message (4 for a type other than 0x25 and 0x2C, so for a
+ * rejection too; the places of these refusals are counted in the message, not in the book), 14 and 15 by the table, and last 13 if the message
+ * finds no room in the buffer or within 16,777,216 bytes. */
 uint32_t boe_book_append(const uint8_t *bytes, size_t len, uint8_t *buffer, size_t buffer_len, struct boe_state *state, size_t state_len);
 
-/* The mark at a session's end. 0: the mark stands at the book's end, and the state has it; or it found no room, and buffer and state are as
- * they were: the length tells. 13 for a state under 144 bytes, and both are as they were. */
+/* The mark at a session's end. 0: the mark stands at the book's end, and the state has it, its table and places as they were; or it found no
+ * room, and buffer and state are as they were: the length tells. 13 for a state under 272 bytes, and both are as they were. */
 uint32_t boe_book_close(uint8_t *buffer, size_t buffer_len, struct boe_state *state, size_t state_len);
 
-/* Restarts from the book in the bytes, all of them, for a date. 0: the state is that of the book without its torn tail, if it has one. The
- * bytes of a torn tail are to be cut off the file: the next message or mark goes where they start. Otherwise the state is as it was: 19, 22,
- * 18 for a bad first mark, 17, 18, and after all of these 13 for a state under 144 bytes. An 18 has no place, also where it is for a message
+/* Restarts from the book in the bytes, all of them, for a date. 0: the state, places and all, is that of the book without its torn tail, if it has
+ * one. The bytes of a torn tail are to be cut off the file: the next message or mark goes where they start. Otherwise the state is as it was: 19,
+ * 22, 18 for a bad first mark, 17, 18, and after all of these 13 for a state under 272 bytes. An 18 has no place, also where it is for a message
  * that reading refuses with one. A book that has a rejection is 18. */
 uint32_t boe_restart(uint32_t date, const uint8_t *bytes, size_t len, struct boe_state *state, size_t state_len);
+
+/* The last message of a unit, as a part of the book: it starts at boe_last_at and has boe_last_length bytes. The bytes are the book's buffer, and
+ * the book is the first `length` of them, which the state has, or all where there are fewer. No other byte of the book plays a part, and nothing is
+ * stored.
+ *
+ * boe_last_refusal is 0 where there is one. Otherwise the two others answer 0, and it is, in this order: 5 for a unit outside 1 to 32; 13 for a state
+ * under 272 bytes; 26 where the unit's number is 0, whatever its place; 18 where state and bytes do not belong together, which is unless at the
+ * unit's place, within the book, a whole message of type 0x25 or 0x2C begins that reading takes, of this unit and with its number. A state that
+ * these calls have left is never 18 of its own book. */
+uint32_t boe_last_refusal(uint8_t unit, const uint8_t *bytes, size_t len, const struct boe_state *state, size_t state_len);
+size_t boe_last_at(uint8_t unit, const uint8_t *bytes, size_t len, const struct boe_state *state, size_t state_len);
+size_t boe_last_length(uint8_t unit, const uint8_t *bytes, size_t len, const struct boe_state *state, size_t state_len);
 
 /* What becomes of a message from the venue that a session takes. */
 enum boe_fate {

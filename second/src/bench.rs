@@ -4,6 +4,7 @@
 #[cfg(test)]
 mod tests;
 
+use crate::calls::found;
 use crate::hex;
 use crate::rules::desk::Told;
 use crate::rules::login::{Choice, Login, Returned};
@@ -70,7 +71,7 @@ impl Bench {
                 let result = self.member.restart(date, &self.book[..size], market);
                 Some(self.member_after(result))
             }
-            ("m-state", [phase, outgoing, market, date, length, last, count, table]) => {
+            ("m-state", [phase, outgoing, market, date, length, last, count, table, places]) => {
                 let mut member = Member::blank();
                 member.phase = read_phase(phase)?;
                 member.outgoing = read_u32(outgoing)?;
@@ -80,6 +81,7 @@ impl Bench {
                 member.book.last = read_u32(last)? as usize;
                 member.book.count = read_u32(count)?;
                 member.book.table = read_bytes(table)?;
+                member.book.places = read_bytes(places)?;
                 self.member = member;
                 Some(self.member_text())
             }
@@ -122,7 +124,12 @@ impl Bench {
             }
             ("m-book", []) => {
                 let book = &self.member.book;
-                Some(bytes_and_table(&self.book, book.length, &book.table))
+                let tables = [&book.table, &book.places];
+                Some(bytes_and_tables(&self.book, book.length, tables))
+            }
+            ("m-last", [unit, room]) => {
+                let (unit, room) = (read_u8(unit)?, read_size(room, BUFFER)?);
+                Some(found(self.member.book.last_of(unit, &self.book[..room])))
             }
             _ => None,
         }
@@ -130,7 +137,7 @@ impl Bench {
 
     fn of_venue(&mut self, question: &str, arguments: &[&str]) -> Option<String> {
         match (question, arguments) {
-            ("v-state", [running, told, at, upto, length, received, thresholds, table]) => {
+            ("v-state", [running, told, at, upto, length, received, thresholds, table, places]) => {
                 self.venue = Venue {
                     running: read_truth(running)?,
                     told: read_truth(told)?,
@@ -140,6 +147,7 @@ impl Bench {
                     received: read_u32(received)?,
                     thresholds: read_bytes(thresholds)?,
                     table: read_bytes(table)?,
+                    places: read_bytes(places)?,
                 };
                 Some(self.venue_text())
             }
@@ -172,7 +180,8 @@ impl Bench {
             }
             ("v-book", []) => {
                 let venue = &self.venue;
-                Some(bytes_and_table(&self.log, venue.length, &venue.table))
+                let tables = [&venue.table, &venue.places];
+                Some(bytes_and_tables(&self.log, venue.length, tables))
             }
             _ => None,
         }
@@ -187,7 +196,7 @@ impl Bench {
             book,
         } = &self.member;
         format!(
-            "{} {} {} {} {} {} {} {}",
+            "{} {} {} {} {} {} {} {} {}",
             *phase as u8,
             outgoing,
             *market as u8,
@@ -195,7 +204,8 @@ impl Bench {
             book.length,
             book.last,
             book.count,
-            sum(&book.table)
+            sum(&book.table),
+            sum(&book.places)
         )
     }
 
@@ -203,7 +213,7 @@ impl Bench {
     fn venue_text(&self) -> String {
         let venue = &self.venue;
         format!(
-            "{} {} {} {} {} {} {} {}",
+            "{} {} {} {} {} {} {} {} {}",
             u8::from(venue.running),
             u8::from(venue.told),
             venue.at,
@@ -211,7 +221,8 @@ impl Bench {
             venue.length,
             venue.received,
             sum(&venue.thresholds),
-            sum(&venue.table)
+            sum(&venue.table),
+            sum(&venue.places)
         )
     }
 
@@ -224,14 +235,16 @@ impl Bench {
     }
 }
 
-/// The sum of a table's numbers.
+/// The sum of a table's numbers, or of its places.
 fn sum(table: &[u8; SIZE]) -> u64 {
     (1..=UNITS).map(|unit| u64::from(entry(table, unit))).sum()
 }
 
-fn bytes_and_table(buffer: &[u8], length: usize, table: &[u8; SIZE]) -> String {
+/// The bytes of a book or a log, its table and its places.
+fn bytes_and_tables(buffer: &[u8], length: usize, tables: [&[u8; SIZE]; 2]) -> String {
     let bytes = &buffer[..length.min(buffer.len())];
-    format!("{} {}", hex::write(bytes), hex::write(table))
+    let [table, places] = tables.map(|table| hex::write(table));
+    format!("{} {} {}", hex::write(bytes), table, places)
 }
 
 // Arguments.

@@ -80,6 +80,19 @@ pub fn answer(words: &[&str]) -> Option<String> {
             let (date, bytes) = (read_u32(date)?, hex::read(bytes)?);
             Some(close(date, bytes, read_size(room, MOST_ROOM)?))
         }
+        ["last", date, unit, bytes] => {
+            let (date, unit) = (read_u32(date)?, read_u8(unit)?);
+            Some(last(date, unit, &hex::read(bytes)?))
+        }
+        ["last-state", state, unit, bytes] => {
+            let (state, unit) = (hex::read(state)?, read_u8(unit)?);
+            let bytes = hex::read(bytes)?;
+            Some(found(book::last_of_state(&state, unit, &bytes)))
+        }
+        ["last-line", unit, bytes] => {
+            let lines = listing::last_lines(read_u8(unit)?, &hex::read(bytes)?);
+            Some(lines.join("|"))
+        }
         ["told", type_byte] => Some((Told::of(read_u8(type_byte)?) as u8).to_string()),
         ["list", bytes] => Some(listing::lines(&hex::read(bytes)?).join("|")),
         _ => None,
@@ -144,13 +157,24 @@ fn year_of_days(year: u32) -> String {
 fn restart(date: u32, bytes: &[u8]) -> String {
     answered(book::restart(date, bytes).map(|book| {
         format!(
-            "{} {} {} {}",
+            "{} {} {} {} {}",
             book.length,
             book.last,
             book.count,
-            hex::write(&book.table)
+            hex::write(&book.table),
+            hex::write(&book.places)
         )
     }))
+}
+
+fn last(date: u32, unit: u8, bytes: &[u8]) -> String {
+    answered(book::restart(date, bytes).map(|book| found(book.last_of(unit, bytes))))
+}
+
+/// A refusal or 0, and the place and the message that were asked for; of a refusal 0 and no bytes.
+pub fn found(result: Result<(usize, &[u8]), Refusal>) -> String {
+    let (place, message) = result.unwrap_or_default();
+    format!("{} {} {}", told(result), place, hex::write(message))
 }
 
 fn append(date: u32, bytes: Vec<u8>, room: usize, message: &[u8]) -> String {

@@ -8,6 +8,7 @@ mod desk;
 mod frame;
 #[cfg(test)]
 mod judged;
+mod last;
 mod listing;
 pub mod made;
 mod modify;
@@ -49,6 +50,7 @@ pub fn all() -> String {
     modify::ask(&mut lines);
     purge::ask(&mut lines);
     options::ask(&mut lines);
+    last::ask(&mut lines);
     let mut output = String::new();
     for line in lines {
         output.push_str(&line);
@@ -77,7 +79,7 @@ mod tests {
     #[test]
     fn plain_text_of_a_fair_size() {
         let questions = all();
-        assert!(questions.len() < 16_800_000);
+        assert!(questions.len() < 17_000_000);
         for byte in questions.bytes() {
             assert!(byte == b'\n' || byte == b'\t' || (32..=126).contains(&byte));
         }
@@ -130,6 +132,9 @@ mod tests {
             ("append", "0 17 18 19 22 ?"),
             ("close", "0 17 18 19 22 ?"),
             ("list", "mark 18 22 ?"),
+            ("last", "0 17 18 19 22 ?"),
+            ("last-state", "0 5 13 18 26 ?"),
+            ("last-line", "25 2C 5 18 22 26 ?"),
         ] {
             for first in expected.split(' ') {
                 let pair = format!("{} {}", call, first);

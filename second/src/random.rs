@@ -1,5 +1,6 @@
 //! Seeded random numbers (splitmix64), so that the questions are the same at each making.
 
+#[derive(Clone)]
 pub struct Random {
     state: u64,
 }

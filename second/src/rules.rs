@@ -24,8 +24,8 @@ pub mod write;
 
 use std::fmt;
 
-/// Document 01, "Numbers of refusal", and 23 of document 02, request 1. Those of a part of the message
-/// tell its place (request 3), which counts from the message's first byte.
+/// Document 01, "Numbers of refusal", and of document 02 those of request 1 (23) and request 9 (26). Those of
+/// a part of the message tell its place (request 3), which counts from the message's first byte.
 #[derive(Clone, Copy, Debug, PartialEq, Eq)]
 pub enum Refusal {
     /// A byte that should be BA is another.
@@ -74,6 +74,8 @@ pub enum Refusal {
     Small,
     /// Fields that do not go together.
     Conflict,
+    /// A unit that has no message.
+    Absent,
 }
 
 impl Refusal {
@@ -102,6 +104,7 @@ impl Refusal {
             Refusal::Old => 21,
             Refusal::Small => 22,
             Refusal::Conflict => 23,
+            Refusal::Absent => 26,
         }
     }
 

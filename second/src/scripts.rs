@@ -4,6 +4,7 @@ mod day;
 mod driver;
 mod faults;
 mod garbage;
+mod last;
 mod outside;
 mod places;
 #[cfg(test)]
@@ -14,7 +15,7 @@ use crate::random::Random;
 use day::Days;
 use driver::Driver;
 
-/// Days and rounds are added until a script has so many lines.
+/// Days and rounds are added until a script has so many lines, those about last messages not counted.
 const LEAST: usize = 700;
 
 #[derive(Clone, Copy, Debug)]
@@ -149,7 +150,7 @@ fn script(seed: u64, kind: Kind) -> Vec<String> {
             Kind::Places => places::round(&mut driver),
         }
         // Once is enough of the lines outside the format.
-        if driver.lines.len() >= LEAST || matches!(kind, Kind::Outside) {
+        if driver.count() >= LEAST || matches!(kind, Kind::Outside) {
             break;
         }
     }

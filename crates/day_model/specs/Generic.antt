@@ -90,7 +90,7 @@ pub all-append : (P : Bytes → Type 0) (a b : List Bytes) → All P a → All P
 all-append P [] b h k = k
 all-append P (x ∷ a) b h k = (h .0, all-append P a b (h .1) k)
 
-pub map-++ : {X : Type 0} (f : Bytes → X) (a b : List Bytes) → map f (a ++ b) ≡ map f a ++ map f b
+pub map-++ : {Y X : Type 0} (f : Y → X) (a b : List Y) → map f (a ++ b) ≡ map f a ++ map f b
 map-++ f [] b = refl
 map-++ f (x ∷ a) b = rw (map-++ f a b)
 

@@ -102,7 +102,7 @@ logged = msg 1 1 ∷ msg 2 1 ∷ msg 1 2 ∷ []
 
 -- the day, computed once
 the-day : toldFrom last ≡ record { refused = false; left = false; queue = headerBytes 8 0x13 0 0 ∷ []; held = logged; phase = Live; booked = logged }
-unfolding patched lengthOf totalOf numberOf notBA startsBad lengthBad cutShort frameRefusal framed unitRefusal entryRefusal entryOf raisedTable stepRefusal dictionary.entryOf selectedAt entryAt slotsFrom hasRequired countAt mostOf unitGood fixedGood orders.readRefusal orders.headRefusal orders.blockRefusal orders.bodyRefusal orders.restOf middles.middleSize middles.middleGood lates.lacks lates.conflicts lates.lateRefusal orders.bitsOf orders.optionalOf orders.fixedOf groups.unitsFrom groups.pairsGood groups.bitsGood groups.groupKey groups.groupSize groups.nextSize groups.groupsFrom logins.readRefusal logins.fixedSize logins.valuesGood logins.flagGood logins.responseEnd logins.listsEnd logins.bodyEnd logins.bodyOf logins.writeRefusal logins.writeBuffer choiceOf unitsPart bitsPart groupCount loginRecord groupFrom requestGroup groupFlag listedFrom groupListed carries ownRefusal readRefusal leap daysIn isDay dayRefusal markBytes openRefusal openOf openBuffer roomless messageRefusal nextRefusal appendRefusal appendedBy appendOf appendBuffer closeOf closeBuffer frontZero torn markNext inLimit found nextBook run firstMark restartOf passes endedBy brokenBy brokenBuffer respondedBy respondedBuffer receiveRefusal receivedBy receiveOf receivedBuffer receiveBuffer loginRefusal loginOf loginOut itemOf itemLength itemsFrom restartedBy refusedForRoom venue.logOf venue.logBuffer venue.sendOf venue.sendOut venue.loginReadRefusal venue.thresholdOf venue.thresholdsOf venue.responseRecord venue.loginRefusal venue.loginOf venue.loginOut venue.passing venue.seek venue.placeOf venue.tellsAt venue.bytesAt venue.afterAt venue.stepOf venue.stepOut venue.brokenOf split last told toldFrom
+unfolding patched lengthOf totalOf numberOf notBA startsBad lengthBad cutShort frameRefusal framed unitRefusal entryRefusal entryOf raisedTable stepRefusal dictionary.entryOf selectedAt entryAt slotsFrom hasRequired countAt mostOf unitGood fixedGood orders.readRefusal orders.headRefusal orders.blockRefusal orders.bodyRefusal orders.restOf middles.middleSize middles.middleGood lates.lacks lates.conflicts lates.lateRefusal orders.bitsOf orders.optionalOf orders.fixedOf groups.unitsFrom groups.pairsGood groups.bitsGood groups.groupKey groups.groupSize groups.nextSize groups.groupsFrom logins.readRefusal logins.fixedSize logins.valuesGood logins.flagGood logins.responseEnd logins.listsEnd logins.bodyEnd logins.bodyOf logins.writeRefusal logins.writeBuffer choiceOf unitsPart bitsPart groupCount loginRecord groupFrom requestGroup groupFlag listedFrom groupListed carries ownRefusal readRefusal leap daysIn isDay dayRefusal markBytes openRefusal openOf openBuffer roomless messageRefusal nextRefusal appendRefusal appendedBy appendOf appendBuffer closeOf closeBuffer frontZero torn markNext inLimit found nextBook run firstMark restartOf passes endedBy brokenBy brokenBuffer respondedBy respondedBuffer receiveRefusal receivedBy receiveOf receivedBuffer receiveBuffer loginRefusal loginOf loginOut itemOf itemLength itemsFrom restartedBy refusedForRoom venue.logOf venue.logBuffer venue.sendOf venue.sendOut venue.loginReadRefusal venue.thresholdOf venue.thresholdsOf venue.wantedAbove venue.responseRecord venue.loginRefusal venue.loginOf venue.loginOut venue.passing venue.seek venue.placeOf venue.tellsAt venue.bytesAt venue.afterAt venue.stepOf venue.stepOut venue.brokenOf split last told toldFrom
 the-day = refl
 
 -- before the last delivery no message was refused for room, no Logout was sent, Replay Complete stands alone on the line, and the log held three messages

@@ -5,18 +5,20 @@
 use Prim.Native.Nat.{ℕ, _≤_}
 use mathlib.Core.Logic.{_⊎_}
 use mathlib.Core.Path.{_≡_}
-use mathlib.Core.Bool.{true, false}
-use mathlib.Core.List.{List, _∷_}
+use mathlib.Core.Bool.{true, false, cond}
+use mathlib.Core.List.{List, [], _∷_}
+use lib.Dec.{eqb}
 use lib.ListN.{length, take}
 use Rattle.wire.specs.Header.{typeOf}
 use Rattle.wire.specs.Frame.{framed}
-use Rattle.table.specs.Table.{lastOf}
+use Rattle.table.specs.Table.{unitRefusal, lastOf}
 use Rattle.session_messages.specs.Sessions.{namesGood, sessionBytes}
 use Rattle.session_logins.specs.LoginRequestLaws.{BitsInOrder}
 use Rattle.orders.specs.Shapes.{sequenced}
 use Rattle.calendar.specs.Calendar.{isDay}
 use Rattle.book.specs.Books.{answer, blankBook, openOf}
 use Rattle.book_restart.specs.Restarts.{restartOf}
+use Rattle.last_message.specs.Last.{lastRefusal, lastPart}
 use Rattle.day_model.specs.Story.{All, Code, Happens, aLogin, aTaking, aDelivery, aCut, Now, next, story, dawn}
 use Rattle.day_model.specs.Halves.{VenueCode, MeetsVenue, StepsAsTold, code}
 use Rattle.day_line.specs.Lines.{Fields, loginOfTable, ourLine}
@@ -24,7 +26,7 @@ use Rattle.session.specs.declared.Phase.the-variants.{Closed, Asked, Replaying,
 use Rattle.session.specs.Sessions.{loginOut}
 use Rattle.session.specs.MemberDay.{opened, ourMember}
 use Rattle.venue.specs.VenueDay.{ourVenue}
-use Rattle.day_proved.specs.Words.{Bytes, inBook, ofUnit, wholeIn}
+use Rattle.day_proved.specs.Words.{Bytes, inBook, ofUnit, wholeIn, newest}
 
 -- ---- the day
 
@@ -178,3 +180,17 @@ pub record TheBenchIsSuchAVenue : Type 1 where
   pub for-an-answer : such .answerRoom ≡ 443
   pub told : StepsAsTold ourLine ourVenue such
   pub for-a-step : told .stepRoom ≡ 2048
+
+-- ---- 02, request 9
+
+-- the book, asked for the last message of a unit, answers the last of those first messages of the unit's log, byte for byte, as a part of itself; and 26
+-- where there is none
+pub record AnswersTheLast (date market : ℕ) (X : VenueCode) (w : Moment date market X) (u : ℕ) : Type 0 where
+  pub part : lastPart (w .member .session .book) u (book date market X w) ≡ newest [] (take (tableSays date market X w u) (ofUnit u (log date market X w)))
+  pub told : lastRefusal (w .member .session .book) u (book date market X w) ≡ cond (eqb (tableSays date market X w u) 0) 26 0
+
+-- at every moment of any day
+abbrev pub AskedAtEveryMoment : Type 1
+AskedAtEveryMoment =
+    (date : ℕ) → isDay date ≡ true → (market : ℕ) (X : VenueCode) → SuchAVenue X → (es : List Event) (u : ℕ) → unitRefusal u ≡ 0
+    → AnswersTheLast date market X (after date market X es) u

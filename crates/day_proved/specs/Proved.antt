@@ -98,7 +98,7 @@ module _ (date : ℕ) (d : isDay date ≡ true) (market : ℕ) (X : VenueCode) (
   the = both ourLine (ourMember date market) X (our-member-meets date d small market) such
 
   -- 1
-  moment : (es : List Event) (u : ℕ) → HoldsFirsts date market X (after date market X es) u
+  pub moment : (es : List Event) (u : ℕ) → HoldsFirsts date market X (after date market X es) u
   unfolding the our-member-meets
   moment es u =
       let h = at-every-moment (dayOf date market X) the es u in
@@ -119,7 +119,7 @@ module _ (date : ℕ) (d : isDay date ≡ true) (market : ℕ) (X : VenueCode) (
       ∙ unit-bodies u (after date market X es .held)
 
   -- 2
-  good-of : (es : List Event) → Good date (after date market X es .member)
+  pub good-of : (es : List Event) → Good date (after date market X es .member)
   unfolding the our-member-meets
   good-of es = holds (dayOf date market X) the es .good .member
 

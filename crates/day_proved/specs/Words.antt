@@ -31,3 +31,8 @@ within k (i ∷ is) = keepItem (leb (itemSize i) k) i (within (k - itemSize i) i
 -- the whole messages that a cut to k bytes keeps
 abbrev pub wholeIn : ℕ → Bytes → List Bytes
 wholeIn k bytes = map (λ (m : Msg). m .body) (messages (within k (items bytes)))
+
+-- the last of some messages, after one that came before them
+abbrev pub newest : Bytes → List Bytes → Bytes
+newest m [] = m
+newest m (n ∷ ns) = newest n ns

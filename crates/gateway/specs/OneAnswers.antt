@@ -8,7 +8,7 @@ use Rattle.refusals.specs.OneAnswer.{one-answer, one-answer-and-buffer, one-ans
 use Rattle.wire.specs.Frame.{frameRefusal, framed}
 use Rattle.messages.specs.Messages.{readCall, readRecord, writeCall, writeOut}
 use Rattle.gateway.specs.TableBytes.{tableRefusal, tableBytes}
-use Rattle.gateway.specs.BookBytes.{openCall, openCallBuffer, openCallState, appendCall, appendCallBuffer, appendCallState, closeCall, closeCallBuffer, closeCallState, restartCall, restartCallState}
+use Rattle.gateway.specs.BookBytes.{openCall, openCallBuffer, openCallState, appendCall, appendCallBuffer, appendCallState, closeCall, closeCallBuffer, closeCallState, restartCall, restartCallState, lastCall, lastCallAt, lastCallLength}
 
 pub frame-refusal-is-one : (bytes : List ℕ) → OneAnswer (λ (r : ℕ). r ≡ frameRefusal bytes)
 frame-refusal-is-one bytes a b p q = one-answer p q
@@ -46,3 +46,12 @@ book-close-is-one buffer state a b x y v w p q = one-answer-and-two-buffers p q
 pub restart-is-one : (date : ℕ) (bytes state : List ℕ)
     → OneAnswerAndBuffer (λ (r : ℕ) (v : List ℕ). (r ≡ restartCall date bytes (length state)) × (v ≡ restartCallState date bytes state))
 restart-is-one date bytes state a b x y p q = one-answer-and-buffer p q
+
+pub last-refusal-is-one : (unit : ℕ) (bytes state : List ℕ) → OneAnswer (λ (r : ℕ). r ≡ lastCall unit bytes state)
+last-refusal-is-one unit bytes state a b p q = one-answer p q
+
+pub last-at-is-one : (unit : ℕ) (bytes state : List ℕ) → OneAnswer (λ (r : ℕ). r ≡ lastCallAt unit bytes state)
+last-at-is-one unit bytes state a b p q = one-answer p q
+
+pub last-length-is-one : (unit : ℕ) (bytes state : List ℕ) → OneAnswer (λ (r : ℕ). r ≡ lastCallLength unit bytes state)
+last-length-is-one unit bytes state a b p q = one-answer p q

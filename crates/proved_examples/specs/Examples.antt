@@ -49,7 +49,7 @@ yes b = cond b 1 0
 
 -- the refusal of a number of unit 1 at a new day's table
 abbrev atZero : ℕ → ℕ
-atZero n = stepOf zeroTable 1 n .refusal
+atZero n = stepOf zeroTable 1 n 16 .refusal
 
 -- the identifier ABC123, NUL-filled to 20
 abbrev pub abc123 : List ℕ

@@ -93,3 +93,7 @@ noFirstMark = 22
 -- 02, request 1: L without F, or Symbol together with a MatchingUnit other than 0
 abbrev pub conflict : ℕ
 conflict = 23
+
+-- 02, request 9: NONE, a unit of which the book has no message
+abbrev pub noMessage : ℕ
+noMessage = 26

@@ -50,6 +50,8 @@ pub const OLD_NUMBER: u32 = 21;
 pub const NO_FIRST_MARK: u32 = 22;
 // A lockout without its firm, or a symbol together with a matching unit: document 02's first request.
 pub const CONFLICT: u32 = 23;
+// No message of a unit is in the book: document 02's ninth request.
+pub const NONE: u32 = 26;
 
 // A refusal and its place in one number: the number in the low byte, the place above it.
 pub fn told(number: u32, place: usize) -> u32

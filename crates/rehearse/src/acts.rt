@@ -2,6 +2,7 @@
 use crate::bench;
 use crate::bench::Bench;
 use crate::bench::Room;
+use crate::lasts;
 use crate::orders_out;
 use crate::outage;
 use crate::say;
@@ -286,7 +287,7 @@ pub fn heartbeats(b: Bench, book: &mut Room) -> Bench {
     bench::breaks(silent, book)
 }
 
-// The last session: nothing is missing, and the venue logs us out at the day's end.
+// The last session: nothing is missing, the venue logs us out at the day's end, and the desk asks for the last message of each unit.
 pub fn end_of_day(b: Bench, book: &mut Room, log: &Room) -> Bench {
     say::title(b"11. The last line: nothing to replay, and a Logout at the end of the day");
     let before = bench::later(bench::at(b, 15, 59), 59000);
@@ -295,7 +296,9 @@ pub fn end_of_day(b: Bench, book: &mut Room, log: &Room) -> Bench {
     let v = complete.venue;
     let mut bytes = [0u8; 200];
     written::logout(v.received, &mut bytes);
-    bench::receives(bench::at(complete, 16, 0), &bytes, book)
+    let ended = bench::receives(bench::at(complete, 16, 0), &bytes, book);
+    lasts::tells_all(bench::later(ended, 1000), book);
+    ended
 }
 
 // The options desk: a gateway of its own, with a book and a venue of its own. An order of the other market and one whose maturity is no day stay; after a

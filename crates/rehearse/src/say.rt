@@ -180,6 +180,7 @@ fn later_meaning(n: u32) {
         21 => writing::text(b"an order's number at or below the last one"),
         22 => writing::text(b"the book has no first mark"),
         23 => writing::text(b"fields that do not go together"),
+        26 => writing::text(b"the book has no message of that unit"),
         _ => writing::text(b"no such number"),
     }
 }

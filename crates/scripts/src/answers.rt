@@ -61,7 +61,7 @@ fn own_call_of(word: &[u8]) -> u8 {
     rare_call_of(word)
 }
 
-// The same for the calls between the sessions.
+// The same for the calls between the sessions, and the questions for the book.
 fn rare_call_of(word: &[u8]) -> u8 {
     if check::same(word, b"m-open") {
         return 9;
@@ -75,31 +75,34 @@ fn rare_call_of(word: &[u8]) -> u8 {
     if check::same(word, b"m-book") {
         return 12;
     }
+    if check::same(word, b"m-last") {
+        return 13;
+    }
     0
 }
 
 // Which call of the venue a word names, or that of the member, or 0.
 fn venue_call_of(word: &[u8]) -> u8 {
     if check::same(word, b"v-step") {
-        return 13;
-    }
-    if check::same(word, b"v-log") {
         return 14;
     }
-    if check::same(word, b"v-login") {
+    if check::same(word, b"v-log") {
         return 15;
     }
-    if check::same(word, b"v-order") {
+    if check::same(word, b"v-login") {
         return 16;
     }
-    if check::same(word, b"v-break") {
+    if check::same(word, b"v-order") {
         return 17;
     }
-    if check::same(word, b"v-state") {
+    if check::same(word, b"v-break") {
         return 18;
     }
-    if check::same(word, b"v-book") {
+    if check::same(word, b"v-state") {
         return 19;
+    }
+    if check::same(word, b"v-book") {
+        return 20;
     }
     member_call_of(word)
 }
@@ -115,12 +118,12 @@ fn call_of(word: &[u8]) -> u8 {
 // How many words a question of a call has; no line has 0.
 fn words_of(call: u8) -> usize {
     match call {
-        1 | 12 | 17 | 19 => 1,
+        1 | 12 | 18 | 20 => 1,
         5 | 6 => 2,
-        2 | 3 | 7 | 8 | 13 | 14 | 15 | 16 => 3,
+        2 | 3 | 7 | 8 | 13 | 14 | 15 | 16 | 17 => 3,
         9 | 10 => 4,
         4 => 13,
-        11 | 18 => 9,
+        11 | 19 => 10,
         _ => 0,
     }
 }
@@ -143,7 +146,7 @@ pub fn answered(
     if call == 1 {
         return begin(book, log);
     }
-    if call < 13 {
+    if call < 14 {
         return of_member(call, line, bench, bytes, book);
     }
     of_venue(call, line, bench, bytes, log)

@@ -10,6 +10,7 @@ use session::Session;
 use session_logins::Bitfields;
 use session_logins::Choice;
 use table::OutgoingNumber;
+use table::Unit;
 
 // Whether a line was a question, and the session after it.
 pub struct Told {
@@ -28,7 +29,8 @@ pub fn answered(call: u8, line: &[u8], s: Session, bytes: &mut [u8], book: &mut 
         9 => open(line, s, book),
         10 => restart(line, s, book),
         11 => state(line, s),
-        _ => stored(s, book),
+        12 => stored(s, book),
+        _ => last(line, s, book),
     }
 }
 
@@ -72,7 +74,7 @@ fn say(s: Session) -> Told {
     writing::next_decimal(b.length as u64);
     writing::next_decimal(b.last as u64);
     writing::next_decimal(b.count as u64);
-    writing::next_decimal(parts::sum(b.table));
+    parts::next_sums(b.table);
     Told {
         ok: true,
         session: s,
@@ -131,13 +133,13 @@ fn restart(line: &[u8], s: Session, book: &[u8]) -> Told {
     unknown(s)
 }
 
-// `m-state PHASE OUTGOING MARKET DATE LENGTH LAST COUNT TABLE`: the member.
+// `m-state PHASE OUTGOING MARKET DATE LENGTH LAST COUNT TABLE PLACES`: the member.
 fn state(line: &[u8], s: Session) -> Told {
     let phase = words::read_number(words::word(line, 1), 3);
     let outgoing = words::read_number(words::word(line, 2), 4294967295);
     let served = parts::read_market(words::word(line, 3));
     let four = parts::read_four(line, 4);
-    let given = parts::read_table(words::word(line, 8));
+    let given = parts::read_table(line, 8);
     if phase.ok && outgoing.ok && served.ok && four.ok && given.ok {
         let p = phase_of(phase.value);
         let market = served.market;
@@ -282,7 +284,7 @@ fn broken(line: &[u8], s: Session, book: &mut [u8]) -> Told {
     unknown(s)
 }
 
-// `m-book`: the book's bytes and its table.
+// `m-book`: the book's bytes, and its table's numbers and places.
 fn stored(s: Session, book: &[u8]) -> Told {
     let b = s.book;
     parts::stored(book, b.length, b.table);
@@ -290,4 +292,33 @@ fn stored(s: Session, book: &[u8]) -> Told {
         ok: true,
         session: s,
     }
+}
+
+// `m-last UNIT ROOM`: the refusal, and the place and the bytes of the last message of a unit.
+fn last(line: &[u8], s: Session, book: &[u8]) -> Told {
+    let unit = words::read_number(words::word(line, 1), 255);
+    let room = words::read_number(words::word(line, 2), book.len() as u64);
+    if unit.ok && room.ok {
+        let n = room.value as usize;
+        let b = s.book;
+        found(b, Unit(unit.value as u8), &book[0..n]);
+        return Told {
+            ok: true,
+            session: s,
+        };
+    }
+    unknown(s)
+}
+
+// The answer to `m-last` with the book's buffer; where it is refused, place 0 and no bytes.
+fn found(b: Book, unit: Unit, book: &[u8]) {
+    let refusal = last_message::last_refusal(b, unit, book);
+    writing::refusal(refusal);
+    if refusal != 0 {
+        writing::text(b" 0 -");
+        return;
+    }
+    let entry = b.table.entry(unit);
+    writing::next_decimal(entry.place.0 as u64);
+    parts::output(last_message::last_message(b, unit, book));
 }

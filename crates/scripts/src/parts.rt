@@ -4,9 +4,11 @@ use asking::words;
 use asking::writing;
 use orders::Market;
 use table::Entry;
+use table::Place;
 use table::Table;
 use table::Unit;
 use table::UnitNumber;
+use venue::Thresholds;
 
 // Four numbers of a state.
 pub struct Four {
@@ -17,10 +19,28 @@ pub struct Four {
     pub fourth: u32,
 }
 
+// The 32 numbers of a question, 4 bytes each.
+struct Numbers {
+    ok: bool,
+    bytes: [u8; 128],
+}
+
 // A table of a question.
 pub struct Given {
     pub ok: bool,
     pub table: Table,
+}
+
+// The thresholds of a question.
+pub struct Wanted {
+    pub ok: bool,
+    pub thresholds: Thresholds,
+}
+
+// The sums of a table's numbers and of its places.
+struct Totals {
+    numbers: u64,
+    places: u64,
 }
 
 // A market of a question.
@@ -69,26 +89,65 @@ pub fn read_four(line: &[u8], k: usize) -> Four
     }
 }
 
-// A word of exactly 128 bytes as a table.
-pub fn read_table(word: &[u8]) -> Given {
+// A word of exactly 128 bytes as 32 numbers.
+fn read_numbers(word: &[u8]) -> Numbers {
     let mut bytes = [0u8; 128];
     let run = words::read_bytes(word, &mut bytes);
-    let t = table_of(&bytes);
-    Given {
+    Numbers {
         ok: run.ok && run.count == 128,
+        bytes: bytes,
+    }
+}
+
+// The words after k others as a table: its numbers, then its places.
+pub fn read_table(line: &[u8], k: usize) -> Given
+    requires { ⌜ k ≤ 16 ⌝ }
+{
+    let numbers = read_numbers(words::word(line, k));
+    let places = read_numbers(words::word(line, k + 1));
+    let first = numbers.bytes;
+    let second = places.bytes;
+    let t = table_of(&first, &second);
+    Given {
+        ok: numbers.ok && places.ok,
         table: t,
     }
 }
 
-// The table of 4 bytes a unit.
-fn table_of(bytes: &[u8]) -> Table {
+// The table of numbers and places, 4 bytes a unit of each.
+fn table_of(first: &[u8], second: &[u8]) -> Table {
     let mut t = Table::new();
     let mut i: usize = 0;
     while i < 32 {
-        let number = numbers::read_u32(bytes, 4 * i);
+        let number = numbers::read_u32(first, 4 * i);
+        let place = numbers::read_u32(second, 4 * i);
         t.entries[i] = Entry {
             last: UnitNumber(number),
+            place: Place(place),
         };
+        i += 1;
+    }
+    t
+}
+
+// A word as thresholds.
+pub fn read_thresholds(word: &[u8]) -> Wanted {
+    let numbers = read_numbers(word);
+    let bytes = numbers.bytes;
+    let t = thresholds_of(&bytes);
+    Wanted {
+        ok: numbers.ok,
+        thresholds: t,
+    }
+}
+
+// The thresholds of 4 bytes a unit.
+fn thresholds_of(bytes: &[u8]) -> Thresholds {
+    let mut t = Thresholds::new();
+    let mut i: usize = 0;
+    while i < 32 {
+        let number = numbers::read_u32(bytes, 4 * i);
+        t.numbers[i] = UnitNumber(number);
         i += 1;
     }
     t
@@ -101,24 +160,50 @@ fn wide(n: u32) -> u64
     n as u64
 }
 
-// The sum of a table's numbers.
-pub fn sum(t: Table) -> u64 {
+// The sum of the thresholds.
+pub fn sum(t: Thresholds) -> u64 {
     let mut total: u64 = 0;
     let mut u: u8 = 1;
     while u <= 32 {
-        let entry = t.entry(Unit(u));
-        total += wide(entry.last.0);
+        let number = t.above(Unit(u));
+        total += wide(number.0);
         u += 1;
     }
     total
 }
 
-// A table's bytes into a buffer, 4 bytes a unit.
-fn put_table(t: Table, out: &mut [u8]) {
+// The sums of a table's numbers and of its places.
+fn sums(t: Table) -> Totals {
+    let mut numbers: u64 = 0;
+    let mut places: u64 = 0;
     let mut u: u8 = 1;
     while u <= 32 {
         let entry = t.entry(Unit(u));
-        numbers::write_u32(out, 4 * (u as usize - 1), entry.last.0);
+        numbers += wide(entry.last.0);
+        places += wide(entry.place.0);
+        u += 1;
+    }
+    Totals {
+        numbers: numbers,
+        places: places,
+    }
+}
+
+// These sums, each after a space.
+pub fn next_sums(t: Table) {
+    let s = sums(t);
+    writing::next_decimal(s.numbers);
+    writing::next_decimal(s.places);
+}
+
+// A table's numbers and its places into two buffers, 4 bytes a unit.
+fn put_table(t: Table, first: &mut [u8], second: &mut [u8]) {
+    let mut u: u8 = 1;
+    while u <= 32 {
+        let entry = t.entry(Unit(u));
+        let at = 4 * (u as usize - 1);
+        numbers::write_u32(first, at, entry.last.0);
+        numbers::write_u32(second, at, entry.place.0);
         u += 1;
     }
 }
@@ -142,17 +227,18 @@ fn lesser(a: usize, b: usize) -> usize
     b
 }
 
-// The first bytes of a buffer, as many as a length says or as there are, and a table.
+// The first bytes of a buffer, as many as a length says or as there are, and a table's numbers and places.
 pub fn stored(buffer: &[u8], length: u32, t: Table) {
     let n = lesser(length as usize, buffer.len());
     writing::hex(&buffer[0..n]);
-    let mut out = [0u8; 128];
-    put_table(t, &mut out);
-    writing::text(b" ");
-    writing::hex(&out);
+    let mut first = [0u8; 128];
+    let mut second = [0u8; 128];
+    put_table(t, &mut first, &mut second);
+    output(&first);
+    output(&second);
 }
 
-// A space and an output buffer after the call.
+// A space and bytes: an output buffer after the call.
 pub fn output(out: &[u8]) {
     writing::text(b" ");
     writing::hex(out);

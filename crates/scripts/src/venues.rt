@@ -14,12 +14,12 @@ pub struct Told {
 // Answers a line by its call.
 pub fn answered(call: u8, line: &[u8], v: Venue, bytes: &mut [u8], log: &mut [u8]) -> Told {
     match call {
-        13 => step(line, v, log),
-        14 => logged(line, v, bytes, log),
-        15 => login(line, v, bytes),
-        16 => order(line, v, bytes),
-        17 => say(v.broken()),
-        18 => state(line, v),
+        14 => step(line, v, log),
+        15 => logged(line, v, bytes, log),
+        16 => login(line, v, bytes),
+        17 => order(line, v, bytes),
+        18 => say(v.broken()),
+        19 => state(line, v),
         _ => stored(v, log),
     }
 }
@@ -42,7 +42,7 @@ fn say(v: Venue) -> Told {
     writing::next_decimal(v.length as u64);
     writing::next_decimal(v.received.0 as u64);
     writing::next_decimal(parts::sum(v.thresholds));
-    writing::next_decimal(parts::sum(v.table));
+    parts::next_sums(v.table);
     Told { ok: true, venue: v }
 }
 
@@ -61,15 +61,15 @@ fn sent(a: venue::Answer, out: &[u8]) -> Told {
     t
 }
 
-// `v-state RUNNING TOLD AT UPTO LENGTH RECEIVED THRESHOLDS TABLE`: the venue.
+// `v-state RUNNING TOLD AT UPTO LENGTH RECEIVED THRESHOLDS TABLE PLACES`: the venue.
 fn state(line: &[u8], v: Venue) -> Told {
     let running = words::read_number(words::word(line, 1), 1);
     let had = words::read_number(words::word(line, 2), 1);
     let four = parts::read_four(line, 3);
-    let wanted = parts::read_table(words::word(line, 7));
-    let given = parts::read_table(words::word(line, 8));
+    let wanted = parts::read_thresholds(words::word(line, 7));
+    let given = parts::read_table(line, 8);
     if running.ok && had.ok && four.ok && wanted.ok && given.ok {
-        let thresholds = wanted.table;
+        let thresholds = wanted.thresholds;
         let table = given.table;
         return say(Venue {
             running: running.value == 1,
@@ -147,7 +147,7 @@ fn order(line: &[u8], v: Venue, bytes: &mut [u8]) -> Told {
     unknown(v)
 }
 
-// `v-book`: the log's bytes and its table.
+// `v-book`: the log's bytes, and its table's numbers and places.
 fn stored(v: Venue, log: &[u8]) -> Told {
     parts::stored(log, v.length, v.table);
     Told { ok: true, venue: v }

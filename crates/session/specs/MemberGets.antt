@@ -155,7 +155,7 @@ module _ {date k : ℕ} (o : OutgoingNumber) (market : Market) {b : Book} {bytes
         ap (λ (x : List ℕ). items (bytes ++ x)) (sym (f .whole)) ∙ made-items (books room m made z) ∙ ap₂ (λ (x : List Item) (y : List ℕ). x ++ entry (msgOf y) ∷ []) (sym (made-items made)) (f .whole) in
         let st = next b m (appended-has b room m z .reads) .1 in
         let t : lastOf (appendedBy b m .table) ≡ bump (lastOf (b .table)) (unitOf m) =
-        ap (λ (x : List ℕ). lastOf (appendedBy b x .table)) (sym (f .whole)) ∙ sym (raised-is (b .table) (unitOf (framed m)) (numberOf (framed m)) (table-long made) st) ∙ ap (λ (x : List ℕ). bump (lastOf (b .table)) (unitOf x)) (f .whole) in
+        ap (λ (x : List ℕ). lastOf (appendedBy b x .table)) (sym (f .whole)) ∙ sym (raised-is (b .table) (unitOf (framed m)) (numberOf (framed m)) (b .length) (table-long made) st) ∙ ap (λ (x : List ℕ). bump (lastOf (b .table)) (unitOf x)) (f .whole) in
         let g : got (capOf room) (says m) (seen (deskOf p o market b bytes)) ≡ takes true true (msgOf m) (seen (deskOf p o market b bytes)) =
         ap (λ (x : Sent). got (capOf room) x (seen (deskOf p o market b bytes))) said ∙ takes-it ∙ ap₂ (λ (x y : Bool). takes x y (msgOf m) (seen (deskOf p o market b bytes))) n r in
         subst (λ (x : Member). Comes date (gets room m (deskOf p o market b bytes)) x) (sym g)

@@ -84,15 +84,29 @@ fn book_call_of(word: &[u8]) -> u8 {
     if check::same(word, b"list") {
         return 18;
     }
+    last_call_of(word)
+}
+
+// The same for the questions for a unit's last message.
+fn last_call_of(word: &[u8]) -> u8 {
+    if check::same(word, b"last") {
+        return 21;
+    }
+    if check::same(word, b"last-state") {
+        return 22;
+    }
+    if check::same(word, b"last-line") {
+        return 23;
+    }
     0
 }
 
 // How many words a question of a call has.
 fn words_of(call: u8) -> usize {
     match call {
-        2 | 7 | 13 | 17 | 19 => 4,
+        2 | 7 | 13 | 17 | 19 | 21 | 22 => 4,
         3 | 16 => 5,
-        5 | 6 | 10 | 11 | 12 | 14 | 15 => 3,
+        5 | 6 | 10 | 11 | 12 | 14 | 15 | 23 => 3,
         _ => 2,
     }
 }
@@ -124,6 +138,9 @@ pub fn answered(line: &[u8], bytes: &mut [u8]) -> bool {
         18 => books::list(line, bytes),
         19 => lent(line, bytes, true),
         20 => told(line),
+        21 => books::last(line, bytes),
+        22 => books::last_state(line, bytes),
+        23 => books::last_line(line, bytes),
         _ => false,
     }
 }

@@ -6,7 +6,16 @@ use asking::words;
 use asking::writing;
 use book::Book;
 use book_lines::Line;
+use book_listing::Asked;
+use book_listing::Listing;
+use table::Entry;
 use table::Unit;
+
+// Where a listing stands, and what is kept of the unit that is asked for.
+struct Gone {
+    listing: Listing,
+    asked: Asked,
+}
 
 // `open DATE BYTES`: the refusal and the buffer after the call.
 pub fn open(line: &[u8], bytes: &mut [u8]) -> bool {
@@ -26,7 +35,7 @@ fn opened(date: u32, buffer: &mut [u8]) {
     answers::refused(answer.refusal, buffer);
 }
 
-// `restart DATE BYTES`: the refusal, or 0, the length, where the last mark starts, the messages and the table.
+// `restart DATE BYTES`: the refusal, or 0, the length, where the last mark starts, the messages, and the table's numbers and places.
 pub fn restart(line: &[u8], bytes: &mut [u8]) -> bool {
     let date = words::read_number(words::word(line, 1), 4294967295);
     let run = words::read_bytes(words::word(line, 2), bytes);
@@ -46,24 +55,33 @@ fn restarted(date: u32, s: &[u8]) {
         writing::next_decimal(answer.book.length as u64);
         writing::next_decimal(answer.book.last as u64);
         writing::next_decimal(answer.book.count as u64);
-        writing::text(b" ");
-        table_of(answer.book);
+        table_of(answer.book, false);
+        table_of(answer.book, true);
     }
 }
 
-// A book's table.
-fn table_of(b: Book) {
+// A book's table, after a space: its numbers, or its places.
+fn table_of(b: Book, places: bool) {
     let mut out = [0u8; 128];
-    put_table(b, &mut out);
+    put_table(b, places, &mut out);
+    writing::text(b" ");
     writing::hex(&out);
 }
 
-// A book's table into a buffer, 4 bytes a unit.
-fn put_table(b: Book, out: &mut [u8]) {
+// An entry's number, or its place.
+fn part_of(entry: Entry, places: bool) -> u32 {
+    if places {
+        return entry.place.0;
+    }
+    entry.last.0
+}
+
+// A book's table into a buffer, 4 bytes a unit: its numbers, or its places.
+fn put_table(b: Book, places: bool, out: &mut [u8]) {
     let mut u: u8 = 1;
     while u <= 32 {
         let entry = b.table.entry(Unit(u));
-        numbers::write_u32(out, 4 * (u as usize - 1), entry.last.0);
+        numbers::write_u32(out, 4 * (u as usize - 1), part_of(entry, places));
         u += 1;
     }
 }
@@ -151,24 +169,33 @@ pub fn list(line: &[u8], bytes: &mut [u8]) -> bool {
     let run = words::read_bytes(words::word(line, 1), bytes);
     if run.ok {
         let n = run.count;
-        listed(&bytes[0..n]);
+        listed(Unit(0), &bytes[0..n]);
         return true;
     }
     false
 }
 
-// The answer to `list` of a book. A proved loop has to end, so it counts its lines down from more than a question's book has.
-fn listed(s: &[u8]) {
+// Goes over a book's listing, and writes its lines where no unit is asked for: unit 0 stands for none. A proved loop has to end, so it counts its lines
+// down from more than a question's book has.
+fn listed(unit: Unit, s: &[u8]) -> Gone {
     let mut at = book_listing::start();
+    let mut asked = book_listing::ask(unit);
     let mut pos: usize = 0;
     let mut lines: u32 = 8192;
     while lines > 0 {
         let stepped = book_listing::step(at, rest(s, pos), true);
-        listed_line(stepped.line, lines == 8192);
+        if unit.0 == 0 {
+            listed_line(stepped.line, lines == 8192);
+        }
+        asked = book_listing::kept(asked, at, stepped);
         pos = next_place(pos, stepped.taken, s.len());
         let next = stepped.listing;
         at = next;
         lines -= 1;
+    }
+    Gone {
+        listing: at,
+        asked: asked,
     }
 }
 
@@ -208,4 +235,89 @@ fn front(s: &[u8], n: usize) -> &[u8] {
         return s;
     }
     &s[0..n]
+}
+
+// `last DATE UNIT BOOK`: restart's refusal, or 0, the refusal of the question for the unit's last message, its place and the message.
+pub fn last(line: &[u8], bytes: &mut [u8]) -> bool {
+    let date = words::read_number(words::word(line, 1), 4294967295);
+    let unit = words::read_number(words::word(line, 2), 255);
+    let run = words::read_bytes(words::word(line, 3), bytes);
+    if date.ok && unit.ok && run.ok {
+        let n = run.count;
+        last_of(date.value as u32, Unit(unit.value as u8), &bytes[0..n]);
+        return true;
+    }
+    false
+}
+
+// The answer to `last` of a book.
+fn last_of(date: u32, unit: Unit, s: &[u8]) {
+    let from = book_restart::restart(date, s);
+    writing::refusal(from.refusal);
+    if from.refusal == 0 {
+        let refusal = last_message::last_refusal(from.book, unit, s);
+        let message = last_message::last_message(from.book, unit, s);
+        writing::text(b" ");
+        writing::refusal(refusal);
+        writing::next_decimal(place_of(refusal, from.book.table.entry(unit)));
+        writing::text(b" ");
+        writing::hex(message);
+    }
+}
+
+// An entry's place; 0 where the question is refused.
+fn place_of(refusal: u32, entry: Entry) -> u64 {
+    if refusal != 0 {
+        return 0;
+    }
+    entry.place.0 as u64
+}
+
+// `last-state STATE UNIT BOOK`: the same by the C calls, of a state's bytes: the refusal, the place and the message.
+pub fn last_state(line: &[u8], bytes: &mut [u8]) -> bool {
+    let mut state = [0u8; 4096];
+    let given = words::read_bytes(words::word(line, 1), &mut state);
+    let unit = words::read_number(words::word(line, 2), 255);
+    let run = words::read_bytes(words::word(line, 3), bytes);
+    if given.ok && unit.ok && run.ok {
+        let k = given.count;
+        let n = run.count;
+        last_by(unit.value as u8, &bytes[0..n], &state[0..k]);
+        return true;
+    }
+    false
+}
+
+// The answer to `last-state`.
+fn last_by(unit: u8, s: &[u8], state: &[u8]) {
+    let at = gateway::books::boe_last_at(unit, s, state);
+    let size = gateway::books::boe_last_length(unit, s, state);
+    writing::refusal(gateway::books::boe_last_refusal(unit, s, state));
+    writing::next_decimal(at as u64);
+    writing::text(b" ");
+    writing::hex(front(rest(s, at), size));
+}
+
+// `last-line UNIT BYTES`: the lines that the listing program tells of a unit, with | between them.
+pub fn last_line(line: &[u8], bytes: &mut [u8]) -> bool {
+    let unit = words::read_number(words::word(line, 1), 255);
+    let run = words::read_bytes(words::word(line, 2), bytes);
+    if unit.ok && run.ok {
+        let n = run.count;
+        last_told(Unit(unit.value as u8), &bytes[0..n]);
+        return true;
+    }
+    false
+}
+
+// The answer to `last-line` of a book.
+fn last_told(unit: Unit, s: &[u8]) {
+    if table::unit_refusal(unit) != 0 {
+        listed_line(book_lines::refusal_line(refusals::BAD_UNIT), true);
+        return;
+    }
+    let gone = listed(unit, s);
+    let told = book_listing::answer(gone.asked, gone.listing);
+    listed_line(told.first, true);
+    listed_line(told.second, false);
 }

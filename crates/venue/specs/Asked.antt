@@ -15,14 +15,13 @@ use Rattle.numbers.specs.NumberLaws.{number-back, number-after}
 use Rattle.wire.specs.Header.{typeOf}
 use Rattle.wire.specs.HeaderLaws.{Bytes}
 use Rattle.block.specs.Slots.{zeros}
-use Rattle.table.specs.Table.{lastOf}
 use Rattle.session_groups.specs.Values.{Pair, pairBytes, pairsBytes, NumbersFit, Group, groupBytes, groupsBytes, EachInOrder}
 use Rattle.session_groups.specs.Values.Group.{units, bits}
 use Rattle.session_groups.specs.GroupLaws.{at-front}
 use Rattle.session_groups.specs.ValueLaws.{GroupsValue, groups-are-a-value}
 use Rattle.session_messages.specs.Sessions.{readRefusal, bodyOf, recordOf}
 use Rattle.session_fields.specs.SessionFields.{groupFrom, requestGroup, groupFlag, listedFrom, listedAt, groupListed}
-use Rattle.venue.specs.Venues.{thresholdOf, thresholdsOf}
+use Rattle.venue.specs.Venues.{thresholdOf, thresholdsOf, wantedAbove}
 use Rattle.venue.specs.Responses.{login-long, login-short, groups-end}
 use Rattle.venue.specs.Thresholds.{threshold-at}
 
@@ -177,5 +176,5 @@ module _ (m : List ℕ) (bytes : Bytes m) (typed : typeOf m ≡ 0x37) (reads : r
       ∙ groups-asked u groups-of-login 19 (take 19 (drop 10 m)) (zeros (433 - length (drop 10 m))) front-long (value .in-order .each) n
 
   -- THRESHOLDS ARE ASKED
-  pub thresholds-are-asked : (u : ℕ) → 1 ≤ u → u ≤ 32 → lastOf (thresholdsOf (recordOf m)) u ≡ asked groups-of-login u
+  pub thresholds-are-asked : (u : ℕ) → 1 ≤ u → u ≤ 32 → wantedAbove (thresholdsOf (recordOf m)) u ≡ asked groups-of-login u
   thresholds-are-asked u h k = threshold-at (recordOf m) u h k ∙ threshold-asked u

@@ -19,9 +19,10 @@ use Rattle.numbers.specs.NumberLaws.{number-back, number-after}
 use Rattle.block.specs.Slots.{zeros}
 use Rattle.block.specs.SlotLaws.{length-zeros}
 use Rattle.table.specs.declared.Entry.{Entry}
+use Rattle.table.specs.declared.UnitNumber.{UnitNumber}
 use Rattle.table.specs.declared.Table.{Table}
-use Rattle.table.specs.Table.{unitRefusal, entryAt, blankEntry, lastOf}
-use Rattle.table.specs.TableLaws.{unit-in-range, unit-taken, entry-is, no-entry}
+use Rattle.table.specs.Table.{unitRefusal, lastOf}
+use Rattle.table.specs.TableLaws.{unit-in-range, unit-taken, no-entry}
 use Rattle.session_groups.specs.Values.{pairsBytes, groupBytes}
 use Rattle.session_groups.specs.Values.Group.{units}
 use Rattle.session_groups.specs.FullList.{listed}
@@ -33,39 +34,38 @@ use Rattle.session_logins.specs.declared.Bitfields.{Bitfields}
 use Rattle.session_logins.specs.LoginRequests.{upFrom, choiceOf, one, bitsPart, saidOf, padded, loginRecord}
 use Rattle.session_logins.specs.LoginRequestLaws.{default-lists-all, said-most}
 use Rattle.session_fields.specs.SessionFields.{groupFrom, requestGroup, groupFlag, listedFrom, groupListed}
-use Rattle.venue.specs.Venues.{unitsAt, thresholdOf, entriesFor, thresholdsOf}
-use Rattle.venue.specs.LoginLaws.{listed-number, none-wanted, all-wanted}
+use Rattle.venue.specs.Venues.{unitsAt, thresholdOf, numbersFor, thresholdsOf, wantedAbove}
+use Rattle.venue.specs.LoginLaws.{listed-number, none-wanted, all-wanted, above-is, none-above}
 
--- ---- the table of thresholds
+-- ---- the thresholds
 
-entries-at : (f : ℕ → ℕ) (n k i : ℕ) → i < n → getD (entriesFor f (upFrom n k)) i blankEntry ≡ entryAt (f (k + i))
-entries-at f zero k i h = absurd (omega (arith, h))
-entries-at f (suc n) k zero h = let z : k ≡ k + 0 = omega arith in ap (λ (j : ℕ). entryAt (f j)) z
-entries-at f (suc n) k (suc i) h = let z : suc k + i ≡ k + suc i = omega arith in entries-at f n (suc k) i (omega (arith, h)) ∙ ap (λ (j : ℕ). entryAt (f j)) z
+numbers-at : (f : ℕ → ℕ) (n k i : ℕ) (d : UnitNumber) → i < n → getD (numbersFor f (upFrom n k)) i d .0 ≡ f (k + i)
+numbers-at f zero k i d h = absurd (omega (arith, h))
+numbers-at f (suc n) k zero d h = let z : k ≡ k + 0 = omega arith in ap f z
+numbers-at f (suc n) k (suc i) d h = let z : suc k + i ≡ k + suc i = omega arith in numbers-at f n (suc k) i d (omega (arith, h)) ∙ ap f z
 
 module _ (r : Record) (u : ℕ) where
-  -- a unit's entry is its threshold
-  pub threshold-at : 1 ≤ u → u ≤ 32 → lastOf (thresholdsOf r) u ≡ thresholdOf r u
+  -- a unit's number is its threshold
+  pub threshold-at : 1 ≤ u → u ≤ 32 → wantedAbove (thresholdsOf r) u ≡ thresholdOf r u
   unfolding thresholdsOf
   threshold-at h k =
       let z : 1 + (u - 1) ≡ u = omega arith in
-      ap (λ (e : Entry). e .last .0) (entry-is (thresholdsOf r) u (unit-taken u h k) ∙ entries-at (thresholdOf r) 32 1 (u - 1) (omega arith))
-      ∙ ap (thresholdOf r) z
+      above-is (thresholdsOf r) u (unit-taken u h k) ∙ numbers-at (thresholdOf r) 32 1 (u - 1) _ (omega arith) ∙ ap (thresholdOf r) z
 
   -- LISTED ABOVE
-  pub listed-above : 1 ≤ u → u ≤ 32 → groupListed (unitsAt r) u r .there ≡ true → lastOf (thresholdsOf r) u ≡ groupListed (unitsAt r) u r .number .0
+  pub listed-above : 1 ≤ u → u ≤ 32 → groupListed (unitsAt r) u r .there ≡ true → wantedAbove (thresholdsOf r) u ≡ groupListed (unitsAt r) u r .number .0
   listed-above h k t = threshold-at h k ∙ sym (listed-number r u refl t)
 
   -- UNLISTED NONE: no number is above this
-  pub unlisted-none : 1 ≤ u → u ≤ 32 → groupListed (unitsAt r) u r .there ≡ false → groupFlag (unitsAt r) r .value ≡ 1 → lastOf (thresholdsOf r) u ≡ 4294967295
+  pub unlisted-none : 1 ≤ u → u ≤ 32 → groupListed (unitsAt r) u r .there ≡ false → groupFlag (unitsAt r) r .value ≡ 1 → wantedAbove (thresholdsOf r) u ≡ 4294967295
   unlisted-none h k t f = threshold-at h k ∙ sym (none-wanted r u refl refl t f)
 
   -- UNLISTED ALL: every number is above 0
-  pub unlisted-all : 1 ≤ u → u ≤ 32 → groupListed (unitsAt r) u r .there ≡ false → (groupFlag (unitsAt r) r .value ≡ 1 → ⊥) → lastOf (thresholdsOf r) u ≡ 0
+  pub unlisted-all : 1 ≤ u → u ≤ 32 → groupListed (unitsAt r) u r .there ≡ false → (groupFlag (unitsAt r) r .value ≡ 1 → ⊥) → wantedAbove (thresholdsOf r) u ≡ 0
   unlisted-all h k t f = threshold-at h k ∙ sym (all-wanted r u refl refl t f)
 
   -- NO GROUP ALL
-  pub no-group-all : 1 ≤ u → u ≤ 32 → unitsAt r ≡ 0 → lastOf (thresholdsOf r) u ≡ 0
+  pub no-group-all : 1 ≤ u → u ≤ 32 → unitsAt r ≡ 0 → wantedAbove (thresholdsOf r) u ≡ 0
   unfolding groupListed groupFlag
   no-group-all h k z =
       unlisted-all h k
@@ -188,10 +188,10 @@ module _ (table : Table) (names : List ℕ) (n k : ℕ) (rest : List ℕ) (long 
             ∙ v,
       )
 
-  pub all-listed : (u : ℕ) → lastOf (thresholdsOf record-of) u ≡ lastOf table u
+  pub all-listed : (u : ℕ) → wantedAbove (thresholdsOf record-of) u ≡ lastOf table u
   all-listed u = by (eqb (unitRefusal u) 0) refl
     where
-      by : (b : Bool) → eqb (unitRefusal u) 0 ≡ b → lastOf (thresholdsOf record-of) u ≡ lastOf table u
+      by : (b : Bool) → eqb (unitRefusal u) 0 ≡ b → wantedAbove (thresholdsOf record-of) u ≡ lastOf table u
       by true e =
           let i = unit-in-range u (eqb-true _ _ e) in
           let z : 1 + (u - 1) ≡ u = omega (arith, i .0) in
@@ -200,7 +200,7 @@ module _ (table : Table) (names : List ℕ) (n k : ℕ) (rest : List ℕ) (long 
           ∙ ap (λ (x : ℕ). groupListed (unitsAt record-of) x record-of .number .0) (sym z) ∙ a .1 ∙ ap (lastOf table) z
       by false e =
           let w = eqb-false _ _ e in
-          ap (λ (x : Entry). x .last .0) (no-entry (thresholdsOf record-of) u w ∙ sym (no-entry table u w))
+          none-above (thresholdsOf record-of) u w ∙ sym (ap (λ (x : Entry). x .last .0) (no-entry table u w))
 
 -- OURS AS TABLE: the bytes of a login that is built from a table with no choice given ask for what is above the table's numbers, of every unit
 module _ (table : Table) (choice : Choice) (names : List ℕ) (acknowledgments executions : Bitfields) (room : ℕ) (none : choice .which ≡ 0) (long : length names ≡ 18)
@@ -214,7 +214,7 @@ module _ (table : Table) (choice : Choice) (names : List ℕ) (acknowledgments e
       let s : List ℕ = saidOf table (choiceOf choice) names acknowledgments executions in
       record { body-length = omega (arith, length-append s (zeros (433 - length s)), length-zeros (433 - length s), said-most table (choiceOf choice) names acknowledgments executions long) }
 
-  pub ours-as-table : (u : ℕ) → lastOf (thresholdsOf (recordOf (sessionBytes (loginRecord table choice names acknowledgments executions)))) u ≡ lastOf table u
+  pub ours-as-table : (u : ℕ) → wantedAbove (thresholdsOf (recordOf (sessionBytes (loginRecord table choice names acknowledgments executions)))) u ≡ lastOf table u
   unfolding ours loginRecord
   ours-as-table u =
       let both : List ℕ = bitsPart 0x25 acknowledgments ++ bitsPart 0x2C executions in
@@ -223,6 +223,6 @@ module _ (table : Table) (choice : Choice) (names : List ℕ) (acknowledgments e
       let said : List ℕ = names ++ (suc count ∷ (groupBytes (units 1 (listed 32 1 (lastOf table))) ++ both)) in
       let b : loginRecord table choice names acknowledgments executions .body ≡ said ++ zeros (433 - length said) =
       default-lists-all table choice names acknowledgments executions none ∙ ap (λ (x : ℕ). padded (names ++ (x ∷ (groupBytes (units 1 (listed 32 1 (lastOf table))) ++ both)))) more in
-      ap (λ (r : Record). lastOf (thresholdsOf r) u) (read-again ours room ours-sound written)
-      ∙ ap (λ (l : List ℕ). lastOf (thresholdsOf (record { message = 0x37; unit = 0; number = 0; body = l })) u) b
+      ap (λ (r : Record). wantedAbove (thresholdsOf r) u) (read-again ours room ours-sound written)
+      ∙ ap (λ (l : List ℕ). wantedAbove (thresholdsOf (record { message = 0x37; unit = 0; number = 0; body = l })) u) b
       ∙ all-listed table names count (433 - length said) both long fit u

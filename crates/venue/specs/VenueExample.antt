@@ -22,7 +22,7 @@ use Rattle.session_logins.specs.LoginRequests.{choiceOf, unitsPart, bitsPart, g
 use Rattle.session_fields.specs.SessionFields.{groupFrom, requestGroup, groupFlag, listedFrom, groupListed}
 use Rattle.book.specs.Books.{roomless, messageRefusal, nextRefusal, appendRefusal, appendedBy, appendOf, appendBuffer}
 use Rattle.day_model.specs.Story.{Bytes}
-use Rattle.venue.specs.Venues.{logOf, logBuffer, sendOf, sendOut, loginReadRefusal, thresholdOf, thresholdsOf, responseRecord, loginRefusal, loginOf, passing, seek, placeOf, tellsAt, completeBytes, bytesAt, afterAt, stepOf, stepOut}
+use Rattle.venue.specs.Venues.{logOf, logBuffer, sendOf, sendOut, loginReadRefusal, thresholdOf, thresholdsOf, wantedAbove, responseRecord, loginRefusal, loginOf, passing, seek, placeOf, tellsAt, completeBytes, bytesAt, afterAt, stepOf, stepOut}
 use Rattle.venue.specs.VenueDay.{Bench, empty, adds, takesLogin, stepTo, stepSends}
 use Rattle.venue.specs.Brings.{listFor}
 
@@ -32,7 +32,7 @@ msg unit number = headerBytes 46 0x25 unit number ++ (zeros 8 ++ ((0x41 ∷ zero
 
 -- a login that lists unit 1 at 1 and leaves the others out, with flag 1
 abbrev login : Bytes
-login = logins.sessionBytes (loginRecord (raisedTable zeroTable 1 1) (record { which = 1; flag = 1; count = 1; units = record { 0 = 1 } ∷ replicate 31 (record { 0 = 0 }) }) (zeros 18) none none)
+login = logins.sessionBytes (loginRecord (raisedTable zeroTable 1 1 0) (record { which = 1; flag = 1; count = 1; units = record { 0 = 1 } ∷ replicate 31 (record { 0 = 0 }) }) (zeros 18) none none)
   where
     none : Bitfields
     none = record { given = false; count = 0; bits = zeros 15 }
@@ -48,7 +48,7 @@ later = adds 200 (msg 2 2) (stepTo 2048 (stepTo 2048 day))
 -- room nothing is
 pub a-day : (stepSends 2048 day ∷ stepSends 2048 (stepTo 2048 day) ∷ stepSends 2048 (stepTo 2048 (stepTo 2048 day)) ∷ stepSends 2048 later ∷ stepSends 47 day ∷ [])
     ≡ (msg 1 2 ∷ []) ∷ (completeBytes ∷ []) ∷ [] ∷ (msg 2 2 ∷ []) ∷ [] ∷ []
-unfolding patched lengthOf totalOf numberOf notBA startsBad lengthBad cutShort frameRefusal framed unitRefusal entryRefusal entryOf raisedTable stepRefusal dictionary.entryOf selectedAt entryAt slotsFrom hasRequired countAt mostOf unitGood fixedGood orders.readRefusal orders.headRefusal orders.blockRefusal orders.bodyRefusal orders.restOf middles.middleSize middles.middleGood lates.lacks lates.conflicts lates.lateRefusal orders.bitsOf orders.optionalOf orders.fixedOf groups.unitsFrom groups.pairsGood groups.bitsGood groups.groupKey groups.groupSize groups.nextSize groups.groupsFrom logins.readRefusal logins.fixedSize logins.valuesGood logins.flagGood logins.responseEnd logins.listsEnd logins.bodyEnd logins.bodyOf logins.writeRefusal choiceOf unitsPart bitsPart groupCount loginRecord groupFrom requestGroup groupFlag listedFrom groupListed roomless messageRefusal nextRefusal appendRefusal appendedBy appendOf appendBuffer logOf logBuffer sendOf sendOut loginReadRefusal thresholdOf thresholdsOf responseRecord loginRefusal loginOf passing seek placeOf tellsAt bytesAt afterAt stepOf stepOut
+unfolding patched lengthOf totalOf numberOf notBA startsBad lengthBad cutShort frameRefusal framed unitRefusal entryRefusal entryOf raisedTable stepRefusal dictionary.entryOf selectedAt entryAt slotsFrom hasRequired countAt mostOf unitGood fixedGood orders.readRefusal orders.headRefusal orders.blockRefusal orders.bodyRefusal orders.restOf middles.middleSize middles.middleGood lates.lacks lates.conflicts lates.lateRefusal orders.bitsOf orders.optionalOf orders.fixedOf groups.unitsFrom groups.pairsGood groups.bitsGood groups.groupKey groups.groupSize groups.nextSize groups.groupsFrom logins.readRefusal logins.fixedSize logins.valuesGood logins.flagGood logins.responseEnd logins.listsEnd logins.bodyEnd logins.bodyOf logins.writeRefusal choiceOf unitsPart bitsPart groupCount loginRecord groupFrom requestGroup groupFlag listedFrom groupListed roomless messageRefusal nextRefusal appendRefusal appendedBy appendOf appendBuffer logOf logBuffer sendOf sendOut loginReadRefusal thresholdOf thresholdsOf wantedAbove responseRecord loginRefusal loginOf passing seek placeOf tellsAt bytesAt afterAt stepOf stepOut
 a-day = refl
 
 -- and what the login brings, as one list: of the log's three messages the second of unit 1, Replay Complete, the later message

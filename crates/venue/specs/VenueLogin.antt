@@ -11,21 +11,23 @@ use borrow.Author.Tests.{eqb-true, eqb-false}
 use Rattle.wire.specs.Header.{typeOf}
 use Rattle.wire.specs.Frame.{frameRefusal, framed}
 use Rattle.table.specs.declared.Entry.{Entry}
-use Rattle.table.specs.declared.Table as table
-use Rattle.table.specs.Table.{unitRefusal, entryAt, lastOf}
-use Rattle.table.specs.TableLaws.{unit-in-range, entry-is, no-entry}
+use Rattle.table.specs.Table.{unitRefusal, lastOf}
+use Rattle.table.specs.TableLaws.{unit-in-range, no-entry}
 use Rattle.session_messages.specs.declared.Record.{Record}
 use Rattle.session_messages.specs.Sessions as logins
 use Rattle.session_messages.specs.SessionTrip.{Sound, read-accepts, framed-after, framed-as-written}
-use Rattle.session_logins.specs.LoginRequests.{upFrom, loginRecord}
+use Rattle.session_logins.specs.LoginRequests.{loginRecord}
 use Rattle.session_fields.specs.declared.ListedField.{ListedField}
 use Rattle.session_fields.specs.SessionFields.{groupFlag, groupListed}
 use Rattle.day_model.specs.Model.{Msg, Table, count, Venue, took}
 use Rattle.day_model.specs.Story.{Bytes}
 use Rattle.day_line.specs.Lines.{msgOf, lists, loginOfTable, OurLogin}
 use Rattle.day_line.specs.OurLogins.{our-units-at, our-listed, body-long, our-record, our-lists}
+use Rattle.venue.specs.declared.Thresholds.{Thresholds}
 use Rattle.venue.specs.declared.Answer.{Answer}
-use Rattle.venue.specs.Venues.{unitsAt, thresholdOf, entriesFor, thresholdsOf, loggedIn}
+use Rattle.venue.specs.Venues.{unitsAt, thresholdOf, thresholdsOf, wantedAbove, loggedIn}
+use Rattle.venue.specs.LoginLaws.{none-above}
+use Rattle.venue.specs.Thresholds as thresholds
 use Rattle.venue.specs.VenueDay.{Bench, with, accepts, takesLogin}
 use Rattle.venue.specs.VenueView.{low, viewV, GoodV}
 use Rattle.venue.specs.VenueRuns.{map-long, place-all}
@@ -35,7 +37,7 @@ use Rattle.venue.specs.VenueTaken.{Login, taken, login-answer, takes-it}
 -- ---- any login
 
 module _ (room : ℕ) (b : Bytes) (w : Bench) (g : GoodV w) (ok : accepts room b w ≡ true) where
-  abbrev t : table.Table
+  abbrev t : Thresholds
   t = thresholdsOf (logins.recordOf (framed b))
 
   logged-in : takesLogin room b w ≡ with (loggedIn (w .venue) (framed b)) w
@@ -69,39 +71,29 @@ module _ (room : ℕ) (b : Bytes) (w : Bench) (g : GoodV w) (ok : accepts room b
 
   -- the model's, with some table
   abbrev pub lowest : Table
-  lowest u = min (lastOf t u) (count u (viewV w .log))
+  lowest u = min (wantedAbove t u) (count u (viewV w .log))
 
   pub strays-is : viewV (takesLogin room b w) ≡ took lowest (viewV w)
   unfolding new-good
   strays-is =
       let ms = g .messages in
-      let e : low t (length ms) (map msgOf ms) ≡ (λ u. min (lastOf t u) (count u (map msgOf ms))) = ap (λ (l : List Msg). λ (u : ℕ). min (lastOf t u) (count u l)) all-of in
+      let e : low t (length ms) (map msgOf ms) ≡ (λ u. min (wantedAbove t u) (count u (map msgOf ms))) = ap (λ (l : List Msg). λ (u : ℕ). min (wantedAbove t u) (count u l)) all-of in
       ap viewV logged-in
       ∙ view-is (with (loggedIn (w .venue) (framed b)) w) new-good
       ∙ ap (λ (x : Table). record { log = map msgOf ms; running = true; listed = x; at = 0; upTo = length ms; told = false }) e
-      ∙ ap (λ (n : ℕ). record { log = map msgOf ms; running = true; listed = λ u. min (lastOf t u) (count u (map msgOf ms)); at = 0; upTo = n; told = false }) (sym (map-long msgOf ms))
-      ∙ ap (λ (x : Venue). took (λ u. min (lastOf t u) (count u (x .log))) x) (sym (view-is w g))
+      ∙ ap (λ (n : ℕ). record { log = map msgOf ms; running = true; listed = λ u. min (wantedAbove t u) (count u (map msgOf ms)); at = 0; upTo = n; told = false }) (sym (map-long msgOf ms))
+      ∙ ap (λ (x : Venue). took (λ u. min (wantedAbove t u) (count u (x .log))) x) (sym (view-is w g))
 
   -- a login that lists no more than the log holds: with the table of its thresholds
-  pub takes-listed : ((u : ℕ) → lastOf t u ≤ count u (viewV w .log)) → viewV (takesLogin room b w) ≡ took (lastOf t) (viewV w)
+  pub takes-listed : ((u : ℕ) → wantedAbove t u ≤ count u (viewV w .log)) → viewV (takesLogin room b w) ≡ took (wantedAbove t) (viewV w)
   takes-listed h =
-      let e : lowest ≡ lastOf t = fun-ext (λ u. omega (arith, h u)) in
+      let e : lowest ≡ wantedAbove t = fun-ext (λ u. omega (arith, h u)) in
       strays-is ∙ ap (λ (x : Table). took x (viewV w)) e
 
 -- ---- the thresholds of a login, unit by unit
 
-entries-at : (f : ℕ → ℕ) (n k i : ℕ) (d : Entry) → i < n → getD (entriesFor f (upFrom n k)) i d ≡ entryAt (f (k + i))
-entries-at f zero k i d h = absurd (omega arith)
-entries-at f (suc n) k zero d h = let z : k ≡ k + 0 = omega arith in ap (λ (x : ℕ). entryAt (f x)) z
-entries-at f (suc n) k (suc i) d h = let z : suc k + i ≡ k + suc i = omega arith in entries-at f n (suc k) i d (omega arith) ∙ ap (λ (x : ℕ). entryAt (f x)) z
-
-pub threshold-at : (r : Record) (u : ℕ) → unitRefusal u ≡ 0 → lastOf (thresholdsOf r) u ≡ thresholdOf r u
-unfolding thresholdsOf
-threshold-at r u z =
-    let h = unit-in-range u z in
-    let k : 1 + (u - 1) ≡ u = omega (arith, h .0) in
-    ap (λ (x : Entry). x .last .0) (entry-is (thresholdsOf r) u z ∙ entries-at (thresholdOf r) 32 1 (u - 1) _ (omega (arith, h .0, h .1)))
-    ∙ ap (thresholdOf r) k
+pub threshold-at : (r : Record) (u : ℕ) → unitRefusal u ≡ 0 → wantedAbove (thresholdsOf r) u ≡ thresholdOf r u
+threshold-at r u z = let h = unit-in-range u z in thresholds.threshold-at r u (h .0) (h .1)
 
 listed-threshold : (r : Record) (u n : ℕ) → groupListed (unitsAt r) u r ≡ record { there = true; number = record { 0 = n } } → thresholdOf r u ≡ n
 unfolding thresholdOf
@@ -132,14 +124,14 @@ module _ (b : Bytes) (o : OurLogin b) where
   }
 
   -- its thresholds are the numbers that it lists
-  pub our-thresholds : lastOf (thresholdsOf (logins.recordOf (framed b))) ≡ lists b
+  pub our-thresholds : wantedAbove (thresholdsOf (logins.recordOf (framed b))) ≡ lists b
   our-thresholds =
-      ap (λ (x : Bytes). lastOf (thresholdsOf (logins.recordOf x))) our-whole
-      ∙ ap (λ (r : Record). lastOf (thresholdsOf r)) (our-record o)
+      ap (λ (x : Bytes). wantedAbove (thresholdsOf (logins.recordOf x))) our-whole
+      ∙ ap (λ (r : Record). wantedAbove (thresholdsOf r)) (our-record o)
       ∙ fun-ext (λ u. by u (eqb (unitRefusal u) 0) refl)
       ∙ sym (our-lists o)
     where
-      by : (u : ℕ) (q : Bool) → eqb (unitRefusal u) 0 ≡ q → lastOf (thresholdsOf ours) u ≡ lastOf (o .table) u
+      by : (u : ℕ) (q : Bool) → eqb (unitRefusal u) 0 ≡ q → wantedAbove (thresholdsOf ours) u ≡ lastOf (o .table) u
       by u true e =
           let z = eqb-true (unitRefusal u) 0 e in
           threshold-at ours u z
@@ -147,7 +139,7 @@ module _ (b : Bytes) (o : OurLogin b) where
           (ap (λ (p : ℕ). groupListed p u ours) (our-units-at (o .table) (o .fields) (o .fit)) ∙ our-listed (o .table) (o .fields) (o .fit) u z)
       by u false e =
           let n = eqb-false (unitRefusal u) 0 e in
-          ap (λ (x : Entry). x .last .0) (no-entry (thresholdsOf ours) u n ∙ sym (no-entry (o .table) u n))
+          none-above (thresholdsOf ours) u n ∙ sym (ap (λ (x : Entry). x .last .0) (no-entry (o .table) u n))
 
 pub accepts-ours : (room : ℕ) (b : Bytes) (w : Bench) → OurLogin b → w .venue .running ≡ false → 443 ≤ room → accepts room b w ≡ true
 accepts-ours room b w o r h = takes-it (w .venue) b room r (our-login b o) h
@@ -156,5 +148,5 @@ pub takes-is : (room : ℕ) (b : Bytes) (w : Bench) → OurLogin b → accepts r
     → viewV (takesLogin room b w) ≡ took (lists b) (viewV w)
 takes-is room b w o ok g h =
     let e = our-thresholds b o in
-    takes-listed room b w g ok (λ u. (let k : lastOf (thresholdsOf (logins.recordOf (framed b))) u ≡ lists b u = ap (λ (f : Table). f u) e in omega (arith, h u, k)))
+    takes-listed room b w g ok (λ u. (let k : wantedAbove (thresholdsOf (logins.recordOf (framed b))) u ≡ lists b u = ap (λ (f : Table). f u) e in omega (arith, h u, k)))
     ∙ ap (λ (x : Table). took x (viewV w)) e

@@ -6,13 +6,14 @@ use mathlib.Core.List.{List, [], _++_, _∷_, map}
 use lib.ListN.{length, getD, take}
 use Rattle.wire.specs.Header.{unitOf, numberOf}
 use Rattle.wire.specs.Frame.{framed}
-use Rattle.table.specs.declared.Table as table
 use Rattle.table.specs.Table.{lastOf}
 use Rattle.book.specs.Books.{limit, messageRefusal}
 use Rattle.day_model.specs.Model.{Msg, Table, count, Venue}
 use Rattle.day_model.specs.Story.{Bytes, All}
 use Rattle.day_line.specs.Lines.{msgOf}
+use Rattle.venue.specs.declared.Thresholds.{Thresholds}
 use Rattle.venue.specs.declared.Venue as state
+use Rattle.venue.specs.Venues.{wantedAbove}
 use Rattle.venue.specs.VenueDay.{Bench, messagesIn}
 
 -- ---- the view
@@ -23,8 +24,8 @@ indexOf s p = length (messagesIn (take p s))
 
 -- the numbers above which messages are sent. A threshold above what the log held at the login means what the log held then: so the model's one test
 -- serves for what is filtered, logged before, and for what is not, logged later
-abbrev pub low : table.Table → ℕ → List Msg → Table
-low t j l u = min (lastOf t u) (count u (take j l))
+abbrev pub low : Thresholds → ℕ → List Msg → Table
+low t j l u = min (wantedAbove t u) (count u (take j l))
 
 abbrev pub viewV : Bench → Venue
 viewV w = record {

@@ -8,9 +8,9 @@ ghost use Rattle.session_groups.specs.Values.{pairsBytes};
 ghost use Rattle.session_logins.specs.LoginRequests.{upFrom, pairsFor};
 ghost use Rattle.venue.specs.Venues.{thresholdOf, thresholdsOf, acceptedText};
 ghost use Rattle.venue.specs.VenueStages.{listsPart, countedPart, answerPart, answerRecord};
+use crate::Thresholds;
 use crate::Venue;
 use session_messages::Record;
-use table::Entry;
 use table::OutgoingNumber;
 use table::Table;
 use table::Unit;
@@ -32,16 +32,14 @@ pub fn threshold(r: Record, unit: u8) -> u32
 }
 
 // These numbers of all 32 units.
-pub fn thresholds(r: Record) -> Table
+pub fn thresholds(r: Record) -> Thresholds
     ensures { λ t. ⌜ t ≡ thresholdsOf r ⌝ }
 {
-    let mut t = Table::new();
+    let mut t = Thresholds::new();
     let mut i: usize = 0;
     while i < 32 {
         let number = threshold(r, (i + 1) as u8);
-        t.entries[i] = Entry {
-            last: UnitNumber(number),
-        };
+        t.numbers[i] = UnitNumber(number);
         i += 1;
     }
     t

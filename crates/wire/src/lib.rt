@@ -2,6 +2,7 @@
 pub mod header;
 
 ghost use mathlib.Core.Path.{_≡_};
+ghost use lib.ListN.{take, drop};
 ghost use Rattle.refusals.specs.Names.{wrongTotal};
 ghost use Rattle.refusals.specs.Told.{told};
 ghost use Rattle.wire.specs.Header.{totalOf};
@@ -85,4 +86,19 @@ pub fn wrong_total(m: &[u8]) -> u32
 {
     let n = header::length_of(m);
     refusals::told(refusals::WRONG_TOTAL, (n as usize) + 2)
+}
+
+// The first n bytes of a buffer, as far as they are lent.
+pub fn first_part(s: &[u8], n: usize) -> &[u8]
+    ensures { λ r. ⌜ now r ≡ take n (now (s .entry)) ⌝ }
+{
+    if n < s.len() { &s[..n] } else { &s[..] }
+}
+
+// What stands from a place of a buffer on; nothing past its end.
+pub fn rest(s: &[u8], at: usize) -> &[u8]
+    ensures { λ r. ⌜ now r ≡ drop at (now (s .entry)) ⌝ }
+{
+    let n = s.len();
+    if at < n { &s[at..] } else { &s[n..] }
 }

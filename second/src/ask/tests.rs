@@ -257,7 +257,7 @@ fn book_of_document_01() {
     let book = format!("{}{}", mark, message(1));
     check(
         &format!("restart 20250819 {}BA", book),
-        &format!("0 73 0 1 {}", table),
+        &format!("0 73 0 1 {} 10{}", table, "00".repeat(127)),
     );
     check("restart 20250819 -", "22");
     check(&format!("restart 20250820 {}BA", book), "17");
@@ -312,6 +312,108 @@ fn book_of_document_01() {
         &format!("list {}BA", book),
         "mark 20250819 0 0|25 1 1 ABC123 123.4500|end 73 1",
     );
+}
+
+/// The last message of a unit, of the same book and of one with a mark and a message more.
+#[test]
+fn last_messages() {
+    let mark =
+        |count: u8, back: u8| format!("00000000C3003501{:02X}000000{:02X}000000", count, back);
+    let message = |number: u8| {
+        format!(
+            "BABA37002501{:02X}000000{}414243313233{}00010444D6120000000000",
+            number,
+            "00".repeat(8),
+            "00".repeat(22)
+        )
+    };
+    let book = format!("{}{}", mark(0, 0), message(1));
+    let longer = format!("{}{}{}", book, mark(1, 73), message(2));
+    assert_eq!(longer.len(), 2 * 146);
+    let one = format!("0 0 16 {}", message(1));
+    check(&format!("last 20250819 1 {}BA", book), &one);
+    check(&format!("last 20250819 2 {}BA", book), "0 26 0 -");
+    for unit in [0, 33, 255] {
+        check(&format!("last 20250819 {} {}BA", unit, book), "0 5 0 -");
+        check(&format!("last-state - {} {}", unit, book), "5 0 -");
+        check(&format!("last-line {} {}AB", unit, book), "5");
+    }
+    let two = format!("0 0 89 {}", message(2));
+    check(&format!("last 20250819 1 {}", longer), &two);
+    check(&format!("last 20250819 1 {}", &longer[..290]), &one);
+    check(&format!("last 20250819 1 {}", mark(0, 0)), "0 26 0 -");
+    check("last 20250832 0 -", "19");
+    check("last 20250819 0 -", "22");
+    check(&format!("last 20250820 0 {}", book), "17");
+    check(&format!("last 20250819 0 {}AB", book), "18");
+    let state = |number: u8, length: &str, place: &str| {
+        let (tables, rest) = ("00".repeat(124), "EE".repeat(8));
+        format!(
+            "{:02X}000000{}EEEEEEEE{}{}{}{}",
+            number, tables, length, rest, place, tables
+        )
+    };
+    let of_the_book = state(1, "49000000", "10000000");
+    assert_eq!(of_the_book.len(), 2 * 272);
+    let found = format!("0 16 {}", message(1));
+    check(&format!("last-state {} 1 {}", of_the_book, book), &found);
+    check(
+        &format!("last-state {}EE 1 {}EE", of_the_book, book),
+        &found,
+    );
+    check(&format!("last-state {} 2 {}", of_the_book, book), "26 0 -");
+    let short = &of_the_book[..2 * 271];
+    check(&format!("last-state {} 1 {}", short, book), "13 0 -");
+    check(&format!("last-state {} 2 {}", short, book), "13 0 -");
+    check(&format!("last-state {} 33 {}", short, book), "5 0 -");
+    let cut = &book[..2 * 72];
+    check(&format!("last-state {} 1 {}", of_the_book, cut), "18 0 -");
+    for (number, length, place, expected) in [
+        (1, "FFFFFFFF", "10000000", &found[..]),
+        (1, "48000000", "10000000", "18 0 -"),
+        (1, "00000000", "10000000", "18 0 -"),
+        (2, "49000000", "10000000", "18 0 -"),
+        (1, "49000000", "0F000000", "18 0 -"),
+        (1, "49000000", "00000000", "18 0 -"),
+        (1, "49000000", "49000000", "18 0 -"),
+        (1, "49000000", "4A000000", "18 0 -"),
+        (1, "FFFFFFFF", "FFFFFFFF", "18 0 -"),
+        (0, "49000000", "10000000", "26 0 -"),
+        (0, "49000000", "FFFFFFFF", "26 0 -"),
+    ] {
+        let state = state(number, length, place);
+        check(&format!("last-state {} 1 {}", state, book), expected);
+    }
+    let line = "25 1 1 ABC123 123.4500|at 16 57";
+    check(&format!("last-line 1 {}BA", book), line);
+    check(&format!("last-line 2 {}BA", book), "26");
+    check(
+        &format!("last-line 1 {}", longer),
+        "25 1 2 ABC123 123.4500|at 89 57",
+    );
+    check("last-line 1 -", "22");
+    check(&format!("last-line 1 {}AB", book), "18");
+    check(&format!("last-line 2 {}AB", book), "18");
+    let bad = longer.replace("010444D612", "100444D612");
+    check(&format!("last-line 1 {}", bad), "18 47");
+    for line in [
+        "last 20250819 1",
+        "last 20250819 256 -",
+        "last 20250819 - 1",
+        "last 4294967296 1 -",
+        "last 20250819 1 0",
+        "last-state - 1",
+        "last-state - 256 -",
+        "last-state 0 1 -",
+        "last-state - 1 0",
+        "last-line 1",
+        "last-line 256 -",
+        "last-line - 1",
+        "last-line 1 - -",
+        "last-lines 1 -",
+    ] {
+        check(line, "?");
+    }
 }
 
 #[test]

@@ -21,7 +21,7 @@ pub fn ask(lines: &mut Vec<String>) {
     append::ask(&mut asked, &mut random);
     for _ in 0..75 {
         // The listing has a section of its own.
-        asked.extend(group(&mut random).into_iter().take(4));
+        asked.extend(group(&mut random).lines.into_iter().take(4));
     }
     outside::ask(&mut asked);
     lines.extend(without_repeats(asked));
@@ -44,20 +44,28 @@ fn close(date: u32, book: &[u8], room: usize) -> String {
     format!("close {} {} {}", date, hex::write(book), room)
 }
 
+/// A random book, what is asked of it, and where it is cut and how it is damaged for that.
+pub struct Group {
+    pub lines: Vec<String>,
+    pub book: Made,
+    pub end: usize,
+    pub damaged: Vec<u8>,
+}
+
 /// A random book cut, or damaged or with a rejection in it, and restarted, a message appended to it, its session closed, and
 /// the listing of both.
-pub fn group(random: &mut Random) -> Vec<String> {
+pub fn group(random: &mut Random) -> Group {
     let book = random_book(random);
     let size = book.bytes.len();
-    let cut = &book.bytes[..random.between(MARK, size)];
+    let end = random.between(MARK, size);
+    let cut = &book.bytes[..end];
     let damaged = match random.below(8) {
         0 => with_rejection(random, &book),
         _ => damaged(random, &book.bytes),
     };
     // Half of the units have a number in the book, if any has.
-    let used = (1..=32).filter(|unit| book.next(*unit) > 1).max();
-    let unit = match (random.below(2), used) {
-        (0, Some(unit)) => unit,
+    let unit = match (random.below(2), book.used().last()) {
+        (0, Some(unit)) => *unit,
         _ => random.between(1, 32) as u8,
     };
     let which = some_type(random);
@@ -84,14 +92,20 @@ pub fn group(random: &mut Random) -> Vec<String> {
         0 => cut,
         _ => &book.bytes[..],
     };
-    vec![
+    let lines = vec![
         restart(book.date, cut),
         restart(book.date, &damaged),
         append(book.date, onto, room, &message),
         close(book.date, cut, random.between(0, 18)),
         listing::line(cut),
         listing::line(&damaged),
-    ]
+    ];
+    Group {
+        lines,
+        book,
+        end,
+        damaged,
+    }
 }
 
 /// A rejection before one of the book's marks and messages, or at its end: a book holds none.

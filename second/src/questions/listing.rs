@@ -72,7 +72,7 @@ pub fn ask(lines: &mut Vec<String>) {
     identifiers(&mut asked, &mut random);
     asked.extend(changed_books().iter().map(|book| line(book)));
     for _ in 0..60 {
-        asked.extend(group(&mut random).into_iter().skip(4));
+        asked.extend(group(&mut random).lines.into_iter().skip(4));
         let book = random_book(&mut random);
         let mut bytes = damaged(&mut random, &book.bytes);
         bytes = damaged(&mut random, &bytes);

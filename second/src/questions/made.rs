@@ -26,6 +26,8 @@ pub struct Made {
     pub last: usize,
     pub count: u32,
     pub entries: [u32; 33],
+    /// Where each unit's last message starts.
+    pub places: [u32; 33],
 }
 
 impl Made {
@@ -37,6 +39,7 @@ impl Made {
             last: 0,
             count: 0,
             entries: [0; 33],
+            places: [0; 33],
         }
     }
 
@@ -54,6 +57,7 @@ impl Made {
         self.entries[usize::from(unit)] += 1;
         sample.unit = unit;
         sample.number = self.entries[usize::from(unit)];
+        self.places[usize::from(unit)] = self.bytes.len() as u32;
         self.starts.push(self.bytes.len());
         self.bytes.extend(sample.bytes());
         self.count += 1;
@@ -62,6 +66,35 @@ impl Made {
 
     pub fn next(&self, unit: u8) -> u32 {
         self.entries[usize::from(unit)] + 1
+    }
+
+    /// The book without what does not end before `end`.
+    pub fn cut(&self, end: usize) -> Made {
+        let ends = self.starts[1..].iter().copied().chain([self.bytes.len()]);
+        let mut cut = Made::new(self.date);
+        for (start, after) in self.starts.iter().copied().zip(ends).skip(1) {
+            let part = &self.bytes[start..after];
+            if after > end {
+                break;
+            }
+            cut.bytes.extend(part);
+            cut.starts.push(start);
+            match part[0] {
+                0 => cut.last = start,
+                _ => {
+                    let unit = usize::from(part[5]);
+                    cut.count += 1;
+                    cut.entries[unit] += 1;
+                    cut.places[unit] = start as u32;
+                }
+            }
+        }
+        cut
+    }
+
+    /// The units that have a message.
+    pub fn used(&self) -> Vec<u8> {
+        (1..=32).filter(|unit| self.next(*unit) > 1).collect()
     }
 }
 

@@ -9,7 +9,7 @@ use super::session::sample::{
     Sample as Session, CLIENT_HEARTBEAT, LOGIN, LOGOUT, REPLAY_COMPLETE, RESPONSE, SERVER_HEARTBEAT,
 };
 use super::writing::{self, pattern};
-use super::{book, reading};
+use super::{book, last, reading};
 use crate::random::Random;
 use crate::rules::layout;
 use std::collections::VecDeque;
@@ -91,14 +91,22 @@ impl More {
         }
     }
 
-    /// One time in nine six questions of a day book, three times four of the session, else four of
+    /// One time in nine nine questions of a day book, three times four of the session, else four of
     /// a message with bitfields.
     fn group(&mut self) {
         match self.random.below(9) {
-            0 => self.waiting.extend(book::group(&mut self.random)),
+            0 => self.nine(),
             1..=3 => self.four::<Session>(&SESSION_TYPES),
             _ => self.four::<Sample>(&TYPES),
         }
+    }
+
+    /// A day book, and the last messages of its units.
+    fn nine(&mut self) {
+        let group = book::group(&mut self.random);
+        let lasts = last::three(&mut self.random, &group);
+        self.waiting.extend(group.lines);
+        self.waiting.extend(lasts);
     }
 
     /// A message, its record, and both of them damaged.
@@ -229,12 +237,24 @@ mod tests {
             "list mark",
             "list 18",
             "list 22",
+            "last 0",
+            "last-state 0",
+            "last-state 5",
+            "last-state 13",
+            "last-state 18",
+            "last-state 26",
+            "last-line 5",
+            "last-line 18",
+            "last-line 22",
+            "last-line 25",
+            "last-line 26",
+            "last-line 2C",
         ] {
             expected.insert(answer.to_string());
         }
         assert_eq!(seen, expected);
         assert_eq!(types.len(), 16);
-        assert!((1_600..2_200).contains(&of_books));
+        assert!((2_300..3_000).contains(&of_books));
         assert!((3_200..4_400).contains(&of_the_session));
     }
 }

@@ -62,6 +62,7 @@ impl Member {
             last: 0,
             count: 0,
             table: [0; table::SIZE],
+            places: [0; table::SIZE],
         };
         Member::closed(book, Market::Equities)
     }

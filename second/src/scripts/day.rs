@@ -41,10 +41,11 @@ pub fn day(driver: &mut Driver, days: &Days) {
         .collect();
     driver.choices = days.choices;
     driver.options = days.options;
-    if driver.lines.len() > 1 {
+    if driver.count() > 1 {
         driver.books();
         let zeros = "00".repeat(128);
-        driver.ask(format!("v-state 0 0 0 0 0 0 {} {}", zeros, zeros));
+        let blank = format!("v-state 0 0 0 0 0 0 {} {} {}", zeros, zeros, zeros);
+        driver.ask(blank);
         driver.to_venue.clear();
     }
     driver.open();
@@ -246,6 +247,7 @@ mod tests {
     use super::*;
     use crate::random::Random;
     use crate::rules::frame;
+    use crate::rules::table::entry;
 
     /// The messages among the bytes of a book or a log; marks are left out.
     fn messages(mut bytes: &[u8]) -> Vec<&[u8]> {
@@ -284,6 +286,15 @@ mod tests {
             let log = messages(&bench.log[..bench.venue.length]);
             assert_eq!(book, log);
             assert_eq!(bench.member.book.table, bench.venue.table);
+            for unit in 1..=32 {
+                // The same messages are the last ones of the log.
+                let place = entry(&bench.venue.places, unit) as usize;
+                let last = bench.member.book.last_of(unit, &bench.book);
+                match last {
+                    Ok((_, message)) => assert!(bench.log[place..].starts_with(message)),
+                    Err(refusal) => assert_eq!((refusal.number(), place), (26, 0)),
+                }
+            }
             assert!(log.len() >= 4);
             checked += 1;
         }

@@ -1,6 +1,7 @@
 //! Asks questions of a bench of its own, so that it knows what each side has sent, and keeps what
 //! is on the line between them.
 
+use super::last;
 use crate::ask;
 use crate::bench::Bench;
 use crate::hex;
@@ -27,6 +28,9 @@ pub type Step = fn(&mut Driver);
 pub struct Driver {
     pub bench: Bench,
     pub random: Random,
+    /// What is asked about last messages has random numbers of its own, and so leaves the days as they
+    /// are.
+    pub lasts: Random,
     pub lines: Vec<String>,
     /// What the venue sent and the member has not got yet, first first.
     pub to_member: VecDeque<Vec<u8>>,
@@ -52,9 +56,11 @@ pub struct Driver {
 impl Driver {
     /// Begins with `new`.
     pub fn new(random: Random) -> Driver {
+        let lasts = Random::new(random.clone().next());
         let mut driver = Driver {
             bench: Bench::new(),
             random,
+            lasts,
             lines: Vec::new(),
             to_member: VecDeque::new(),
             to_venue: VecDeque::new(),
@@ -86,10 +92,21 @@ impl Driver {
         Some(message.to_vec())
     }
 
+    /// Now and then a question of the member is followed by one about a last message.
     fn answer(&mut self, line: String) -> String {
         let answer = ask::answer_on(&mut self.bench, line.as_bytes());
+        let followed = line.starts_with("m-") && line != "m-book" && answer != "?";
         self.lines.push(line);
+        if followed && self.lasts.below(10) == 0 {
+            last::ask(self);
+        }
         answer
+    }
+
+    /// The lines but for those about last messages.
+    pub fn count(&self) -> usize {
+        let other = |line: &&String| !line.starts_with("m-last ");
+        self.lines.iter().filter(other).count()
     }
 
     /// True one time in `times`.
@@ -338,12 +355,13 @@ impl Driver {
 
     /// Both books at the end, after states whose books can be shown.
     pub fn end(&mut self) {
-        let zeros = "00".repeat(128);
+        let zeros = &"00".repeat(128)[..];
         if self.bench.member.book.length > SHOWN {
-            self.ask(format!("m-state 0 0 0 0 {} 0 0 {}", SHOWN, zeros));
+            self.ask(format!("m-state 0 0 0 0 {} 0 0 {} {}", SHOWN, zeros, zeros));
         }
         if self.bench.venue.length > SHOWN {
-            self.ask(format!("v-state 0 0 0 0 {} 0 {} {}", SHOWN, zeros, zeros));
+            let tables = [zeros; 3].join(" ");
+            self.ask(format!("v-state 0 0 0 0 {} 0 {}", SHOWN, tables));
         }
         self.books();
     }

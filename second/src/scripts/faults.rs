@@ -216,7 +216,7 @@ pub fn set_phase(driver: &mut Driver, phase: u8, outgoing: u32) {
 pub fn set_market(driver: &mut Driver, phase: u8, outgoing: u32, market: Market) {
     let book = &driver.bench.member.book;
     let line = format!(
-        "m-state {} {} {} {} {} {} {} {}",
+        "m-state {} {} {} {} {} {} {} {} {}",
         phase,
         outgoing,
         market as u8,
@@ -224,7 +224,8 @@ pub fn set_market(driver: &mut Driver, phase: u8, outgoing: u32, market: Market)
         book.length,
         book.last,
         book.count,
-        hex::write(&book.table)
+        hex::write(&book.table),
+        hex::write(&book.places)
     );
     driver.ask(line);
 }

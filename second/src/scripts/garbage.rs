@@ -2,6 +2,7 @@
 //! numbers, places inside messages, bytes that do not frame.
 
 use super::driver::{Driver, SHOWN};
+use super::last;
 use super::wrong;
 use crate::bench::BUFFER;
 use crate::hex;
@@ -60,7 +61,7 @@ fn some_room(random: &mut Random) -> usize {
     }
 }
 
-fn some_length(random: &mut Random) -> u32 {
+pub fn some_length(random: &mut Random) -> u32 {
     match random.below(3) {
         0 => LENGTHS[random.between(0, LENGTHS.len() - 1)],
         1 => random.between(0, 300) as u32,
@@ -96,6 +97,9 @@ fn some_table(random: &mut Random) -> [u8; SIZE] {
 // The member.
 
 fn member(driver: &mut Driver) {
+    if driver.lasts.below(4) == 0 {
+        last::fill_book(driver);
+    }
     let random = &mut driver.random;
     let phase = random.pick(&[0, 1, 1, 2, 2, 3, 3, 3]);
     let length = some_length(random);
@@ -115,19 +119,26 @@ fn member(driver: &mut Driver) {
         0 => random.number(),
         _ => 20_250_819,
     };
+    let (outgoing, market) = (some_number(random), random.below(2));
+    let mut table = some_table(random);
+    let places = last::places(driver, &mut table);
     let line = format!(
-        "m-state {} {} {} {} {} {} {} {}",
+        "m-state {} {} {} {} {} {} {} {} {}",
         phase,
-        some_number(random),
-        random.below(2),
+        outgoing,
+        market,
         date,
         length,
         last,
         count,
-        hex::write(&some_table(random))
+        hex::write(&table),
+        hex::write(&places)
     );
     driver.date = date;
     driver.ask(line);
+    for _ in 0..driver.lasts.between(1, 2) {
+        last::ask(driver);
+    }
     for _ in 0..driver.random.between(2, 6) {
         member_call(driver);
     }
@@ -144,7 +155,9 @@ fn member_call(driver: &mut Driver) {
             let message = numbered(driver);
             let room = about(driver, driver.bench.member.book.length + message.len());
             let call = driver.call_for(&message);
-            driver.get_by(call, &message, room);
+            if driver.get_by(call, &message, room) == "0" {
+                last::ask(driver);
+            }
         }
         5 => {
             let room = about(driver, driver.bench.member.book.length + 16);
@@ -221,8 +234,9 @@ fn venue(driver: &mut Driver) {
         0 => some_table(random),
         _ => low_table(random),
     };
+    let places = last::any_places(&mut driver.lasts);
     let line = format!(
-        "v-state {} {} {} {} {} {} {} {}",
+        "v-state {} {} {} {} {} {} {} {} {}",
         random.pick(&[0, 1, 1, 1, 1, 1, 1, 1]),
         random.pick(&[0, 0, 0, 1]),
         at,
@@ -230,7 +244,8 @@ fn venue(driver: &mut Driver) {
         length,
         some_number(random),
         hex::write(&thresholds),
-        hex::write(&some_table(random))
+        hex::write(&some_table(random)),
+        hex::write(&places)
     );
     driver.ask(line);
     for _ in 0..driver.random.between(3, 7) {
@@ -264,8 +279,8 @@ fn fill_log(driver: &mut Driver) {
     }
     let zeros = "00".repeat(SIZE);
     let start = 48 * driver.random.between(0, 3);
-    let line = format!("v-state 0 0 0 0 {} 0 {} {}", start, zeros, zeros);
-    driver.ask(line);
+    let tables = [&zeros[..]; 3].join(" ");
+    driver.ask(format!("v-state 0 0 0 0 {} 0 {}", start, tables));
     for _ in 0..driver.random.between(2, 4) {
         let mut sample = Sample::least(&mut driver.random, ACKNOWLEDGMENT);
         let random = &mut driver.random;

@@ -13,15 +13,30 @@ pub fn lines(driver: &mut Driver) -> Vec<String> {
     let table = "00".repeat(128);
     let (less, more) = (&table[2..], format!("{}00", table));
     for bad in [less, &more, "-", &table[1..]] {
-        lines.push(format!("m-state 0 0 0 0 0 0 0 {}", bad));
-        lines.push(format!("v-state 0 0 0 0 0 0 {} {}", bad, table));
-        lines.push(format!("v-state 0 0 0 0 0 0 {} {}", table, bad));
+        for tables in [[bad, &table], [&table, bad]] {
+            lines.push(format!("m-state 0 0 0 0 0 0 0 {}", tables.join(" ")));
+        }
+        for place in 0..3 {
+            let mut tables = [&table[..]; 3];
+            tables[place] = bad;
+            lines.push(format!("v-state 0 0 0 0 0 0 {}", tables.join(" ")));
+        }
+    }
+    // A table too few or too many.
+    for count in [1, 3] {
+        let tables = vec![&table[..]; count].join(" ");
+        lines.push(format!("m-state 0 0 0 0 0 0 0 {}", tables));
+    }
+    for count in [2, 4] {
+        let tables = vec![&table[..]; count].join(" ");
+        lines.push(format!("v-state 0 0 0 0 0 0 {}", tables));
     }
     for numbers in OF_MEMBER {
-        lines.push(format!("m-state {} {}", numbers, table));
+        lines.push(format!("m-state {} {} {}", numbers, table, table));
     }
     for numbers in OF_VENUE {
-        lines.push(format!("v-state {} {} {}", numbers, table, table));
+        let tables = [&table[..]; 3].join(" ");
+        lines.push(format!("v-state {} {}", numbers, tables));
     }
     lines.extend(logins(driver));
     let cancel = Sample::least(&mut driver.random, CANCEL).record();
@@ -180,6 +195,21 @@ const FIXED: &[&str] = &[
     "m-break -",
     "m-book ",
     "m-book 0",
+    "m-last",
+    "m-last 1",
+    "m-last 1 16385",
+    "m-last 256 100",
+    "m-last 4294967297 100",
+    "m-last -1 100",
+    "m-last - 100",
+    "m-last 1 -",
+    "m-last 1 100 100",
+    "m-last  1 100",
+    "m-last 1 100 ",
+    "m-last 000000000000000000001 100",
+    "m-Last 1 100",
+    "m-lasts 1 100",
+    "v-last 1 100",
     "m-login",
     "m-login 0 0 0 - - 0 0 - 0 0 - 250",
     "v-log",

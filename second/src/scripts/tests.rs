@@ -2,6 +2,7 @@ use super::driver::GETS;
 use super::*;
 use crate::ask;
 use crate::bench::Bench;
+use crate::rules::{book, listing};
 use std::collections::{BTreeMap, BTreeSet};
 
 /// The stored scripts, each a list of questions with their answers.
@@ -40,7 +41,7 @@ fn shapes() {
         let last = &script[script.len() - 2..];
         assert_eq!((&last[0].0[..], &last[1].0[..]), ("m-book", "v-book"));
     }
-    assert!(size < 7_500_000);
+    assert!(size < 8_200_000);
 }
 
 /// Each question is answered with each number that it can give, and with no other. What comes
@@ -69,6 +70,7 @@ fn each_question_gets_each_refusal() {
         ("m-response", "0 1 2 3 4 5 6 10 11 16"),
         ("m-order", "0 4 5 7 8 9 10 12 13 16 20 23"),
         ("m-beat", "0 13 16"),
+        ("m-last", "0 5 18 26"),
         ("v-log", "0 1 2 3 4 5 6 7 8 10 13 14 15"),
         ("v-login", "0 1 2 3 4 5 6 10 11 13 16"),
         ("v-step", "0 13 16"),
@@ -112,6 +114,7 @@ fn lines_outside_the_format() {
         "m-beat",
         "m-break",
         "m-book",
+        "m-last",
         "v-state",
         "v-log",
         "v-login",
@@ -245,12 +248,12 @@ fn member_of(question: &str, answer: &str) -> Option<String> {
     let first = match question.split(' ').next()? {
         "m-get" => 2,
         "m-state" | "m-break" => 0,
-        "m-book" => return None,
+        "m-book" | "m-last" => return None,
         call if call.starts_with("m-") => 1,
         _ => return None,
     };
     let words: Vec<&str> = answer.split(' ').collect();
-    Some(words.get(first..first + 8)?.join(" "))
+    Some(words.get(first..first + 9)?.join(" "))
 }
 
 /// What the member books and what is handed to the desk, in the order in which it comes: of a replay
@@ -494,6 +497,54 @@ fn ends_of_replays() {
     assert!(count("C") > 80);
     for (what, least) in [("bbC", 15), ("rbC", 5), ("brC", 5), ("l", 10), ("n", 20)] {
         assert!(count(what) >= least, "{} {}", what, count(what));
+    }
+}
+
+/// What is asked about last messages changes nothing. In each phase it gets each of its numbers. Where the book is the
+/// one that a restart would find, and is lent whole, the answer is what a reading from the front finds last.
+#[test]
+fn last_messages() {
+    let mut seen: BTreeMap<u8, BTreeSet<String>> = BTreeMap::new();
+    let mut bench = Bench::new();
+    let (mut read, mut found) = (0, 0);
+    for (question, answer) in answered().concat() {
+        let before = bench.member.clone();
+        assert_eq!(ask::answer_on(&mut bench, question.as_bytes()), answer);
+        let words: Vec<&str> = question.split(' ').collect();
+        let (unit, room) = match words[..] {
+            ["m-last", unit, room] if answer != "?" => (unit, room),
+            _ => continue,
+        };
+        assert_eq!(bench.member, before);
+        let number = answer.split(' ').next().unwrap().to_string();
+        assert_eq!(number != "0", answer.ends_with(" 0 -"));
+        let phase = before.phase as u8;
+        seen.entry(phase).or_default().insert(number);
+        let book = before.book;
+        let (unit, room): (u8, usize) = (unit.parse().unwrap(), room.parse().unwrap());
+        if room < book.length {
+            continue;
+        }
+        let bytes = &bench.book[..book.length];
+        if book::restart(book.date, bytes) == Ok(book) {
+            let lines = listing::last_lines(unit, bytes);
+            let words: Vec<&str> = answer.split(' ').collect();
+            match &lines[..] {
+                [_, at] => {
+                    let size = words[2].len() / 2;
+                    assert_eq!(*at, format!("at {} {}", words[1], size));
+                    found += 1;
+                }
+                _ => assert_eq!(lines, [words[0]]),
+            }
+            read += 1;
+        }
+    }
+    assert!(read > 400 && found > 250, "{} {}", read, found);
+    assert_eq!(seen.len(), 4);
+    for numbers in seen.values() {
+        let all: Vec<&str> = numbers.iter().map(String::as_str).collect();
+        assert_eq!(all, ["0", "18", "26", "5"]);
     }
 }
 

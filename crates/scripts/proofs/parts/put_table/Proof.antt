@@ -7,10 +7,10 @@ use Rattle.scripts.proofs.parts.put_table.Statement.{statement}
 use Rattle.scripts.proofs.parts.put_table.Tie as tie
 
 abbrev Inv-loop : tie.InvT-loop
-Inv-loop t out₀ u₀ out u = (1 ≤ u) × (u ≤ 33) × (length out ≡ length out₀)
+Inv-loop t first₀ second₀ u₀ first second u = (1 ≤ u) × (u ≤ 33) × (length first ≡ length first₀) × (length second ≡ length second₀)
 
 abbrev μ-loop : tie.MeasureT-loop
-μ-loop t out₀ u₀ out u = 33 - u
+μ-loop t first₀ second₀ u₀ first second u = 33 - u
 
 loop-holds : tie.Need-loop-holds Inv-loop μ-loop
 loop-holds c = omega arith
@@ -18,17 +18,20 @@ loop-holds c = omega arith
 entry-requires : tie.Need-entry-requires Inv-loop μ-loop
 entry-requires c κs = tt
 
-cast-write-u32 : tie.Need-cast-write-u32 Inv-loop μ-loop
-cast-write-u32 c = omega arith
+cast-at : tie.Need-cast-at Inv-loop μ-loop
+cast-at c = omega arith
 
-sub-write-u32 : tie.Need-sub-write-u32 Inv-loop μ-loop
-sub-write-u32 c = omega arith
+sub-at : tie.Need-sub-at Inv-loop μ-loop
+sub-at c = omega arith
 
-mul-write-u32 : tie.Need-mul-write-u32 Inv-loop μ-loop
-mul-write-u32 c = omega arith
+mul-at : tie.Need-mul-at Inv-loop μ-loop
+mul-at c = omega arith
 
 write-u32-requires : tie.Need-write-u32-requires Inv-loop μ-loop
 write-u32-requires c κs = tt
+
+write-u32-requires-2 : tie.Need-write-u32-requires-2 Inv-loop μ-loop
+write-u32-requires-2 c κs = tt
 
 add-u : tie.Need-add-u Inv-loop μ-loop
 add-u c = omega arith
@@ -42,6 +45,9 @@ loop-again c = omega arith
 same-length : tie.Need-same-length Inv-loop μ-loop
 same-length c = omega arith
 
+same-length-2 : tie.Need-same-length-2 Inv-loop μ-loop
+same-length-2 c = omega arith
+
 returns : tie.Need-returns Inv-loop μ-loop
 returns c = tt
 
@@ -53,12 +59,14 @@ put-table-spec =
     μ-loop
     loop-holds
     entry-requires
-    cast-write-u32
-    sub-write-u32
-    mul-write-u32
+    cast-at
+    sub-at
+    mul-at
     write-u32-requires
+    write-u32-requires-2
     add-u
     loop-less
     loop-again
     same-length
+    same-length-2
     returns)

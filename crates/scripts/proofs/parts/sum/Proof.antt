@@ -14,8 +14,8 @@ abbrev μ-loop : tie.MeasureT-loop
 loop-holds : tie.Need-loop-holds Inv-loop μ-loop
 loop-holds c = omega arith
 
-entry-requires : tie.Need-entry-requires Inv-loop μ-loop
-entry-requires c κs = tt
+above-requires : tie.Need-above-requires Inv-loop μ-loop
+above-requires c κs = tt
 
 wide-requires : tie.Need-wide-requires Inv-loop μ-loop
 wide-requires c κs = tt
@@ -42,7 +42,7 @@ sum-spec =
     Inv-loop
     μ-loop
     loop-holds
-    entry-requires
+    above-requires
     wide-requires
     add-total
     add-u

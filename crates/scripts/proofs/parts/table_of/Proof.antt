@@ -5,10 +5,10 @@ use Rattle.scripts.proofs.parts.table_of.Statement.{statement}
 use Rattle.scripts.proofs.parts.table_of.Tie as tie
 
 abbrev Inv-loop : tie.InvT-loop
-Inv-loop bytes t₀ i₀ t i = i ≤ 32
+Inv-loop first second t₀ i₀ t i = i ≤ 32
 
 abbrev μ-loop : tie.MeasureT-loop
-μ-loop bytes t₀ i₀ t i = 32 - i
+μ-loop first second t₀ i₀ t i = 32 - i
 
 new-requires : tie.Need-new-requires Inv-loop μ-loop
 new-requires c κs = tt
@@ -22,8 +22,14 @@ mul-read-u32 c = omega arith
 read-u32-requires : tie.Need-read-u32-requires Inv-loop μ-loop
 read-u32-requires c κs = tt
 
-mul-t7 : tie.Need-mul-t7 Inv-loop μ-loop
-mul-t7 c = omega arith
+mul-read-u32-2 : tie.Need-mul-read-u32-2 Inv-loop μ-loop
+mul-read-u32-2 c = omega arith
+
+read-u32-requires-2 : tie.Need-read-u32-requires-2 Inv-loop μ-loop
+read-u32-requires-2 c κs = tt
+
+mul-t9 : tie.Need-mul-t9 Inv-loop μ-loop
+mul-t9 c = omega arith
 
 element-set-from-t : tie.Need-element-set-from-t Inv-loop μ-loop
 element-set-from-t c = omega arith
@@ -50,7 +56,9 @@ table-of-spec =
     loop-holds
     mul-read-u32
     read-u32-requires
-    mul-t7
+    mul-read-u32-2
+    read-u32-requires-2
+    mul-t9
     element-set-from-t
     add-i
     loop-less

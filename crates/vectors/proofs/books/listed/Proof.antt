@@ -4,13 +4,16 @@ use Rattle.vectors.proofs.books.listed.Statement.{statement}
 use Rattle.vectors.proofs.books.listed.Tie as tie
 
 abbrev Inv-loop : tie.InvT-loop
-Inv-loop s at₀ pos₀ lines₀ at pos lines = Unit {0}
+Inv-loop unit s at₀ asked₀ pos₀ lines₀ at asked pos lines = Unit {0}
 
 abbrev μ-loop : tie.MeasureT-loop
-μ-loop s at₀ pos₀ lines₀ at pos lines = lines
+μ-loop unit s at₀ asked₀ pos₀ lines₀ at asked pos lines = lines
 
 start-requires : tie.Need-start-requires Inv-loop μ-loop
 start-requires c κs = tt
+
+ask-requires : tie.Need-ask-requires Inv-loop μ-loop
+ask-requires c κs = tt
 
 loop-holds : tie.Need-loop-holds Inv-loop μ-loop
 loop-holds c = tt
@@ -23,6 +26,9 @@ step-requires c κs = tt
 
 listed-line-requires : tie.Need-listed-line-requires Inv-loop μ-loop
 listed-line-requires c κs = tt
+
+kept-requires : tie.Need-kept-requires Inv-loop μ-loop
+kept-requires c κs = tt
 
 next-place-requires : tie.Need-next-place-requires Inv-loop μ-loop
 next-place-requires c κs = tt
@@ -46,10 +52,12 @@ listed-spec =
     Inv-loop
     μ-loop
     start-requires
+    ask-requires
     loop-holds
     rest-requires
     step-requires
     listed-line-requires
+    kept-requires
     next-place-requires
     sub-lines
     loop-less

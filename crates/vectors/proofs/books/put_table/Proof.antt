@@ -7,10 +7,10 @@ use Rattle.vectors.proofs.books.put_table.Statement.{statement}
 use Rattle.vectors.proofs.books.put_table.Tie as tie
 
 abbrev Inv-loop : tie.InvT-loop
-Inv-loop b out₀ u₀ out u = (1 ≤ u) × (u ≤ 33) × (length out ≡ length out₀)
+Inv-loop b places out₀ u₀ out u = (1 ≤ u) × (u ≤ 33) × (length out ≡ length out₀)
 
 abbrev μ-loop : tie.MeasureT-loop
-μ-loop b out₀ u₀ out u = 33 - u
+μ-loop b places out₀ u₀ out u = 33 - u
 
 loop-holds : tie.Need-loop-holds Inv-loop μ-loop
 loop-holds c = omega arith
@@ -26,6 +26,9 @@ sub-write-u32 c = omega arith
 
 mul-write-u32 : tie.Need-mul-write-u32 Inv-loop μ-loop
 mul-write-u32 c = omega arith
+
+part-of-requires : tie.Need-part-of-requires Inv-loop μ-loop
+part-of-requires c κs = tt
 
 write-u32-requires : tie.Need-write-u32-requires Inv-loop μ-loop
 write-u32-requires c κs = tt
@@ -56,6 +59,7 @@ put-table-spec =
     cast-write-u32
     sub-write-u32
     mul-write-u32
+    part-of-requires
     write-u32-requires
     add-u
     loop-less
