@@ -6,15 +6,6 @@ use crate::say;
 use asking::writing;
 use book_lines::Line;
 
-// The first n bytes of a book, as far as they are lent.
-fn first_part(book: &[u8], n: usize) -> &[u8] {
-    if n < book.len() {
-        &book[..n]
-    } else {
-        &book[..]
-    }
-}
-
 // The power fails: of our book the first n bytes are on the disk, and the session is gone from memory.
 pub fn power_fails(b: Bench, n: u32) -> Bench {
     let v = b.venue;
@@ -33,7 +24,7 @@ pub fn power_fails(b: Bench, n: u32) -> Bench {
 
 // Our gateway restarts for a date from the first n bytes of a book.
 pub fn restarts(b: Bench, date: u32, book: &Room, n: u32) -> Bench {
-    let answer = book_restart::restart(date, first_part(book, n as usize));
+    let answer = book_restart::restart(date, wire::first_part(book, n as usize));
     say::count(b" and restarts for ", date as u64, b": ");
     if answer.refusal != 0 {
         say::refusal(answer.refusal);
@@ -67,7 +58,7 @@ fn put(l: Line) {
 
 // The listing of our book.
 pub fn lists(b: Bench, book: &Room) {
-    let part = first_part(book, bench::length_of(b) as usize);
+    let part = wire::first_part(book, bench::length_of(b) as usize);
     let mut at = book_listing::start();
     let mut place: usize = 0;
     loop {

@@ -235,18 +235,20 @@ fn read_and_write_of_the_session() {
     );
 }
 
+/// The acknowledgment in the book of document 01's listing, with a number.
+fn message(number: u8) -> String {
+    format!(
+        "BABA37002501{:02X}000000{}414243313233{}00010444D6120000000000",
+        number,
+        "00".repeat(8),
+        "00".repeat(22)
+    )
+}
+
 /// The book of document 01's listing, and what is done with it.
 #[test]
 fn book_of_document_01() {
     let mark = "00000000C30035010000000000000000";
-    let message = |number: u8| {
-        format!(
-            "BABA37002501{:02X}000000{}414243313233{}00010444D6120000000000",
-            number,
-            "00".repeat(8),
-            "00".repeat(22)
-        )
-    };
     check("open 20250819 -", "13 -");
     check("open 20250832 -", "19 -");
     check(
@@ -319,14 +321,6 @@ fn book_of_document_01() {
 fn last_messages() {
     let mark =
         |count: u8, back: u8| format!("00000000C3003501{:02X}000000{:02X}000000", count, back);
-    let message = |number: u8| {
-        format!(
-            "BABA37002501{:02X}000000{}414243313233{}00010444D6120000000000",
-            number,
-            "00".repeat(8),
-            "00".repeat(22)
-        )
-    };
     let book = format!("{}{}", mark(0, 0), message(1));
     let longer = format!("{}{}{}", book, mark(1, 73), message(2));
     assert_eq!(longer.len(), 2 * 146);
