@@ -183,7 +183,7 @@ fn listed(unit: Unit, s: &[u8]) -> Gone {
     let mut pos: usize = 0;
     let mut lines: u32 = 8192;
     while lines > 0 {
-        let stepped = book_listing::step(at, rest(s, pos), true);
+        let stepped = book_listing::step(at, wire::rest(s, pos), true);
         if unit.0 == 0 {
             listed_line(stepped.line, lines == 8192);
         }
@@ -197,12 +197,6 @@ fn listed(unit: Unit, s: &[u8]) -> Gone {
         listing: at,
         asked: asked,
     }
-}
-
-// What stands from a place on; nothing past the end.
-fn rest(s: &[u8], pos: usize) -> &[u8] {
-    let n = s.len();
-    if pos < n { &s[pos..] } else { &s[n..] }
 }
 
 // A place so many bytes on, and no farther than the end.
@@ -226,15 +220,7 @@ fn listed_line(l: Line, first: bool) {
     if !first {
         writing::text(b"|");
     }
-    writing::text(front(&text, n - 1));
-}
-
-// The first n bytes, or all where there are fewer.
-fn front(s: &[u8], n: usize) -> &[u8] {
-    if s.len() < n {
-        return s;
-    }
-    &s[0..n]
+    writing::text(wire::first_part(&text, n - 1));
 }
 
 // `last DATE UNIT BOOK`: restart's refusal, or 0, the refusal of the question for the unit's last message, its place and the message.
@@ -295,7 +281,7 @@ fn last_by(unit: u8, s: &[u8], state: &[u8]) {
     writing::refusal(gateway::books::boe_last_refusal(unit, s, state));
     writing::next_decimal(at as u64);
     writing::text(b" ");
-    writing::hex(front(rest(s, at), size));
+    writing::hex(wire::first_part(wire::rest(s, at), size));
 }
 
 // `last-line UNIT BYTES`: the lines that the listing program tells of a unit, with | between them.
