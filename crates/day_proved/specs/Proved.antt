@@ -6,7 +6,7 @@ use mathlib.Core.Bool.{Bool, true, false}
 use mathlib.Core.List.{List, [], _∷_, map}
 use native.Mathlib.Omega.{arith}
 use lib.Dec.{eqb}
-use lib.ListN.{length, take, length-append}
+use lib.ListN.{length, take}
 use lib.Seq.{take-all, take-length, take-take, take-append-seam}
 use borrow.Author.Tests.{lt-leb}
 use Rattle.wire.specs.Header.{typeOf}
@@ -20,10 +20,9 @@ use Rattle.calendar.specs.Calendar.{isDay}
 use Rattle.calendar.specs.CalendarLaws.{day-in-range}
 use Rattle.book.specs.declared.Answer as bookAnswers
 use Rattle.book.specs.declared.Book.{Book}
-use Rattle.book.specs.Books.{answer, markBytes}
+use Rattle.book.specs.Books.{answer}
 use Rattle.book_restart.specs.Restarts.{restartOf}
-use Rattle.book_restart.specs.Steps.{mark-long}
-use Rattle.book_restart.specs.Cut.{Made, sound, Cut, cut, cut-22}
+use Rattle.book_restart.specs.Cut.{Made, sound, sixteen, Cut, cut, cut-22}
 use Rattle.day_model.specs.Model.{Msg, Item, mark, size, Phase, closed, messages}
 use Rattle.day_model.specs.Model as day
 use Rattle.day_model.specs.Story.{All, aLogin, aTaking, aDelivery, aCut, nowLogin, nowTaken}
@@ -81,9 +80,6 @@ within-more : {date k : ℕ} {b : Book} {xs : Bytes} (m : Made date k b xs) (n :
 within-more {xs = xs} m n h =
     let s : size (items xs) ≡ length xs = ap size (made-items m) ∙ made-size m ∙ sound m .at-end in
     within-all (items xs) n (omega arith) ∙ sym (within-all (items xs) (length xs) (omega arith))
-
-sixteen : {date k : ℕ} {b : Book} {xs : Bytes} → Made date k b xs → 16 ≤ length xs
-sixteen {date} {xs = xs} m = let o = sound m in omega (arith, ap length (o .first), length-append (markBytes date 0 0) (o .rest), mark-long date 0 0)
 
 -- the bytes that a cut keeps
 cut-bytes : {date n : ℕ} {xs : Bytes} (c : Cut date xs n) → take (c .book .length) (take n xs) ≡ c .kept
