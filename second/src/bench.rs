@@ -277,7 +277,7 @@ fn read_choice(which: &str, flag: &str, count: &str, units: &str) -> Option<Choi
     let (which, flag, count) = (read_u8(which)?, read_u8(flag)?, read_u8(count)?);
     let units = read_bytes(units)?;
     Some(match which {
-        0 => Choice::All,
+        0 => Choice::Used,
         1 => Choice::Listed { flag, count, units },
         _ => Choice::Without,
     })

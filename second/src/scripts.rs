@@ -7,6 +7,7 @@ mod garbage;
 mod last;
 mod outside;
 mod places;
+mod same;
 #[cfg(test)]
 mod tests;
 mod wrong;
@@ -25,6 +26,7 @@ enum Kind {
     Garbage,
     Outside,
     Places,
+    Same,
 }
 
 /// Little goes wrong.
@@ -88,7 +90,7 @@ const EITHER: Days = Days {
     ..BROKEN
 };
 
-const STORED: [Kind; 22] = [
+const STORED: [Kind; 23] = [
     Kind::Days(QUIET),
     Kind::Days(LONG),
     Kind::Days(BROKEN),
@@ -111,6 +113,7 @@ const STORED: [Kind; 22] = [
     Kind::Days(BROKEN),
     Kind::Days(OPTIONS),
     Kind::Days(EITHER),
+    Kind::Same,
 ];
 const SEED: u64 = 120;
 
@@ -148,6 +151,7 @@ fn script(seed: u64, kind: Kind) -> Vec<String> {
             Kind::Garbage => garbage::round(&mut driver),
             Kind::Outside => among_days(&mut driver),
             Kind::Places => places::round(&mut driver),
+            Kind::Same => same::round(&mut driver),
         }
         // Once is enough of the lines outside the format.
         if driver.count() >= LEAST || matches!(kind, Kind::Outside) {

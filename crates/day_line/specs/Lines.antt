@@ -1,7 +1,7 @@
 -- What a line carries between venue and member: bytes, what each message says, and what a login of ours is. Definitions alone. Assumes nothing.
 use Prim.Native.Nat.{ℕ, _<_}
 use mathlib.Core.Path.{_≡_}
-use mathlib.Core.Bool.{cond, _||_}
+use mathlib.Core.Bool.{Bool, cond, _||_}
 use mathlib.Core.List.{List}
 use lib.Dec.{eqb}
 use lib.ListN.{length, getD}
@@ -12,10 +12,9 @@ use Rattle.table.specs.declared.Table.{Table}
 use Rattle.table.specs.Table.{unitRefusal, lastOf}
 use Rattle.session_messages.specs.declared.Record.{Record}
 use Rattle.session_messages.specs.Sessions as logins
-use Rattle.session_logins.specs.declared.Choice.{Choice}
 use Rattle.session_logins.specs.declared.Bitfields.{Bitfields}
-use Rattle.session_logins.specs.LoginRequests.{blankUnits, loginRecord}
-use Rattle.session_fields.specs.SessionFields.{requestGroup, groupListed}
+use Rattle.session_logins.specs.LoginRequests.{wholeTable, loginRecord}
+use Rattle.session_fields.specs.AskedFor.{askedAbove}
 use Rattle.messages.specs.Messages.{readRefusal}
 use Rattle.day_model.specs.Model.{Msg, Sent, response, message, complete, aside, logout}
 use Rattle.day_model.specs.Model as day
@@ -44,29 +43,25 @@ pub record Fine (b : List ℕ) : Type 0 where
 
 -- ---- what the member sends
 
--- the number that a login lists for a unit; 0 where it lists none
+-- the number above which a login asks for a unit's messages: the listed number; of an unlisted unit 0, and all are above it, if its flag is 0 or it has no
+-- group of units, and else the highest, above which there is none. What is no unit counts as 0
 unfoldable pub lists : List ℕ → ℕ → ℕ
-lists b unit =
-    cond (eqb (unitRefusal unit) 0)
-    (groupListed (requestGroup 0x80 0 (logins.recordOf b)) unit (logins.recordOf b) .number .0)
-    0
+lists b unit = cond (eqb (unitRefusal unit) 0) (askedAbove (logins.recordOf b) unit) 0
 
--- what a desk gives a login: the three names in 18 bytes, and the bitfields that it asks for
+-- what a desk gives a login: the three names in 18 bytes, and the bitfields that it asks for; and, 02, request 6, whether the full list of units is asked
+-- for by name, or no choice of them is given
 pub record Fields : Type 0 where
   pub names : List ℕ
   pub long : length names ≡ 18
   pub acknowledgments : Bitfields
   pub executions : Bitfields
+  pub full : Bool
 
--- no choice of units: the whole table is listed
-abbrev pub wholeTable : Choice
-wholeTable = record { which = 0; flag = 0; count = 0; units = blankUnits }
-
--- the record of a login with the whole table
+-- the record of a login with the whole table, in that form
 abbrev pub loginOfTable : Table → Fields → Record
-loginOfTable table f = loginRecord table wholeTable (f .names) (f .acknowledgments) (f .executions)
+loginOfTable table f = loginRecord table (wholeTable (f .full)) (f .names) (f .acknowledgments) (f .executions)
 
--- a login of ours: what our writer writes of a whole table
+-- a login of ours: what our writer writes of a whole table, in either form
 pub record OurLogin (b : List ℕ) : Type 0 where
   pub table : Table
   pub fit : (u : ℕ) → lastOf table u < 4294967296

@@ -13,3 +13,4 @@ pub mod Brings
 pub mod BringsLaws
 pub mod BringsCalls
 pub mod Example
+pub mod SameReplay

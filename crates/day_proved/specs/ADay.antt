@@ -1,7 +1,7 @@
 -- A day that computes: three messages are logged; the line breaks during one replay and again during the next; the book is cut in the middle of a
 -- message; the third replay completes, and the book holds all that the log held. Assumes nothing.
 use mathlib.Core.Path.{_≡_, refl, ap}
-use mathlib.Core.Bool.{Bool, false}
+use mathlib.Core.Bool.{Bool, true, false}
 use mathlib.Core.List.{List, [], _∷_, _++_}
 use Prim.Native.Nat.{ℕ}
 use Rattle.numbers.specs.Numbers.{patched}
@@ -18,8 +18,9 @@ use Rattle.orders.specs.Orders as orders
 use Rattle.session_groups.specs.Groups as groups
 use Rattle.session_messages.specs.Sessions as logins
 use Rattle.session_logins.specs.declared.Bitfields.{Bitfields}
-use Rattle.session_logins.specs.LoginRequests.{choiceOf, unitsPart, bitsPart, groupCount, loginRecord}
+use Rattle.session_logins.specs.LoginRequests.{usedFrom, choiceOf, unitsPart, bitsPart, groupCount, loginRecord}
 use Rattle.session_fields.specs.SessionFields.{groupFrom, requestGroup, groupFlag, listedFrom, groupListed}
+use Rattle.session_fields.specs.AskedFor.{askedAbove}
 use Rattle.messages.specs.Messages.{carries, ownRefusal, readRefusal}
 use Rattle.calendar.specs.Calendar.{leap, daysIn, isDay, dayRefusal}
 use Rattle.book.specs.Books.{markBytes, openRefusal, openOf, openBuffer, roomless, messageRefusal, nextRefusal, appendRefusal, appendedBy, appendOf, appendBuffer, closeOf, closeBuffer}
@@ -44,16 +45,16 @@ msg unit number = headerBytes 46 0x25 unit number ++ (zeros 8 ++ ((0x41 ∷ zero
 abbrev rejection : Bytes
 rejection = headerBytes 99 0x26 0 0 ++ (zeros 8 ++ ((0x41 ∷ zeros 19) ++ zeros 63))
 
--- names that are blank, and no bitfields asked for
-abbrev fields : Fields
-fields = record { names = zeros 18; long = refl; acknowledgments = none; executions = none }
+-- names that are blank, and no bitfields asked for; with the full list of units by name, or with no choice of them
+abbrev fields : Bool → Fields
+fields full = record { names = zeros 18; long = refl; acknowledgments = none; executions = none; full = full }
   where
     none : Bitfields
     none = record { given = false; count = 0; bits = zeros 15 }
 
--- a login, taken, and its response delivered
-abbrev begins : List Event → List Event
-begins es = aLogin fields (zeros 300) ∷ aTaking 443 ∷ aDelivery 1000 ∷ es
+-- a login in one of the two forms, taken, and its response delivered
+abbrev begins : Bool → List Event → List Event
+begins full es = aLogin (fields full) (zeros 300) ∷ aTaking 443 ∷ aDelivery 1000 ∷ es
 
 -- the venue's next message, delivered
 abbrev next : List Event → List Event
@@ -67,12 +68,12 @@ rejected es = anAside rejection ∷ aDelivery 1000 ∷ es
 abbrev breaks : List Event → List Event
 breaks es = aBreak 1000 ∷ aDrop ∷ es
 
--- three messages of two units; a replay that breaks after its first message, and one that breaks after its next; a cut in the middle of the
+-- three messages of two units; a replay that breaks after its first message, and one, of a login with the full list, that breaks after its next; a cut in the middle of the
 -- second message, which stands after 16 + 48 + 16 bytes, with a restart for the other market; and a third replay, with a rejection between its two messages, up to what the venue sends last
 abbrev pub events : List Event
 events =
     theLog 1000 (msg 1 1) ∷ theLog 1000 (msg 2 1) ∷ theLog 1000 (msg 1 2)
-    ∷ begins (next (breaks (begins (next (breaks (aCut 1 100 ∷ begins (next (rejected (next (aStep 2048 ∷ []))))))))))
+    ∷ begins false (next (breaks (begins true (next (breaks (aCut 1 100 ∷ begins false (next (rejected (next (aStep 2048 ∷ []))))))))))
 
 unfoldable pub last : Moment 20250819 0 ourVenue
 last = after 20250819 0 ourVenue events
@@ -102,7 +103,7 @@ logged = msg 1 1 ∷ msg 2 1 ∷ msg 1 2 ∷ []
 
 -- the day, computed once
 the-day : toldFrom last ≡ record { refused = false; left = false; queue = headerBytes 8 0x13 0 0 ∷ []; held = logged; phase = Live; booked = logged }
-unfolding patched lengthOf totalOf numberOf notBA startsBad lengthBad cutShort frameRefusal framed unitRefusal entryRefusal entryOf raisedTable stepRefusal dictionary.entryOf selectedAt entryAt slotsFrom hasRequired countAt mostOf unitGood fixedGood orders.readRefusal orders.headRefusal orders.blockRefusal orders.bodyRefusal orders.restOf middles.middleSize middles.middleGood lates.lacks lates.conflicts lates.lateRefusal orders.bitsOf orders.optionalOf orders.fixedOf groups.unitsFrom groups.pairsGood groups.bitsGood groups.groupKey groups.groupSize groups.nextSize groups.groupsFrom logins.readRefusal logins.fixedSize logins.valuesGood logins.flagGood logins.responseEnd logins.listsEnd logins.bodyEnd logins.bodyOf logins.writeRefusal logins.writeBuffer choiceOf unitsPart bitsPart groupCount loginRecord groupFrom requestGroup groupFlag listedFrom groupListed carries ownRefusal readRefusal leap daysIn isDay dayRefusal markBytes openRefusal openOf openBuffer roomless messageRefusal nextRefusal appendRefusal appendedBy appendOf appendBuffer closeOf closeBuffer frontZero torn markNext inLimit found nextBook run firstMark restartOf passes endedBy brokenBy brokenBuffer respondedBy respondedBuffer receiveRefusal receivedBy receiveOf receivedBuffer receiveBuffer loginRefusal loginOf loginOut itemOf itemLength itemsFrom restartedBy refusedForRoom venue.logOf venue.logBuffer venue.sendOf venue.sendOut venue.loginReadRefusal venue.thresholdOf venue.thresholdsOf venue.wantedAbove venue.responseRecord venue.loginRefusal venue.loginOf venue.loginOut venue.passing venue.seek venue.placeOf venue.tellsAt venue.bytesAt venue.afterAt venue.stepOf venue.stepOut venue.brokenOf split last told toldFrom
+unfolding patched lengthOf totalOf numberOf notBA startsBad lengthBad cutShort frameRefusal framed unitRefusal entryRefusal entryOf raisedTable stepRefusal dictionary.entryOf selectedAt entryAt slotsFrom hasRequired countAt mostOf unitGood fixedGood orders.readRefusal orders.headRefusal orders.blockRefusal orders.bodyRefusal orders.restOf middles.middleSize middles.middleGood lates.lacks lates.conflicts lates.lateRefusal orders.bitsOf orders.optionalOf orders.fixedOf groups.unitsFrom groups.pairsGood groups.bitsGood groups.groupKey groups.groupSize groups.nextSize groups.groupsFrom logins.readRefusal logins.fixedSize logins.valuesGood logins.flagGood logins.responseEnd logins.listsEnd logins.bodyEnd logins.bodyOf logins.writeRefusal logins.writeBuffer usedFrom choiceOf unitsPart bitsPart groupCount loginRecord groupFrom requestGroup groupFlag listedFrom groupListed carries ownRefusal readRefusal leap daysIn isDay dayRefusal markBytes openRefusal openOf openBuffer roomless messageRefusal nextRefusal appendRefusal appendedBy appendOf appendBuffer closeOf closeBuffer frontZero torn markNext inLimit found nextBook run firstMark restartOf passes endedBy brokenBy brokenBuffer respondedBy respondedBuffer receiveRefusal receivedBy receiveOf receivedBuffer receiveBuffer loginRefusal loginOf loginOut itemOf itemLength itemsFrom restartedBy refusedForRoom venue.logOf venue.logBuffer venue.sendOf venue.sendOut venue.loginReadRefusal askedAbove venue.thresholdsOf venue.wantedAbove venue.responseRecord venue.loginRefusal venue.loginOf venue.loginOut venue.passing venue.seek venue.placeOf venue.tellsAt venue.bytesAt venue.afterAt venue.stepOf venue.stepOut venue.brokenOf split last told toldFrom
 the-day = refl
 
 -- before the last delivery no message was refused for room, no Logout was sent, Replay Complete stands alone on the line, and the log held three messages

@@ -14,8 +14,8 @@ use Rattle.wire.specs.FrameLaws.{lt-or-le}
 use Rattle.table.specs.Table.{lastOf}
 use Rattle.orders.specs.Shapes.{sequenced}
 use Rattle.session_messages.specs.Sessions as logins
-use Rattle.session_logins.specs.LoginRequests.{choiceOf}
-use Rattle.session_logins.specs.LoginRequestLaws.{said-most, default-is-written}
+use Rattle.session_logins.specs.LoginRequests.{wholeTable, choiceOf}
+use Rattle.session_logins.specs.LoginRequestLaws.{said-most, whole-is-written}
 use Rattle.calendar.specs.Calendar.{isDay}
 use Rattle.calendar.specs.CalendarLaws.{day-in-range}
 use Rattle.book.specs.declared.Answer as bookAnswers
@@ -28,7 +28,7 @@ use Rattle.day_model.specs.Model as day
 use Rattle.day_model.specs.Story.{All, aLogin, aTaking, aDelivery, aCut, nowLogin, nowTaken}
 use Rattle.day_model.specs.Generic.{Meets, holds, at-every-moment, when-a-replay-completes, replay-completes, CompletesAt}
 use Rattle.day_model.specs.Halves.{VenueCode, both}
-use Rattle.day_line.specs.Lines.{Fields, ourLine, loginOfTable, wholeTable}
+use Rattle.day_line.specs.Lines.{Fields, ourLine, loginOfTable}
 use Rattle.session.specs.declared.Phase as phases
 use Rattle.session.specs.declared.Phase.the-variants.{Closed, Asked, Replaying, Live}
 use Rattle.session.specs.declared.Answer as sessionAnswers
@@ -90,7 +90,7 @@ module _ (date : ℕ) (d : isDay date ≡ true) (market : ℕ) (X : VenueCode) (
   small : date < 4294967296
   small = omega (arith, day-in-range date d .1)
 
-  the : Meets (dayOf date market X)
+  pub the : Meets (dayOf date market X)
   the = both ourLine (ourMember date market) X (our-member-meets date d small market) such
 
   -- 1
@@ -155,19 +155,30 @@ module _ (date : ℕ) (d : isDay date ≡ true) (market : ℕ) (X : VenueCode) (
       (lt-or-le k 16)
 
   -- 4
+  login-taken : (es : List Event) (f : Fields) (out : Bytes) → Valid f → 234 ≤ length out → logins.recordRefusal (loginOfTable (after date market X es .member .session .book .table) f) (length out) ≡ 0
+  login-taken es f out v h =
+      let w = after date market X es in
+      let t = w .member .session .book .table in
+      let m = said-most t (choiceOf t (wholeTable (f .full))) (f .names) (f .acknowledgments) (f .executions) (f .long) in
+      whole-is-written t (wholeTable (f .full)) (f .names) (f .acknowledgments) (f .executions) (length out) (f .long) (v .names) (v .acknowledgments) (v .executions)
+      (omega (arith, m, h)) (f .full) refl (entries-fit date d small (good-of es .made))
+
+  pub login-writes : (es : List Event) (f : Fields) (out : Bytes) → Valid f → 234 ≤ length out → after date market X es .member .session .phase ≡ Closed → writes f out (after date market X es .member) ≡ true
+  login-writes es f out v h e =
+      let w = after date market X es in
+      ap (λ (a : sessionAnswers.Answer). eqb (a .refusal) 0) (login-asks (w .member .session) (loginOfTable (w .member .session .book .table) f) out e (login-taken es f out v h) .0)
+
+  -- the moment after it
+  pub logs-in : (es : List Event) (f : Fields) (out : Bytes) → Valid f → 234 ≤ length out → after date market X es .member .session .phase ≡ Closed
+      → then date market X (after date market X es) (aLogin f out) ≡ nowLogin (dayOf date market X) closed true f out (after date market X es)
+  logs-in es f out v h e = ap₂ (λ (a : Phase) (b : Bool). nowLogin (dayOf date market X) a b f out (after date market X es)) (ap phaseOf e) (login-writes es f out v h e)
+
   written : (es : List Event) (f : Fields) (out : Bytes) → Valid f → 234 ≤ length out → after date market X es .member .session .phase ≡ Closed
       → Asks date market X f out (after date market X es) (then date market X (after date market X es) (aLogin f out))
   written es f out v h e =
       let w = after date market X es in
-      let g = good-of es in
-      let t = w .member .session .book .table in
-      let r : logins.recordRefusal (loginOfTable t f) (length out) ≡ 0 =
-      default-is-written t wholeTable (f .names) (f .acknowledgments) (f .executions) (length out) (f .long) (v .names) (v .acknowledgments) (v .executions)
-      (omega (arith, said-most t (choiceOf wholeTable) (f .names) (f .acknowledgments) (f .executions) (f .long), h)) refl (entries-fit date d small (g .made)) in
-      let y : writes f out (w .member) ≡ true = ap (λ (a : sessionAnswers.Answer). eqb (a .refusal) 0) (login-asks (w .member .session) (loginOfTable t f) out e r .0) in
-      let q : then date market X w (aLogin f out) ≡ nowLogin (dayOf date market X) closed true f out w = ap₂ (λ (a : Phase) (b : Bool). nowLogin (dayOf date market X) a b f out w) (ap phaseOf e) y in
-      subst (Asks date market X f out w) (sym q)
-      (record { phase = ap (λ (x : Desk). x .session .phase) (logged date d small f out (w .member) y); asks = refl; asking = refl; written = login-stands date d small f out (w .member) e r })
+      subst (Asks date market X f out w) (sym (logs-in es f out v h e))
+      (record { phase = ap (λ (x : Desk). x .session .phase) (logged date d small f out (w .member) (login-writes es f out v h e)); asks = refl; asking = refl; written = login-stands date d small f out (w .member) e (login-taken es f out v h) })
 
   takes : (es : List Event) (room : ℕ) → after date market X es .asks ≡ true → X .running (after date market X es .venue) ≡ false → such .answerRoom ≤ room
       → Taken date market X (after date market X es) (then date market X (after date market X es) (aTaking room))

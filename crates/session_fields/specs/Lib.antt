@@ -1,3 +1,5 @@
 pub mod SessionFields
 pub mod SessionFieldLaws
 pub mod GroupFieldLaws
+pub mod AskedFor
+pub mod AskedLaws

@@ -3,4 +3,5 @@ pub mod GroupLaws
 pub mod Values
 pub mod NotTwice
 pub mod ValueLaws
-pub mod FullList
+pub mod Ascending
+pub mod Asked

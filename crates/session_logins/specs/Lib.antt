@@ -1,2 +1,5 @@
 pub mod LoginRequests
+pub mod UsedUnits
 pub mod LoginRequestLaws
+pub mod BothForms
+pub mod LoginExample

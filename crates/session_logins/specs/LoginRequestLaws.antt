@@ -1,8 +1,8 @@
 -- What is true of a Login Request that is built from the table.
---     default-lists-all      with no choice given it lists all 32 units, ascending, with flag 1 and the table's numbers
 --     said-most              234 bytes of room are enough for it
---     login-is-written       what is in order is written
---     default-is-written     and that is so with no choice given,
+--     login-is-written       what is in order is written,
+--     login-bytes            as the header and what the login says
+--     whole-is-written       and that is so with the whole table in either form, with no choice given or the full list by name,
 --     chosen-is-written      with a choice in order,
 --     none-is-written        and with no group of units
 --     flag-refused           a flag of 2 or more in the choice is 11
@@ -17,10 +17,11 @@ use Prim.Native.Nat.{ℕ, zero, suc, _+_, _-_, _*_, _≤_, _<_}
 use native.Mathlib.Omega.{arith}
 use lib.Dec.{leb, eqb}
 use lib.ListN.{length, getD, take, drop, replicate, length-append}
-use lib.Seq.{drop-at, getD-at, length-take-le}
+use lib.Seq.{drop-at, getD-at, length-take-le, take-append-seam}
 use borrow.Author.Tests.{leb-true, le-ltb, le-leb, lt-leb, lt-ltb, eq-eqb, ne-eqb, eqb-true}
 use Rattle.numbers.specs.Numbers.{numberAt, bytesOf}
 use Rattle.numbers.specs.NumberLaws.{bytes-first}
+use Rattle.wire.specs.Header.{headerBytes}
 use Rattle.kinds.specs.Kinds.{allNul}
 use Rattle.block.specs.Slots.{zeros}
 use Rattle.block.specs.SlotLaws.{zeros-are-nul}
@@ -32,24 +33,25 @@ use Rattle.session_groups.specs.Values.{Distinct, Pair, pairBytes, pairsBytes, 
 use Rattle.session_groups.specs.Values.Group.{units, bits}
 use Rattle.session_groups.specs.NotTwice.{not-twice}
 use Rattle.session_groups.specs.ValueLaws.{pairs-length, a-value-is-groups}
-use Rattle.session_groups.specs.FullList.{listed, full-list}
-use Rattle.session_messages.specs.Sessions.{namesGood, valuesGood, fixedSize, flagGood, after, listsEnd, bodyEnd, sizeOf, writeRefusal, recordRefusal}
+use Rattle.session_groups.specs.Ascending.{ascending-in-order, full-list}
+use Rattle.session_messages.specs.Sessions.{namesGood, valuesGood, fixedSize, flagGood, after, listsEnd, bodyEnd, sizeOf, writeRefusal, recordRefusal, sessionBytes}
 use Rattle.session_messages.specs.SessionLaws.{names-front, is-written}
 use Rattle.session_logins.specs.declared.Choice.{Choice}
 use Rattle.session_logins.specs.declared.Bitfields.{Bitfields}
-use Rattle.session_logins.specs.LoginRequests.{allUnits, numbersOf, pickChoice, choiceOf, least, pairsFor, unitsGroup, bitsGroup, part, unitsPart, bitsPart, one, groupCount, groupsPart, saidOf, padded, loginRecord}
+use Rattle.session_logins.specs.UsedUnits.{usedPairs, used-few, filled-long, used-pairs, used-ascends, used-fit}
+use Rattle.session_logins.specs.LoginRequests.{usedFrom, usedUnits, wholeTable, numbersOf, pickChoice, choiceOf, least, pairsFor, unitsGroup, bitsGroup, part, unitsPart, bitsPart, one, groupCount, groupsPart, saidOf, padded, loginRecord}
 
 -- ---- the choice
 
--- given none, it is all 32 units
-pub choice-default : (c : Choice) → c .which ≡ 0 → allUnits ≡ choiceOf c
+-- given none, it is the units whose entry is above 0
+pub choice-default : (t : Table) (c : Choice) → c .which ≡ 0 → usedUnits t ≡ choiceOf t c
 unfolding choiceOf
-choice-default c z = sym (ap (λ (b : Bool). pickChoice b allUnits c) (eq-eqb (c .which) 0 z))
+choice-default t c z = sym (ap (λ (b : Bool). pickChoice b (usedUnits t) c) (eq-eqb (c .which) 0 z))
 
 -- any other stays as it is
-pub choice-kept : (c : Choice) → (c .which ≡ 0 → ⊥) → c ≡ choiceOf c
+pub choice-kept : (t : Table) (c : Choice) → (c .which ≡ 0 → ⊥) → c ≡ choiceOf t c
 unfolding choiceOf
-choice-kept c n = sym (ap (λ (b : Bool). pickChoice b allUnits c) (ne-eqb (c .which) 0 n))
+choice-kept t c n = sym (ap (λ (b : Bool). pickChoice b (usedUnits t) c) (ne-eqb (c .which) 0 n))
 
 pub least-first : (a b : ℕ) → a ≤ b → a ≡ least a b
 least-first a b h = rw (le-leb a b h)
@@ -61,14 +63,6 @@ numbers-long (u ∷ us) = ap suc (numbers-long us)
 pub pairs-many : (t : Table) (us : List ℕ) → length (pairsFor t us) ≡ length us
 pairs-many t [] = refl
 pairs-many t (u ∷ us) = ap suc (pairs-many t us)
-
--- DEFAULT LISTS ALL: with no choice given, the group of units comes first, with flag 1 and 32 pairs: units 1 to 32 ascending, each with the table's number
-pub default-lists-all : (table : Table) (choice : Choice) (names : List ℕ) (acknowledgments executions : Bitfields) → choice .which ≡ 0
-    → loginRecord table choice names acknowledgments executions .body
-    ≡ padded (names ++ ((1 + (one (acknowledgments .given) + one (executions .given))) ∷ (groupBytes (units 1 (listed 32 1 (lastOf table))) ++ (bitsPart 0x25 acknowledgments ++ bitsPart 0x2C executions))))
-unfolding loginRecord unitsPart groupCount
-default-lists-all table choice names acknowledgments executions z =
-    ap (λ (c : Choice). padded (saidOf table c names acknowledgments executions)) (sym (choice-default choice z))
 
 -- ---- sizes
 
@@ -139,6 +133,17 @@ pub record ChoiceInOrder (table : Table) (c : Choice) : Type 0 where
   pub there : length (c .units) ≡ 32
   pub pairs : PairsInOrder (pairsFor table (take (c .count) (numbersOf (c .units))))
 
+-- the whole table is, in either form
+pub whole-in-order : (table : Table) → ((u : ℕ) → lastOf table u < 4294967296) → (full : Bool) → ChoiceInOrder table (choiceOf table (wholeTable full))
+unfolding choiceOf
+whole-in-order table fit true = record { flag-is = omega arith; few = omega arith; there = refl; pairs = full-list (lastOf table) fit }
+whole-in-order table fit false = record {
+  flag-is = omega arith;
+  few = used-few table 32 1;
+  there = filled-long (usedFrom table 32 1) (used-few table 32 1);
+  pairs = subst PairsInOrder (sym (used-pairs table)) (ascending-in-order (usedPairs table) (used-ascends table) (used-fit table fit));
+}
+
 -- bitfields in order: at most 15 of them, each any byte
 pub record BitsInOrder (b : Bitfields) : Type 0 where
   pub few : b .count ≤ 15
@@ -159,10 +164,10 @@ bitsValue type b = bits type (take (b .count) (b .bits))
 abbrev pub groupsValue : Table → Choice → Bitfields → Bitfields → List Group
 groupsValue table c a e = some (eqb (c .which) 1) (unitsValue table c) (some (a .given) (bitsValue 0x25 a) (some (e .given) (bitsValue 0x2C e) []))
 
-units-bytes : (table : Table) (c : Choice) → ChoiceInOrder table c → unitsGroup table c ≡ groupBytes (unitsValue table c)
-units-bytes table c o =
-    let l : length (pairsFor table (take (c .count) (numbersOf (c .units)))) ≡ c .count = pairs-many table (take (c .count) (numbersOf (c .units))) ∙ length-take-le (c .count) (numbersOf (c .units)) (omega (arith, o .few, o .there, numbers-long (c .units))) in
-    ap (λ (k : ℕ). bytesOf 2 (5 + 5 * c .count) ++ (0x80 ∷ c .flag ∷ c .count ∷ pairsBytes (pairsFor table (take k (numbersOf (c .units)))))) (sym (least-first (c .count) 32 (o .few)))
+pub units-bytes : (table : Table) (c : Choice) → c .count ≤ 32 → length (c .units) ≡ 32 → unitsGroup table c ≡ groupBytes (unitsValue table c)
+units-bytes table c few there =
+    let l : length (pairsFor table (take (c .count) (numbersOf (c .units)))) ≡ c .count = pairs-many table (take (c .count) (numbersOf (c .units))) ∙ length-take-le (c .count) (numbersOf (c .units)) (omega (arith, few, there, numbers-long (c .units))) in
+    ap (λ (k : ℕ). bytesOf 2 (5 + 5 * c .count) ++ (0x80 ∷ c .flag ∷ c .count ∷ pairsBytes (pairsFor table (take k (numbersOf (c .units)))))) (sym (least-first (c .count) 32 few))
     ∙ ap (λ (k : ℕ). bytesOf 2 (5 + 5 * k) ++ (0x80 ∷ c .flag ∷ k ∷ pairsBytes (pairsFor table (take (c .count) (numbersOf (c .units)))))) (sym l)
 
 bits-bytes : (type : ℕ) (b : Bitfields) → BitsInOrder b → bitsGroup type b ≡ groupBytes (bitsValue type b)
@@ -182,7 +187,7 @@ module _ (table : Table) (c : Choice) (a e : Bitfields) where
   bytes-by u v w p q r =
       let last : List Group = some w (bitsValue 0x2C e) [] in
       let both : List Group = some v (bitsValue 0x25 a) (some w (bitsValue 0x2C e) []) in
-      parts u (unitsGroup table c) (unitsValue table c) _ both (λ h. units-bytes table c (p h))
+      parts u (unitsGroup table c) (unitsValue table c) _ both (λ h. units-bytes table c (p h .few) (p h .there))
       (parts v (bitsGroup 0x25 a) (bitsValue 0x25 a) _ last (λ h. bits-bytes 0x25 a (q h)) (alone w (bitsGroup 0x2C e) (bitsValue 0x2C e) (λ h. bits-bytes 0x2C e (r h))))
     where
       parts : (x : Bool) (g : List ℕ) (y : Group) (s : List ℕ) (gs : List Group) → (x ≡ true → g ≡ groupBytes y) → s ≡ groupsBytes gs → part x g ++ s ≡ groupsBytes (some x y gs)
@@ -262,7 +267,8 @@ module _ (names : List ℕ) (gs : List Group) (k room : ℕ) (long : length name
       ap (drop 19) (as-parts ∙ b) ∙ drop-at (names ++ (length gs ∷ [])) (groupsBytes gs ++ zeros k) 19 (omega (arith, length-append names (length gs ∷ []), long)) in
       ap (after 19) (ap₂ groupsEnd n d ∙ a-value-is-groups gs (zeros k) o)
 
-  size-is : sizeOf 0x37 (said ++ zeros k) ≡ 19 + length (groupsBytes gs)
+  pub size-is : sizeOf 0x37 ((names ++ (length gs ∷ groupsBytes gs)) ++ zeros k) ≡ 19 + length (groupsBytes gs)
+  unfolding said
   size-is = omega (arith, end-is)
 
   values-are : valuesGood 0x37 (said ++ zeros k) ≡ true
@@ -286,40 +292,52 @@ module _ (names : List ℕ) (gs : List Group) (k room : ℕ) (long : length name
 
 module _ (table : Table) (choice : Choice) (names : List ℕ) (acknowledgments executions : Bitfields) (room : ℕ) (long : length names ≡ 18) (good : namesGood names ≡ true)
     (q : acknowledgments .given ≡ true → BitsInOrder acknowledgments) (r : executions .given ≡ true → BitsInOrder executions)
-    (has-room : 10 + length (saidOf table (choiceOf choice) names acknowledgments executions) ≤ room) where
-  -- LOGIN IS WRITTEN: names that agree with their kinds, a choice in order or none, and bitfields in order or none are not refused where there is room
-  pub login-is-written : (choiceOf choice .which ≡ 1 → ChoiceInOrder table (choiceOf choice)) → recordRefusal (loginRecord table choice names acknowledgments executions) room ≡ 0
-  unfolding loginRecord
-  login-is-written p =
-      let gs : List Group = groupsValue table (choiceOf choice) acknowledgments executions in
-      let s : saidOf table (choiceOf choice) names acknowledgments executions ≡ names ++ (length (groupsValue table (choiceOf choice) acknowledgments executions) ∷ groupsBytes (groupsValue table (choiceOf choice) acknowledgments executions)) =
-      ap₂ (λ (n : ℕ) (l : List ℕ). names ++ (n ∷ l)) (count-is table (choiceOf choice) acknowledgments executions p q r) (bytes-are table (choiceOf choice) acknowledgments executions p q r) in
-      let n : length (saidOf table (choiceOf choice) names acknowledgments executions) ≡ 18 + suc (length (groupsBytes (groupsValue table (choiceOf choice) acknowledgments executions))) =
-      ap length s ∙ length-append names _ ∙ ap (λ (k : ℕ). k + suc (length (groupsBytes (groupsValue table (choiceOf choice) acknowledgments executions)))) long in
-      let k : ℕ = 433 - length (saidOf table (choiceOf choice) names acknowledgments executions) in
-      ap (λ (l : List ℕ). recordRefusal (record { message = 0x37; unit = 0; number = 0; body = l ++ zeros k }) room) s
-      ∙ body-is-written names gs k room long good (value-in-order table (choiceOf choice) acknowledgments executions p q r) (omega (arith, n, has-room))
+    (has-room : 10 + length (saidOf table (choiceOf table choice) names acknowledgments executions) ≤ room) where
+  module _ (p : choiceOf table choice .which ≡ 1 → ChoiceInOrder table (choiceOf table choice)) where
+    abbrev gs : List Group
+    gs = groupsValue table (choiceOf table choice) acknowledgments executions
 
-  -- with no choice given, whatever the table holds
-  pub default-is-written : choice .which ≡ 0 → ((u : ℕ) → lastOf table u < 4294967296) → recordRefusal (loginRecord table choice names acknowledgments executions) room ≡ 0
-  default-is-written z fit =
-      login-is-written
-      (λ h. subst (ChoiceInOrder table) (choice-default choice z)
-      (record {
-        flag-is = omega arith;
-        few = omega arith;
-        there = refl;
-        pairs = full-list (lastOf table) fit;
-      }))
+    abbrev says : List ℕ
+    says = saidOf table (choiceOf table choice) names acknowledgments executions
+
+    says-is : says ≡ names ++ (length gs ∷ groupsBytes gs)
+    says-is =
+        ap₂ (λ (n : ℕ) (l : List ℕ). names ++ (n ∷ l)) (count-is table (choiceOf table choice) acknowledgments executions p q r) (bytes-are table (choiceOf table choice) acknowledgments executions p q r)
+
+    says-long : length says ≡ 19 + length (groupsBytes gs)
+    says-long = ap length says-is ∙ omega (arith, length-append names (length gs ∷ groupsBytes gs), long)
+
+    in-order : GroupsInOrder gs
+    in-order = value-in-order table (choiceOf table choice) acknowledgments executions p q r
+
+    -- LOGIN IS WRITTEN: names that agree with their kinds, a choice in order or none, and bitfields in order or none are not refused where there is room
+    pub login-is-written : recordRefusal (loginRecord table choice names acknowledgments executions) room ≡ 0
+    unfolding loginRecord
+    login-is-written =
+        ap (λ (l : List ℕ). recordRefusal (record { message = 0x37; unit = 0; number = 0; body = l ++ zeros (433 - length says) }) room) says-is
+        ∙ body-is-written names gs (433 - length says) room long good in-order (omega (arith, says-long, has-room))
+
+    -- LOGIN BYTES: its message is the header, and what the login says
+    pub login-bytes : sessionBytes (loginRecord table choice names acknowledgments executions) ≡ headerBytes (8 + length says) 0x37 0 0 ++ says
+    unfolding loginRecord
+    login-bytes =
+        let n : sizeOf 0x37 (says ++ zeros (433 - length says)) ≡ length says =
+        ap (λ (l : List ℕ). sizeOf 0x37 (l ++ zeros (433 - length says))) says-is ∙ size-is names gs (433 - length says) room long good in-order (omega (arith, says-long, has-room)) ∙ sym says-long in
+        ap (λ (k : ℕ). headerBytes (8 + k) 0x37 0 0 ++ take k (says ++ zeros (433 - length says))) n
+        ∙ ap (λ (l : List ℕ). headerBytes (8 + length says) 0x37 0 0 ++ l) (take-append-seam says (zeros (433 - length says)))
+
+  -- with the whole table, in either form, whatever it holds
+  pub whole-is-written : (full : Bool) → choice ≡ wholeTable full → ((u : ℕ) → lastOf table u < 4294967296) → recordRefusal (loginRecord table choice names acknowledgments executions) room ≡ 0
+  whole-is-written full e fit = login-is-written (λ h. subst (λ (c : Choice). ChoiceInOrder table (choiceOf table c)) (sym e) (whole-in-order table fit full))
 
   -- with a choice that is in order
   pub chosen-is-written : choice .which ≡ 1 → ChoiceInOrder table choice → recordRefusal (loginRecord table choice names acknowledgments executions) room ≡ 0
-  chosen-is-written w o = login-is-written (λ h. subst (ChoiceInOrder table) (choice-kept choice (λ z. omega (arith, w, z))) o)
+  chosen-is-written w o = login-is-written (λ h. subst (ChoiceInOrder table) (choice-kept table choice (λ z. omega (arith, w, z))) o)
 
   -- with no group of units
   pub none-is-written : 2 ≤ choice .which → recordRefusal (loginRecord table choice names acknowledgments executions) room ≡ 0
   none-is-written w =
-      login-is-written (λ h. absurd (let e : choice .which ≡ 1 = ap (λ (c : Choice). c .which) (choice-kept choice (λ z. omega (arith, w, z))) ∙ h in omega (arith, w, e)))
+      login-is-written (λ h. absurd (let e : choice .which ≡ 1 = ap (λ (c : Choice). c .which) (choice-kept table choice (λ z. omega (arith, w, z))) ∙ h in omega (arith, w, e)))
 
 -- ---- what is refused
 
@@ -415,7 +433,7 @@ module _ (table : Table) (choice : Choice) (names : List ℕ) (acknowledgments e
       let k : ℕ = 433 - length (saidOf table choice names acknowledgments executions) in
       let s : List ℕ = unitsGroup table choice ++ (both ++ zeros k) in
       let long-enough : 19 ≤ length (names ++ (suc n ∷ s)) = omega (arith, length-append names (suc n ∷ s), long) in
-      ap (λ (c : Choice). recordRefusal (record { message = 0x37; unit = 0; number = 0; body = padded (saidOf table c names acknowledgments executions) }) room) (sym (choice-kept choice (λ q. omega (arith, w, q))))
+      ap (λ (c : Choice). recordRefusal (record { message = 0x37; unit = 0; number = 0; body = padded (saidOf table c names acknowledgments executions) }) room) (sym (choice-kept table choice (λ q. omega (arith, w, q))))
       ∙ ap (λ (l : List ℕ). recordRefusal (record { message = 0x37; unit = 0; number = 0; body = l }) room) (body-is k)
       ∙ groups-refused (names ++ (suc n ∷ s)) room long-enough (values-of (suc n ∷ s)) (end-is-none names s n long (z (both ++ zeros k)))
 

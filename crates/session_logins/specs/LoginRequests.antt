@@ -2,7 +2,7 @@
 use Prim.Native.Nat.{ℕ, zero, suc, _+_, _-_, _*_}
 use mathlib.Core.Bool.{Bool, true, false, cond}
 use mathlib.Core.List.{List, [], _∷_, _++_}
-use lib.Dec.{leb, eqb}
+use lib.Dec.{leb, ltb, eqb}
 use lib.ListN.{length, take, replicate}
 use Rattle.numbers.specs.Numbers.{bytesOf}
 use Rattle.block.specs.Slots.{zeros}
@@ -30,9 +30,36 @@ unitsUp (suc n) k = record { 0 = k } ∷ unitsUp n (suc k)
 abbrev pub allUnits : Choice
 allUnits = record { which = 1; flag = 1; count = 32; units = unitsUp 32 1 }
 
+-- one, where a test holds, before others
+abbrev pub onlyIf : Bool → ℕ → List Unit → List Unit
+onlyIf true u us = record { 0 = u } ∷ us
+onlyIf false u us = us
+
+-- of n units from k on those whose entry is above 0, ascending
+unfoldable pub usedFrom : Table → ℕ → ℕ → List Unit
+usedFrom table zero k = []
+usedFrom table (suc n) k = onlyIf (ltb 0 (lastOf table k)) k (usedFrom table n (suc k))
+
+-- the places of a choice: the units that it lists, and 0 in the others
+abbrev pub filled : List Unit → List Unit
+filled us = us ++ replicate (32 - length us) (record { 0 = 0 })
+
+-- 02, request 6: only the units whose entry is above 0, with flag 0
+abbrev pub usedUnits : Table → Choice
+usedUnits table = record { which = 1; flag = 0; count = length (usedFrom table 32 1); units = filled (usedFrom table 32 1) }
+
 -- the places of a choice that lists none
 abbrev pub blankUnits : List Unit
 blankUnits = replicate 32 (record { 0 = 0 })
+
+-- no choice given
+abbrev pub noChoice : Choice
+noChoice = record { which = 0; flag = 0; count = 0; units = blankUnits }
+
+-- 02, request 6: the two forms of a login with the whole table, the full list asked for by name and no choice given
+abbrev pub wholeTable : Bool → Choice
+wholeTable true = allUnits
+wholeTable false = noChoice
 
 -- units as the bytes that they are on the wire
 abbrev pub numbersOf : List Unit → List ℕ
@@ -44,9 +71,9 @@ abbrev pub pickChoice : Bool → Choice → Choice → Choice
 pickChoice true a b = a
 pickChoice false a b = b
 
--- 01, The bit dictionary: where no choice is given, all 32 units are listed, and the flag is 1
-unfoldable pub choiceOf : Choice → Choice
-choiceOf c = pickChoice (eqb (c .which) 0) allUnits c
+-- 02, request 6, in the place of 01, The bit dictionary: where no choice is given, the units whose entry is above 0 are listed, and the flag is 0
+unfoldable pub choiceOf : Table → Choice → Choice
+choiceOf table c = pickChoice (eqb (c .which) 0) (usedUnits table) c
 
 -- ---- the groups
 
@@ -107,4 +134,4 @@ padded s = s ++ zeros (433 - length s)
 -- the record of a Login Request: unit 0, number 0, and that body
 unfoldable pub loginRecord : Table → Choice → List ℕ → Bitfields → Bitfields → Record
 loginRecord table choice names acknowledgments executions =
-    record { message = 0x37; unit = 0; number = 0; body = padded (saidOf table (choiceOf choice) names acknowledgments executions) }
+    record { message = 0x37; unit = 0; number = 0; body = padded (saidOf table (choiceOf table choice) names acknowledgments executions) }

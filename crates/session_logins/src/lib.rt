@@ -6,7 +6,7 @@ ghost use lib.ListN.{length, take};
 ghost use Rattle.numbers.specs.Numbers.{bytesOf, patched};
 ghost use Rattle.session_groups.specs.Values.{pairsBytes};
 ghost use Rattle.session_messages.specs.Sessions.{recordRefusal, recordBuffer};
-ghost use Rattle.session_logins.specs.LoginRequests.{blankUnits, allUnits, numbersOf, choiceOf, least, pairsFor, unitsPart, bitsPart, groupCount, groupsPart, saidOf, loginRecord};
+ghost use Rattle.session_logins.specs.LoginRequests.{blankUnits, noChoice, allUnits, usedUnits, numbersOf, choiceOf, least, pairsFor, unitsPart, bitsPart, groupCount, groupsPart, saidOf, loginRecord};
 use session_messages::Record;
 use table::Table;
 use table::Unit;
@@ -27,9 +27,9 @@ pub struct Bitfields {
     pub bits: [u8; 15],
 }
 
-// No choice given: all 32 units.
+// No choice given: the units whose entry is above 0, with flag 0.
 pub fn no_choice() -> Choice
-    ensures { λ r. ⌜ r ≡ record { which = 0; flag = 0; count = 0; units = blankUnits } ⌝ }
+    ensures { λ r. ⌜ r ≡ noChoice ⌝ }
 {
     Choice {
         which: 0,
@@ -63,7 +63,7 @@ pub fn no_units() -> Choice
     }
 }
 
-// All 32 units, ascending, with flag 1.
+// The full list by name: all 32 units, ascending, with flag 1.
 pub fn all_units() -> Choice
     ensures { λ r. ⌜ r ≡ allUnits ⌝ }
 {
@@ -108,12 +108,36 @@ pub fn all_units() -> Choice
     }
 }
 
-// The choice as it is carried out: all 32 units with flag 1 where none is given.
-fn choice_of(choice: Choice) -> Choice
-    ensures { λ r. ⌜ r ≡ choiceOf choice ⌝ }
+// Only the units whose entry is above 0, ascending, with flag 0, so that an unlisted unit is replayed from its first message.
+pub fn used_units(table: Table) -> Choice
+    ensures { λ r. ⌜ r ≡ usedUnits table ⌝ }
+{
+    let mut units = [Unit(0); 32];
+    let mut count: usize = 0;
+    let mut i: usize = 0;
+    while i < 32 {
+        let unit = Unit((i + 1) as u8);
+        let entry = table.entry(unit);
+        if entry.last.0 > 0 {
+            units[count] = unit;
+            count += 1;
+        }
+        i += 1;
+    }
+    Choice {
+        which: 1,
+        flag: 0,
+        count: count as u8,
+        units: units,
+    }
+}
+
+// The choice as it is carried out: the units whose entry is above 0 where none is given.
+fn choice_of(table: Table, choice: Choice) -> Choice
+    ensures { λ r. ⌜ r ≡ choiceOf table choice ⌝ }
 {
     if choice.which == 0 {
-        return all_units();
+        return used_units(table);
     }
     choice
 }
@@ -248,7 +272,7 @@ pub fn login_record(
 ) -> Record
     ensures { λ r. ⌜ r ≡ loginRecord table choice names acknowledgments executions ⌝ }
 {
-    let resolved = choice_of(choice);
+    let resolved = choice_of(table, choice);
     let mut body = [0u8; 433];
     put_body(
         table,

@@ -13,7 +13,8 @@ use Rattle.session_messages.specs.Sessions as logins
 use Rattle.session_fields.specs.SessionFields.{groupFlag, groupListed}
 use Rattle.day_model.specs.Story.{Bytes}
 use Rattle.day_model.specs.Brings.{Call, steps, called, sentBy}
-use Rattle.venue.specs.Venues.{unitsAt, completeBytes}
+use Rattle.session_fields.specs.AskedFor.{unitsAt}
+use Rattle.venue.specs.Venues.{completeBytes}
 use Rattle.venue.specs.VenueDay.{Bench, ourVenue, empty, messagesIn, takesLogin, stepSends, stop}
 
 -- ---- the list

@@ -31,7 +31,8 @@ use Rattle.day_model.specs.BringsLaws.{Owes, moves-go, a-step-sends-the-next}
 use Rattle.day_model.specs.BringsCalls.{login-followed}
 use Rattle.day_line.specs.Lines.{ourLine, msgOf, says}
 use Rattle.venue.specs.declared.Venue as state
-use Rattle.venue.specs.Venues.{pickAnswer, refused, unitsAt, responseRecord, loggedIn, loginRefusal, loginOf, completeBytes, nextBytes, nextVenue, sendOf, stepOf}
+use Rattle.session_fields.specs.AskedFor.{unitsAt}
+use Rattle.venue.specs.Venues.{pickAnswer, refused, responseRecord, loggedIn, loginRefusal, loginOf, completeBytes, nextBytes, nextVenue, sendOf, stepOf}
 use Rattle.venue.specs.VenueDay.{Bench, ourVenue, empty, messagesIn, accepts, takesLogin, stepTo, stepSends}
 use Rattle.venue.specs.VenueView.{viewV, GoodV}
 use Rattle.venue.specs.VenueRuns.{messages-all, map-long, count-mono}

@@ -28,3 +28,4 @@ pub mod VenueMust
 pub mod Brings
 pub mod BringsLaws
 pub mod VenueExample
+pub mod SameReplay

@@ -28,7 +28,8 @@ use Rattle.session_logins.specs.LoginRequestLaws.{pairs-size}
 use Rattle.session_fields.specs.SessionFields.{groupIs, groupFrom, requestGroup, groupFlag}
 use Rattle.session_fields.specs.GroupFieldLaws.{same-step}
 use Rattle.venue.specs.declared.Venue.{Venue}
-use Rattle.venue.specs.Venues.{unitsAt, responseRecord}
+use Rattle.session_fields.specs.AskedFor.{unitsAt}
+use Rattle.venue.specs.Venues.{responseRecord}
 use Rattle.venue.specs.VenueStages.{listsPart, answerPart}
 
 -- ---- the flag of a group that is accepted is 0 or 1

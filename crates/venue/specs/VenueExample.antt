@@ -22,7 +22,8 @@ use Rattle.session_logins.specs.LoginRequests.{choiceOf, unitsPart, bitsPart, g
 use Rattle.session_fields.specs.SessionFields.{groupFrom, requestGroup, groupFlag, listedFrom, groupListed}
 use Rattle.book.specs.Books.{roomless, messageRefusal, nextRefusal, appendRefusal, appendedBy, appendOf, appendBuffer}
 use Rattle.day_model.specs.Story.{Bytes}
-use Rattle.venue.specs.Venues.{logOf, logBuffer, sendOf, sendOut, loginReadRefusal, thresholdOf, thresholdsOf, wantedAbove, responseRecord, loginRefusal, loginOf, passing, seek, placeOf, tellsAt, completeBytes, bytesAt, afterAt, stepOf, stepOut}
+use Rattle.session_fields.specs.AskedFor.{askedAbove}
+use Rattle.venue.specs.Venues.{logOf, logBuffer, sendOf, sendOut, loginReadRefusal, thresholdsOf, wantedAbove, responseRecord, loginRefusal, loginOf, passing, seek, placeOf, tellsAt, completeBytes, bytesAt, afterAt, stepOf, stepOut}
 use Rattle.venue.specs.VenueDay.{Bench, empty, adds, takesLogin, stepTo, stepSends}
 use Rattle.venue.specs.Brings.{listFor}
 
@@ -48,7 +49,7 @@ later = adds 200 (msg 2 2) (stepTo 2048 (stepTo 2048 day))
 -- room nothing is
 pub a-day : (stepSends 2048 day ∷ stepSends 2048 (stepTo 2048 day) ∷ stepSends 2048 (stepTo 2048 (stepTo 2048 day)) ∷ stepSends 2048 later ∷ stepSends 47 day ∷ [])
     ≡ (msg 1 2 ∷ []) ∷ (completeBytes ∷ []) ∷ [] ∷ (msg 2 2 ∷ []) ∷ [] ∷ []
-unfolding patched lengthOf totalOf numberOf notBA startsBad lengthBad cutShort frameRefusal framed unitRefusal entryRefusal entryOf raisedTable stepRefusal dictionary.entryOf selectedAt entryAt slotsFrom hasRequired countAt mostOf unitGood fixedGood orders.readRefusal orders.headRefusal orders.blockRefusal orders.bodyRefusal orders.restOf middles.middleSize middles.middleGood lates.lacks lates.conflicts lates.lateRefusal orders.bitsOf orders.optionalOf orders.fixedOf groups.unitsFrom groups.pairsGood groups.bitsGood groups.groupKey groups.groupSize groups.nextSize groups.groupsFrom logins.readRefusal logins.fixedSize logins.valuesGood logins.flagGood logins.responseEnd logins.listsEnd logins.bodyEnd logins.bodyOf logins.writeRefusal choiceOf unitsPart bitsPart groupCount loginRecord groupFrom requestGroup groupFlag listedFrom groupListed roomless messageRefusal nextRefusal appendRefusal appendedBy appendOf appendBuffer logOf logBuffer sendOf sendOut loginReadRefusal thresholdOf thresholdsOf wantedAbove responseRecord loginRefusal loginOf passing seek placeOf tellsAt bytesAt afterAt stepOf stepOut
+unfolding patched lengthOf totalOf numberOf notBA startsBad lengthBad cutShort frameRefusal framed unitRefusal entryRefusal entryOf raisedTable stepRefusal dictionary.entryOf selectedAt entryAt slotsFrom hasRequired countAt mostOf unitGood fixedGood orders.readRefusal orders.headRefusal orders.blockRefusal orders.bodyRefusal orders.restOf middles.middleSize middles.middleGood lates.lacks lates.conflicts lates.lateRefusal orders.bitsOf orders.optionalOf orders.fixedOf groups.unitsFrom groups.pairsGood groups.bitsGood groups.groupKey groups.groupSize groups.nextSize groups.groupsFrom logins.readRefusal logins.fixedSize logins.valuesGood logins.flagGood logins.responseEnd logins.listsEnd logins.bodyEnd logins.bodyOf logins.writeRefusal choiceOf unitsPart bitsPart groupCount loginRecord groupFrom requestGroup groupFlag listedFrom groupListed roomless messageRefusal nextRefusal appendRefusal appendedBy appendOf appendBuffer logOf logBuffer sendOf sendOut loginReadRefusal askedAbove thresholdsOf wantedAbove responseRecord loginRefusal loginOf passing seek placeOf tellsAt bytesAt afterAt stepOf stepOut
 a-day = refl
 
 -- and what the login brings, as one list: of the log's three messages the second of unit 1, Replay Complete, the later message

@@ -10,22 +10,20 @@ use lib.Dec.{eqb}
 use borrow.Author.Tests.{eqb-true, eqb-false}
 use Rattle.wire.specs.Header.{typeOf}
 use Rattle.wire.specs.Frame.{frameRefusal, framed}
-use Rattle.table.specs.declared.Entry.{Entry}
-use Rattle.table.specs.Table.{unitRefusal, lastOf}
-use Rattle.table.specs.TableLaws.{unit-in-range, no-entry}
+use Rattle.table.specs.Table.{unitRefusal}
+use Rattle.table.specs.TableLaws.{unit-in-range}
 use Rattle.session_messages.specs.declared.Record.{Record}
 use Rattle.session_messages.specs.Sessions as logins
 use Rattle.session_messages.specs.SessionTrip.{Sound, read-accepts, framed-after, framed-as-written}
 use Rattle.session_logins.specs.LoginRequests.{loginRecord}
-use Rattle.session_fields.specs.declared.ListedField.{ListedField}
-use Rattle.session_fields.specs.SessionFields.{groupFlag, groupListed}
 use Rattle.day_model.specs.Model.{Msg, Table, count, Venue, took}
 use Rattle.day_model.specs.Story.{Bytes}
 use Rattle.day_line.specs.Lines.{msgOf, lists, loginOfTable, OurLogin}
-use Rattle.day_line.specs.OurLogins.{our-units-at, our-listed, body-long, our-record, our-lists}
+use Rattle.day_line.specs.OurLogins.{body-long}
 use Rattle.venue.specs.declared.Thresholds.{Thresholds}
 use Rattle.venue.specs.declared.Answer.{Answer}
-use Rattle.venue.specs.Venues.{unitsAt, thresholdOf, thresholdsOf, wantedAbove, loggedIn}
+use Rattle.session_fields.specs.AskedFor.{askedAbove}
+use Rattle.venue.specs.Venues.{thresholdsOf, wantedAbove, loggedIn}
 use Rattle.venue.specs.LoginLaws.{none-above}
 use Rattle.venue.specs.Thresholds as thresholds
 use Rattle.venue.specs.VenueDay.{Bench, with, accepts, takesLogin}
@@ -92,12 +90,17 @@ module _ (room : ℕ) (b : Bytes) (w : Bench) (g : GoodV w) (ok : accepts room b
 
 -- ---- the thresholds of a login, unit by unit
 
-pub threshold-at : (r : Record) (u : ℕ) → unitRefusal u ≡ 0 → wantedAbove (thresholdsOf r) u ≡ thresholdOf r u
+pub threshold-at : (r : Record) (u : ℕ) → unitRefusal u ≡ 0 → wantedAbove (thresholdsOf r) u ≡ askedAbove r u
 threshold-at r u z = let h = unit-in-range u z in thresholds.threshold-at r u (h .0) (h .1)
 
-listed-threshold : (r : Record) (u n : ℕ) → groupListed (unitsAt r) u r ≡ record { there = true; number = record { 0 = n } } → thresholdOf r u ≡ n
-unfolding thresholdOf
-listed-threshold r u n e = ap (λ (x : ListedField). cond (x .there) (x .number .0) (cond (eqb (groupFlag (unitsAt r) r .value) 1) 4294967295 0)) e
+-- they are the numbers above which it asks for messages
+pub thresholds-listed : (b : Bytes) → wantedAbove (thresholdsOf (logins.recordOf b)) ≡ lists b
+unfolding lists
+thresholds-listed b = fun-ext (λ u. by u (eqb (unitRefusal u) 0) refl)
+  where
+    by : (u : ℕ) (q : Bool) → eqb (unitRefusal u) 0 ≡ q → wantedAbove (thresholdsOf (logins.recordOf b)) u ≡ cond q (askedAbove (logins.recordOf b) u) 0
+    by u true e = threshold-at (logins.recordOf b) u (eqb-true (unitRefusal u) 0 e)
+    by u false e = none-above (thresholdsOf (logins.recordOf b)) u (eqb-false (unitRefusal u) 0 e)
 
 -- ---- our login
 
@@ -108,7 +111,7 @@ module _ (b : Bytes) (o : OurLogin b) where
   sound : Sound ours
   sound = record { body-length = body-long (o .table) (o .fields) }
 
-  our-whole : framed b ≡ b
+  pub our-whole : framed b ≡ b
   our-whole = ap framed (o .is ∙ sym (append-nil (logins.sessionBytes ours))) ∙ framed-as-written ours (o .room) sound (o .written) [] ∙ sym (o .is)
 
   our-type : typeOf b ≡ 0x37
@@ -125,21 +128,7 @@ module _ (b : Bytes) (o : OurLogin b) where
 
   -- its thresholds are the numbers that it lists
   pub our-thresholds : wantedAbove (thresholdsOf (logins.recordOf (framed b))) ≡ lists b
-  our-thresholds =
-      ap (λ (x : Bytes). wantedAbove (thresholdsOf (logins.recordOf x))) our-whole
-      ∙ ap (λ (r : Record). wantedAbove (thresholdsOf r)) (our-record o)
-      ∙ fun-ext (λ u. by u (eqb (unitRefusal u) 0) refl)
-      ∙ sym (our-lists o)
-    where
-      by : (u : ℕ) (q : Bool) → eqb (unitRefusal u) 0 ≡ q → wantedAbove (thresholdsOf ours) u ≡ lastOf (o .table) u
-      by u true e =
-          let z = eqb-true (unitRefusal u) 0 e in
-          threshold-at ours u z
-          ∙ listed-threshold ours u (lastOf (o .table) u)
-          (ap (λ (p : ℕ). groupListed p u ours) (our-units-at (o .table) (o .fields) (o .fit)) ∙ our-listed (o .table) (o .fields) (o .fit) u z)
-      by u false e =
-          let n = eqb-false (unitRefusal u) 0 e in
-          none-above (thresholdsOf ours) u n ∙ sym (ap (λ (x : Entry). x .last .0) (no-entry (o .table) u n))
+  our-thresholds = ap (λ (x : Bytes). wantedAbove (thresholdsOf (logins.recordOf x))) our-whole ∙ thresholds-listed b
 
 pub accepts-ours : (room : ℕ) (b : Bytes) (w : Bench) → OurLogin b → w .venue .running ≡ false → 443 ≤ room → accepts room b w ≡ true
 accepts-ours room b w o r h = takes-it (w .venue) b room r (our-login b o) h

@@ -27,7 +27,8 @@ use Rattle.day_model.specs.Model.{Msg, keep, ofUnit, count, above, Sent, Venue,
 use Rattle.day_model.specs.Steps.{Stepped, docStep, move-tells, move-passes}
 use Rattle.day_model.specs.Story.{Bytes}
 use Rattle.day_line.specs.Lines.{msgOf, says}
-use Rattle.venue.specs.Venues.{logBook, unitsAt, thresholdOf}
+use Rattle.session_fields.specs.AskedFor.{unitsAt, askedAbove}
+use Rattle.venue.specs.Venues.{logBook}
 use Rattle.venue.specs.VenueDay.{Bench, alone, adds, accepts, takesLogin, stepSends}
 use Rattle.venue.specs.VenueView.{viewV, GoodV}
 use Rattle.venue.specs.VenueRuns.{fewer, map-long}
@@ -71,7 +72,7 @@ module _ (room : ℕ) (b : Bytes) (w : Bench) (g : GoodV w) (ok : accepts room b
   abbrev r : Record
   r = logins.recordOf (framed b)
 
-  listed-is : viewV (takesLogin room b w) .listed u ≡ min (thresholdOf r u) (count u (viewV w .log))
+  listed-is : viewV (takesLogin room b w) .listed u ≡ min (askedAbove r u) (count u (viewV w .log))
   listed-is = ap (λ (x : Venue). x .listed u) (strays-is room b w g ok) ∙ ap (λ (n : ℕ). min n (count u (viewV w .log))) (threshold-at r u unit)
 
   count-small : count u (viewV w .log) ≤ 16777216
@@ -82,13 +83,13 @@ module _ (room : ℕ) (b : Bytes) (w : Bench) (g : GoodV w) (ok : accepts room b
 
   -- LISTED: what is above the listed number, or nothing where the log held no more
   pub listed-above : groupListed (unitsAt r) u r .there ≡ true → viewV (takesLogin room b w) .listed u ≡ min (groupListed (unitsAt r) u r .number .0) (count u (viewV w .log))
-  unfolding thresholdOf
+  unfolding askedAbove
   listed-above t =
       listed-is ∙ ap (λ (x : Bool). min (cond x (groupListed (unitsAt r) u r .number .0) (cond (eqb (groupFlag (unitsAt r) r .value) 1) 4294967295 0)) (count u (viewV w .log))) t
 
   module _ (t : groupListed (unitsAt r) u r .there ≡ false) where
     by-flag : (f : Bool) → eqb (groupFlag (unitsAt r) r .value) 1 ≡ f → viewV (takesLogin room b w) .listed u ≡ min (cond f 4294967295 0) (count u (viewV w .log))
-    unfolding thresholdOf
+    unfolding askedAbove
     by-flag f e =
         listed-is
         ∙ ap (λ (x : Bool). min (cond x (groupListed (unitsAt r) u r .number .0) (cond (eqb (groupFlag (unitsAt r) r .value) 1) 4294967295 0)) (count u (viewV w .log))) t

@@ -6,7 +6,8 @@ ghost use lib.ListN.{length};
 ghost use Rattle.numbers.specs.Numbers.{patched};
 ghost use Rattle.session_groups.specs.Values.{pairsBytes};
 ghost use Rattle.session_logins.specs.LoginRequests.{upFrom, pairsFor};
-ghost use Rattle.venue.specs.Venues.{thresholdOf, thresholdsOf, acceptedText};
+ghost use Rattle.session_fields.specs.AskedFor.{askedAbove};
+ghost use Rattle.venue.specs.Venues.{thresholdsOf, acceptedText};
 ghost use Rattle.venue.specs.VenueStages.{listsPart, countedPart, answerPart, answerRecord};
 use crate::Thresholds;
 use crate::Venue;
@@ -18,7 +19,7 @@ use table::UnitNumber;
 
 // The number above which a login wants a unit's messages.
 pub fn threshold(r: Record, unit: u8) -> u32
-    ensures { λ n. ⌜ n ≡ thresholdOf r unit ⌝ }
+    ensures { λ n. ⌜ n ≡ askedAbove r unit ⌝ }
 {
     let listed = session_fields::login_request::listed(r, Unit(unit));
     if listed.there {

@@ -390,6 +390,56 @@ fn logins() {
     assert_eq!(ask::answer(login("0 0 0", 601).as_bytes()), "?");
 }
 
+/// Given no choice the units that have a number are listed, with flag 0; the full list is asked for by its
+/// units. What is refused writes nothing. The venue takes both, and is the same after them.
+#[test]
+fn both_forms_of_a_login() {
+    let names = "303030315445535454455354494E47000000";
+    let start = |length: &str| format!("BABA{}00370000000000{}01", length, names);
+    let units: Vec<u8> = (1..=UNITS).collect();
+    let by_units = |room: usize| login("1 1 32", room).replacen(&zeros(32), &hex::write(&units), 1);
+    let empty = format!("{}0500800000", start("20"));
+    let pairs = "014ABB01000205000000";
+    let short = format!("{}0F00800002{}", start("2A"), pairs);
+    let mut full = format!("{}A500800120{}", start("C0"), pairs);
+    for unit in &units[2..] {
+        full.push_str(&format!("{:02X}{}", unit, zeros(4)));
+    }
+    assert_eq!(full.len(), 2 * 194);
+    let table = format!("4ABB010005000000{}", zeros(120));
+    let state = format!("m-state 0 0 0 0 0 0 0 {} {}", table, zeros(128));
+    let asked = "0 1 0 0 0 0 0 0 113487 0";
+    check(&[
+        (
+            &login("0 1 32", 33),
+            &format!("13 0 0 0 0 0 0 0 0 0 {}", "FF".repeat(33)),
+        ),
+        (
+            &login("0 1 32", 34),
+            &format!("0 1 0 0 0 0 0 0 0 0 {}", empty),
+        ),
+        (&state, "0 0 0 0 0 0 0 113487 0"),
+        (
+            &login("0 1 0", 43),
+            &format!("13 0 0 0 0 0 0 0 113487 0 {}", "FF".repeat(43)),
+        ),
+        (&login("0 1 0", 45), &format!("{} {}FF", asked, short)),
+        (&state, "0 0 0 0 0 0 0 113487 0"),
+        (
+            &by_units(193),
+            &format!("13 0 0 0 0 0 0 0 113487 0 {}", "FF".repeat(193)),
+        ),
+        (&by_units(195), &format!("{} {}FF", asked, full)),
+    ]);
+    for request in [short, full] {
+        let mut bench = Bench::new();
+        let line = format!("v-login {} 600", request);
+        let answer = ask::answer_on(&mut bench, line.as_bytes());
+        assert!(answer.starts_with("0 1 0 0 0 0 0 113487 0 0 BABA"));
+        assert_eq!(hex::write(&bench.venue.thresholds), table);
+    }
+}
+
 #[test]
 fn outside_the_format() {
     for line in [

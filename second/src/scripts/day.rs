@@ -244,6 +244,7 @@ pub fn complete(driver: &mut Driver) {
 
 #[cfg(test)]
 mod tests {
+    use super::super::driver::is_full;
     use super::*;
     use crate::random::Random;
     use crate::rules::frame;
@@ -265,19 +266,28 @@ mod tests {
     }
 
     /// After the replay that is completed the book holds what the log held, each message once and
-    /// in the log's order, whatever the breaks and cuts before it.
+    /// in the log's order, whatever the breaks and cuts before it, and whichever form the logins have.
     #[test]
     fn a_completed_replay_misses_nothing() {
-        let mut checked = 0;
+        let (mut checked, mut mixed) = (0, 0);
         for seed in 0..200 {
             let mut driver = Driver::new(Random::new(seed));
             driver.units = vec![1, 32, 7];
             driver.open();
             twice_broken(&mut driver);
-            let chosen =
-                |line: &String| line.starts_with("m-login ") && !line.starts_with("m-login 0 ");
+            let logins: Vec<&String> = driver
+                .lines
+                .iter()
+                .filter(|line| line.starts_with("m-login "))
+                .collect();
+            let short = |line: &&&String| line.starts_with("m-login 0 ");
+            let full = |line: &&&String| is_full(line);
+            let forms = [
+                logins.iter().filter(short).count(),
+                logins.iter().filter(full).count(),
+            ];
             // A login that chose its units may have left some out.
-            if driver.lines.iter().any(chosen) {
+            if forms.iter().sum::<usize>() < logins.len() {
                 continue;
             }
             let bench = &driver.bench;
@@ -297,7 +307,8 @@ mod tests {
             }
             assert!(log.len() >= 4);
             checked += 1;
+            mixed += usize::from(!forms.contains(&0));
         }
-        assert!(checked > 100);
+        assert!(checked > 100 && mixed > 50, "{} {}", checked, mixed);
     }
 }

@@ -11,8 +11,9 @@ use crate::questions::parts::Parts;
 use crate::questions::session::sample::{self as session, LOGIN};
 use crate::random::Random;
 use crate::rules::frame;
+use crate::rules::groups::PAIR;
 use crate::rules::market::Market;
-use crate::rules::table::entry;
+use crate::rules::table::{entry, used, SIZE, UNITS};
 use std::collections::VecDeque;
 
 /// The books that are shown whole are no longer than this.
@@ -367,6 +368,20 @@ impl Driver {
     }
 }
 
+fn all_units() -> [u8; UNITS as usize] {
+    let mut units = [0; UNITS as usize];
+    for (unit, place) in (1..=UNITS).zip(&mut units) {
+        *place = unit;
+    }
+    units
+}
+
+/// Whether a question is a login of all units in their order and with flag 1.
+#[cfg(test)]
+pub fn is_full(question: &str) -> bool {
+    question.starts_with(&format!("m-login 1 1 32 {} ", hex::write(&all_units())))
+}
+
 /// The arguments of `m-login` but for its room.
 #[derive(Clone)]
 pub struct LoginLine {
@@ -380,12 +395,10 @@ pub struct LoginLine {
 }
 
 impl LoginLine {
-    /// One that is taken; the places that play no part hold anything.
+    /// One that is taken: given no choice and the full list as often, else any units or no group of them,
+    /// which is more often with `choices`. The places that play no part hold anything.
     pub fn good(random: &mut Random, choices: bool, day: &[u8]) -> LoginLine {
-        let mut units = [0; 32];
-        for (index, unit) in units.iter_mut().enumerate() {
-            *unit = index as u8 + 1;
-        }
+        let mut units = all_units();
         session::shuffle(random, &mut units);
         // The units of the day come first, so that a short list has some of them.
         if random.below(2) == 0 {
@@ -408,14 +421,47 @@ impl LoginLine {
                 *bit = random.byte();
             }
         }
-        LoginLine {
+        let login = LoginLine {
             which,
             flag: random.below(2) as u8,
             count: random.between(0, 32) as u8,
             units,
             names: names.fields.concat(),
             returned,
+        };
+        let full = random.below(2) == 0;
+        if which == 0 && full {
+            return login.full();
         }
+        login
+    }
+
+    /// The same with no choice of units.
+    pub fn short(self) -> LoginLine {
+        LoginLine { which: 0, ..self }
+    }
+
+    /// The same with all units, ascending and with flag 1.
+    pub fn full(self) -> LoginLine {
+        LoginLine {
+            which: 1,
+            flag: 1,
+            count: UNITS,
+            units: all_units(),
+            ..self
+        }
+    }
+
+    /// The bytes of a good login, written from a table.
+    pub fn size(&self, table: &[u8; SIZE]) -> usize {
+        let of_units = match self.which {
+            0 => 5 + PAIR * used(table).len(),
+            1 => 5 + PAIR * usize::from(self.count),
+            _ => 0,
+        };
+        let given = self.returned.iter().filter(|(given, _, _)| *given);
+        let of_bits: usize = given.map(|(_, count, _)| 5 + usize::from(*count)).sum();
+        29 + of_units + of_bits
     }
 
     pub fn line(&self, room: usize) -> String {

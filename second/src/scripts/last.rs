@@ -8,7 +8,7 @@ use crate::questions::made::some_type;
 use crate::questions::parts::Parts;
 use crate::random::Random;
 use crate::rules::frame;
-use crate::rules::table::{entry, set_entry, SIZE, UNITS};
+use crate::rules::table::{entry, set_entry, used, SIZE, UNITS};
 
 /// Numbers that are no unit.
 const NO_UNITS: [u8; 5] = [0, 33, 64, 128, 255];
@@ -23,9 +23,7 @@ pub fn ask(driver: &mut Driver) {
 fn some_unit(driver: &mut Driver) -> u8 {
     let book = &driver.bench.member.book;
     let random = &mut driver.lasts;
-    let used: Vec<u8> = (1..=UNITS)
-        .filter(|unit| entry(&book.table, *unit) != 0)
-        .collect();
+    let used = used(&book.table);
     let found: Vec<u8> = used
         .iter()
         .copied()

@@ -1,8 +1,9 @@
-use super::driver::GETS;
+use super::driver::{is_full, GETS};
 use super::*;
 use crate::ask;
 use crate::bench::Bench;
-use crate::rules::{book, listing};
+use crate::hex;
+use crate::rules::{book, listing, table};
 use std::collections::{BTreeMap, BTreeSet};
 
 /// The stored scripts, each a list of questions with their answers.
@@ -41,7 +42,7 @@ fn shapes() {
         let last = &script[script.len() - 2..];
         assert_eq!((&last[0].0[..], &last[1].0[..]), ("m-book", "v-book"));
     }
-    assert!(size < 8_200_000);
+    assert!(size < 8_400_000);
 }
 
 /// Each question is answered with each number that it can give, and with no other. What comes
@@ -84,6 +85,74 @@ fn each_question_gets_each_refusal() {
         assert_eq!(seen.remove(call), Some(numbers), "{}", call);
     }
     assert!(seen.is_empty());
+}
+
+/// The form of a login: `s` given no choice, `f` all units in their order and flag 1, `o` any other.
+fn form_of(question: &str) -> Option<char> {
+    match question.strip_prefix("m-login ")? {
+        _ if is_full(question) => Some('f'),
+        rest if rest.starts_with("0 ") => Some('s'),
+        _ => Some('o'),
+    }
+}
+
+/// On all days logins of both forms are taken, one after the other in every order, and others too.
+#[test]
+fn forms_of_logins() {
+    let mut all = String::new();
+    for (script, kind) in answered().into_iter().zip(STORED) {
+        let taken: String = script
+            .iter()
+            .filter(|(_, answer)| answer.starts_with("0 "))
+            .filter_map(|(question, _)| form_of(question))
+            .collect();
+        if matches!(kind, Kind::Days(_)) {
+            for form in ["s", "f"] {
+                let count = taken.matches(form).count();
+                assert!(count >= 5, "{:?} {}", kind, taken);
+            }
+        }
+        all.push_str(&taken);
+    }
+    for (what, least) in [("ss", 50), ("ff", 50), ("sf", 100), ("fs", 100), ("o", 150)] {
+        let count = all.matches(what).count();
+        assert!(count >= least, "{} {}", what, count);
+    }
+}
+
+/// Given no choice, what is written lists just the units that have a number, ascending, with flag 0: none, some and
+/// all, with the least number and the greatest.
+#[test]
+fn logins_given_no_choice() {
+    let mut counts = BTreeSet::new();
+    let mut ends = BTreeSet::new();
+    let mut bench = Bench::new();
+    for (question, answer) in answered().concat() {
+        let table = bench.member.book.table;
+        assert_eq!(ask::answer_on(&mut bench, question.as_bytes()), answer);
+        if form_of(&question) != Some('s') || !answer.starts_with("0 ") {
+            continue;
+        }
+        let out = hex::read(answer.rsplit(' ').next().unwrap()).unwrap();
+        let units = table::used(&table);
+        let size = 5 + 5 * units.len();
+        let mut group = (size as u16).to_le_bytes().to_vec();
+        group.extend([0x80, 0, units.len() as u8]);
+        for unit in &units {
+            let number = table::entry(&table, *unit);
+            group.push(*unit);
+            group.extend(number.to_le_bytes());
+            ends.extend([1, u32::MAX].into_iter().find(|end| *end == number));
+        }
+        assert_eq!(out[29..29 + size], group);
+        counts.insert(units.len());
+    }
+    assert!(
+        counts.is_superset(&BTreeSet::from([0, 1, 2, 3, 4, 32])),
+        "{:?}",
+        counts
+    );
+    assert_eq!(ends.len(), 2);
 }
 
 /// Each question is also asked outside its format, which changes nothing.

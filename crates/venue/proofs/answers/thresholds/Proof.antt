@@ -2,13 +2,13 @@
 use mathlib.Core.Path.{_≡_}
 use Prim.Native.Nat.{_-_, _≤_}
 use native.Mathlib.Omega.{arith}
-use Rattle.venue.specs.Venues.{thresholdOf}
+use Rattle.session_fields.specs.AskedFor.{askedAbove}
 use Rattle.venue.specs.LoginLaws.{filled, fill-more, fill-done}
 use Rattle.venue.proofs.answers.thresholds.Statement.{statement}
 use Rattle.venue.proofs.answers.thresholds.Tie as tie
 
 abbrev Inv-loop : tie.InvT-loop
-Inv-loop r t₀ i₀ t i = (i ≤ 32) × (t ≡ filled (thresholdOf r) i)
+Inv-loop r t₀ i₀ t i = (i ≤ 32) × (t ≡ filled (askedAbove r) i)
 
 abbrev μ-loop : tie.MeasureT-loop
 μ-loop r t₀ i₀ t i = 32 - i
@@ -43,7 +43,7 @@ loop-less c = omega (arith, c .before .loop-test .taken)
 loop-again : tie.Need-loop-again Inv-loop μ-loop
 loop-again c =
     let l = c .before .before .loop in
-    (omega (arith, c .before .loop-test .taken), fill-more (thresholdOf (c .before .before .before .before .args .r)) (l .i) (c .before .loop-test .taken) (l .inv .1) (c .threshold .ensures))
+    (omega (arith, c .before .loop-test .taken), fill-more (askedAbove (c .before .before .before .before .args .r)) (l .i) (c .before .loop-test .taken) (l .inv .1) (c .threshold .ensures))
 
 returns : tie.Need-returns Inv-loop μ-loop
 returns c = fill-done (c .before .before .before .args .r) (c .before .loop .i) (omega (arith, c .before .loop .inv .0, c .loop-test .left)) (c .before .loop .inv .1)
