@@ -199,8 +199,26 @@ static unsigned take_up(uint32_t date, const char *path) {
     return 0;
 }
 
-/* Writes the login of the table: all units with flag 1 and the last number of each, so that the venue replays what the book does not hold,
- * and nothing else. The names are those of the protocol's example. */
+/* The login's group of units: those whose number is above 0, ascending, with flag 0, so that the venue replays a unit that is not listed from its
+ * first message. */
+static void put_units(uint8_t *group) {
+    unsigned listed = 0;
+    for (unsigned i = 0; i < BOE_UNITS; i++) {
+        const uint8_t *last = state.bytes + BOE_STATE_TABLE_AT + 4 * i;
+        if (!(last[0] | last[1] | last[2] | last[3])) continue;
+        uint8_t *pair = group + BOE_UNITS_GROUP_PAIRS_AT + listed * BOE_PAIR_LEN;
+        pair[0] = (uint8_t)(i + 1);
+        memcpy(pair + 1, last, 4);
+        listed++;
+    }
+    group[BOE_UNITS_GROUP_LENGTH_AT] = (uint8_t)(BOE_UNITS_GROUP_PAIRS_AT + listed * BOE_PAIR_LEN);
+    group[BOE_UNITS_GROUP_TYPE_AT] = BOE_UNITS_GROUP;
+    group[BOE_UNITS_GROUP_FLAG_AT] = 0;
+    group[BOE_UNITS_GROUP_NUMBER_OF_UNITS_AT] = (uint8_t)listed;
+}
+
+/* Writes the login of the table, so that the venue replays what the book does not hold, and nothing else. The names are those of the protocol's
+ * example. */
 static unsigned write_login(uint8_t *out, size_t out_len) {
     struct boe_record record = {{0}};
     record.bytes[BOE_RECORD_TYPE_AT] = BOE_LOGIN_REQUEST;
@@ -208,16 +226,7 @@ static unsigned write_login(uint8_t *out, size_t out_len) {
     memcpy(record.bytes + BOE_LOGIN_REQUEST_USERNAME_AT, "TEST", 4);
     memcpy(record.bytes + BOE_LOGIN_REQUEST_PASSWORD_AT, "TESTING", 7);
     record.bytes[BOE_LOGIN_REQUEST_NUMBER_OF_GROUPS_AT] = 1;
-    uint8_t *group = record.bytes + BOE_LOGIN_REQUEST_GROUPS_AT;
-    group[BOE_UNITS_GROUP_LENGTH_AT] = BOE_UNITS_GROUP_PAIRS_AT + BOE_UNITS * BOE_PAIR_LEN;
-    group[BOE_UNITS_GROUP_TYPE_AT] = BOE_UNITS_GROUP;
-    group[BOE_UNITS_GROUP_FLAG_AT] = 1;
-    group[BOE_UNITS_GROUP_NUMBER_OF_UNITS_AT] = BOE_UNITS;
-    for (unsigned i = 0; i < BOE_UNITS; i++) {
-        uint8_t *pair = group + BOE_UNITS_GROUP_PAIRS_AT + i * BOE_PAIR_LEN;
-        pair[0] = (uint8_t)(i + 1);
-        memcpy(pair + 1, state.bytes + BOE_STATE_TABLE_AT + 4 * i, 4);
-    }
+    put_units(record.bytes + BOE_LOGIN_REQUEST_GROUPS_AT);
     return boe_write(BOE_FROM_MEMBER, &record, sizeof record, out, out_len);
 }
 

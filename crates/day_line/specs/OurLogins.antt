@@ -20,7 +20,7 @@ use Rattle.session_messages.specs.Sessions as logins
 use Rattle.session_messages.specs.SessionTrip.{read-again}
 use Rattle.session_logins.specs.LoginRequests.{wholeTable, choiceOf, one, bitsPart, saidOf, loginRecord}
 use Rattle.session_logins.specs.LoginRequestLaws.{said-most}
-use Rattle.session_logins.specs.BothForms.{formFlag, formPairs, saidWith, whole-body, form-fits, both-ask-for-the-table}
+use Rattle.session_logins.specs.BothForms.{formFlag, formPairs, saidWith, whole-body, form-fits, form-asks}
 use Rattle.session_fields.specs.AskedFor.{askedAbove}
 use Rattle.session_fields.specs.AskedLaws.{first-asked}
 use Rattle.day_line.specs.Lines.{Fields, loginOfTable, OurLogin, lists}
@@ -60,7 +60,7 @@ module _ (table : Table) (f : Fields) where
       let i = unit-in-range u z in
       ap (λ (l : List ℕ). askedAbove (record { message = 0x37; unit = 0; number = 0; body = l }) u) body-parts
       ∙ first-asked 0 0 (f .names) more (formFlag (f .full)) u (formPairs table (f .full)) (after ++ zeros (433 - length said)) (f .long) (form-fits table fit (f .full))
-      ∙ both-ask-for-the-table table (f .full) u (i .0) (i .1)
+      ∙ form-asks table (f .full) u (i .0) (i .1)
 
 -- ---- read from its bytes
 

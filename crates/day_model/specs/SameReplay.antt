@@ -54,9 +54,7 @@ logged-runs false m v = refl
 
 -- ---- two states of one venue
 
--- Bytes that a step sends are known by what they say: by `spoken`
-module _ (L : Line) (B : VenueCode) (N : MeetsVenue L B) (T : StepsAsTold L B N) (spoken : Sent → Bytes)
-    (clear : (b : Bytes) → L .Fine b → Replayed (L .says b) → spoken (L .says b) ≡ b) where
+module _ (L : Line) (B : VenueCode) (N : MeetsVenue L B) (T : StepsAsTold L B N) where
   -- a call that is made of two states of the venue: a step has room for the longest message; of a message that is offered the two logs agree whether they
   -- can read it and have room for it, which is the venue's own; what is heard may be any
   abbrev pub AlikeAt : Call → B .Ven → B .Ven → Type 0
@@ -69,6 +67,9 @@ module _ (L : Line) (B : VenueCode) (N : MeetsVenue L B) (T : StepsAsTold L B N)
   Alike [] v w = Unit {0}
   Alike (c ∷ cs) v w = AlikeAt c v w × Alike cs (called B c v) (called B c w)
 
+-- bytes that a step sends are known by what they say: by `spoken`
+module _ (L : Line) (B : VenueCode) (N : MeetsVenue L B) (T : StepsAsTold L B N) (spoken : Sent → Bytes)
+    (clear : (b : Bytes) → L .Fine b → Replayed (L .says b) → spoken (L .says b) ≡ b) where
   -- what a step sends, from what it says
   spoken-all : (xs : List Bytes) → All (L .Fine) xs → AllReplayed (map (L .says) xs) → map spoken (map (L .says) xs) ≡ xs
   spoken-all [] f r = refl
@@ -104,7 +105,7 @@ module _ (L : Line) (B : VenueCode) (N : MeetsVenue L B) (T : StepsAsTold L B N)
     pub same : Same v w
     pub sent : xs ≡ ys
 
-  a-call : (c : Call) (v w : B .Ven) → Same v w → AlikeAt c v w → Goes (called B c v) (called B c w) (bytesOut B c v) (bytesOut B c w)
+  a-call : (c : Call) (v w : B .Ven) → Same v w → AlikeAt L B N T c v w → Goes (called B c v) (called B c w) (bytesOut B c v) (bytesOut B c w)
   a-call (offers room b) v w s e =
       let m : Msg = L .msgOf b in
       let i = N .adds-is room b v (s .one) in
@@ -141,7 +142,7 @@ module _ (L : Line) (B : VenueCode) (N : MeetsVenue L B) (T : StepsAsTold L B N)
         sent = step-bytes v (s .one) p room h ∙ ap (λ (x : Venue). map spoken (docStep (suc (length (x .log))) x .sent)) (s .view) ∙ sym (step-bytes w (s .other) q room h);
       }
 
-  some-calls : (cs : List Call) (v w : B .Ven) → Same v w → Alike cs v w → Goes (calls B cs v) (calls B cs w) (sentBy B cs v) (sentBy B cs w)
+  some-calls : (cs : List Call) (v w : B .Ven) → Same v w → Alike L B N T cs v w → Goes (calls B cs v) (calls B cs w) (sentBy B cs v) (sentBy B cs w)
   some-calls [] v w s a = record { same = s; sent = refl }
   some-calls (c ∷ cs) v w s a =
       let p = a-call c v w s (a .0) in
@@ -159,7 +160,7 @@ module _ (L : Line) (B : VenueCode) (N : MeetsVenue L B) (T : StepsAsTold L B N)
     same-view = N .takes-is room b v o ok g low ∙ ap (λ (t : Table). took t (N .viewV v)) e ∙ sym (N .takes-is room′ b′ v o′ ok′ g low′)
 
     -- SAME REPLAY
-    pub same-replay : (cs : List Call) → Alike cs (B .takesLogin room b v) (B .takesLogin room′ b′ v) → sentBy B cs (B .takesLogin room b v) ≡ sentBy B cs (B .takesLogin room′ b′ v)
+    pub same-replay : (cs : List Call) → Alike L B N T cs (B .takesLogin room b v) (B .takesLogin room′ b′ v) → sentBy B cs (B .takesLogin room b v) ≡ sentBy B cs (B .takesLogin room′ b′ v)
     same-replay cs a =
         some-calls cs (B .takesLogin room b v) (B .takesLogin room′ b′ v)
         (record {

@@ -21,6 +21,8 @@ use Rattle.book_restart.specs.Restarts.{restartOf}
 use Rattle.last_message.specs.Last.{lastRefusal, lastPart}
 use Rattle.day_model.specs.Story.{All, Code, Happens, aLogin, aTaking, aDelivery, aCut, Now, next, story, dawn}
 use Rattle.day_model.specs.Halves.{VenueCode, MeetsVenue, StepsAsTold, code}
+use Rattle.day_model.specs.Brings.{Call, sentBy}
+use Rattle.day_model.specs.SameReplay.{Alike}
 use Rattle.day_line.specs.Lines.{Fields, loginOfTable, ourLine}
 use Rattle.session.specs.declared.Phase.the-variants.{Closed, Asked, Replaying, Live}
 use Rattle.session.specs.Sessions.{loginOut}
@@ -180,6 +182,27 @@ pub record TheBenchIsSuchAVenue : Type 1 where
   pub for-an-answer : such .answerRoom ≡ 443
   pub told : StepsAsTold ourLine ourVenue such
   pub for-a-step : told .stepRoom ≡ 2048
+
+-- ---- 02, request 6
+
+-- 'Demand 3 holds for both forms of login': the form is one of the fields that the event of a login has, so that the statements above speak of the logins of
+-- both forms, in any order, and of those of broken lines that still reach the venue. 'and it is to be shown that they bring the same replay': at any moment
+-- of the day, with the session closed and no session at the venue, log in with any valid fields, in one form or the other. Whichever login the venue takes,
+-- of whatever it is offered for its log and hears after it and of all the steps that it makes with room, all that it sends is the same, byte for byte. The
+-- venue's steps are those of document 01
+module _ (date market : ℕ) (X : VenueCode) (w : Moment date market X) where
+  -- the venue after it took the login
+  abbrev pub loggedIn : Fields → Bytes → ℕ → X .Ven
+  loggedIn f out room = then date market X (then date market X w (aLogin f out)) (aTaking room) .venue
+
+abbrev pub TheSameReplay : Type 1
+TheSameReplay =
+    (date : ℕ) → isDay date ≡ true → (market : ℕ) (X : VenueCode) (such : SuchAVenue X) (told : StepsAsTold ourLine X such) (es : List Event)
+    (f f′ : Fields) (out out′ : Bytes) (room room′ : ℕ)
+    → Valid f → Valid f′ → 234 ≤ length out → 234 ≤ length out′ → such .answerRoom ≤ room → such .answerRoom ≤ room′
+    → after date market X es .member .session .phase ≡ Closed → X .running (after date market X es .venue) ≡ false
+    → (cs : List Call) → Alike ourLine X such told cs (loggedIn date market X (after date market X es) f out room) (loggedIn date market X (after date market X es) f′ out′ room′)
+    → sentBy X cs (loggedIn date market X (after date market X es) f out room) ≡ sentBy X cs (loggedIn date market X (after date market X es) f′ out′ room′)
 
 -- ---- 02, request 9
 

@@ -4,3 +4,4 @@ pub mod Demand3
 pub mod Proved
 pub mod AskedProved
 pub mod ADay
+pub mod SameReplayProved

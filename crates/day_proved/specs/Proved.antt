@@ -23,17 +23,18 @@ use Rattle.book.specs.declared.Book.{Book}
 use Rattle.book.specs.Books.{answer}
 use Rattle.book_restart.specs.Restarts.{restartOf}
 use Rattle.book_restart.specs.Cut.{Made, sound, sixteen, Cut, cut, cut-22}
-use Rattle.day_model.specs.Model.{Msg, Item, mark, size, Phase, closed, messages}
+use Rattle.day_model.specs.Model.{Msg, Item, mark, size, count, Phase, closed, messages}
 use Rattle.day_model.specs.Model as day
 use Rattle.day_model.specs.Story.{All, aLogin, aTaking, aDelivery, aCut, nowLogin, nowTaken}
-use Rattle.day_model.specs.Generic.{Meets, holds, at-every-moment, when-a-replay-completes, replay-completes, CompletesAt}
+use Rattle.day_model.specs.BringsLaws.{lists-no-more}
+use Rattle.day_model.specs.Generic.{Meets, Holds, holds, holds-all, seen, at-every-moment, when-a-replay-completes, replay-completes, CompletesAt}
 use Rattle.day_model.specs.Halves.{VenueCode, both}
-use Rattle.day_line.specs.Lines.{Fields, ourLine, loginOfTable}
+use Rattle.day_line.specs.Lines.{Fields, ourLine, lists, loginOfTable}
 use Rattle.session.specs.declared.Phase as phases
 use Rattle.session.specs.declared.Phase.the-variants.{Closed, Asked, Replaying, Live}
 use Rattle.session.specs.declared.Answer as sessionAnswers
 use Rattle.session.specs.SessionSteps.{login-asks}
-use Rattle.session.specs.MemberDay.{Desk, opened, restartedBy, phaseOf, writes, ourMember}
+use Rattle.session.specs.MemberDay.{Desk, opened, restartedBy, phaseOf, writes, loginBytes, ourMember}
 use Rattle.session.specs.Booked.{items}
 use Rattle.session.specs.MadeItems.{made-items, made-headed, made-size}
 use Rattle.session.specs.MemberSteps.{Good}
@@ -87,10 +88,10 @@ cut-bytes {n = n} {xs = xs} c =
     ap (λ (i : ℕ). take i (take n xs)) (c .good) ∙ take-take (length (c .kept)) n xs (c .short) ∙ ap (take (length (c .kept))) (c .whole-is) ∙ take-append-seam (c .kept) (c .over-cut)
 
 module _ (date : ℕ) (d : isDay date ≡ true) (market : ℕ) (X : VenueCode) (such : SuchAVenue X) where
-  small : date < 4294967296
+  pub small : date < 4294967296
   small = omega (arith, day-in-range date d .1)
 
-  pub the : Meets (dayOf date market X)
+  the : Meets (dayOf date market X)
   the = both ourLine (ourMember date market) X (our-member-meets date d small market) such
 
   -- 1
@@ -179,6 +180,21 @@ module _ (date : ℕ) (d : isDay date ≡ true) (market : ℕ) (X : VenueCode) (
       let w = after date market X es in
       subst (Asks date market X f out w) (sym (logs-in es f out v h e))
       (record { phase = ap (λ (x : Desk). x .session .phase) (logged date d small f out (w .member) (login-writes es f out v h e)); asks = refl; asking = refl; written = login-stands date d small f out (w .member) e (login-taken es f out v h) })
+
+  -- it lists no more of a unit than the log holds
+  pub lists-low : (es : List Event) (f : Fields) (out : Bytes) → Valid f → 234 ≤ length out → after date market X es .member .session .phase ≡ Closed
+      → (u : ℕ) → lists (loginBytes f out (after date market X es .member)) u ≤ count u (such .viewV (after date market X es .venue) .log)
+  unfolding the our-member-meets
+  lists-low es f out v h e u =
+      let w = after date market X es in
+      let now : Moment date market X = nowLogin (dayOf date market X) closed true f out (after date market X es) in
+      let k : Holds (dayOf date market X) the (nowLogin (dayOf date market X) closed true f out (after date market X es)) =
+      subst (Holds (dayOf date market X) the) (logs-in es f out v h e) (holds-all (dayOf date market X) the (aLogin f out ∷ []) w (holds (dayOf date market X) the es)) in
+      lists-no-more (seen (dayOf date market X) the now) (k .inv) refl u
+
+  pub venue-good : (es : List Event) → such .GoodV (after date market X es .venue)
+  unfolding the our-member-meets
+  venue-good es = holds (dayOf date market X) the es .good .venue
 
   takes : (es : List Event) (room : ℕ) → after date market X es .asks ≡ true → X .running (after date market X es .venue) ≡ false → such .answerRoom ≤ room
       → Taken date market X (after date market X es) (then date market X (after date market X es) (aTaking room))

@@ -2,6 +2,7 @@
 use crate::bench;
 use crate::bench::Bench;
 use crate::bench::Room;
+use crate::forms;
 use crate::lasts;
 use crate::orders_out;
 use crate::outage;
@@ -117,7 +118,7 @@ fn begins(market: Market, book: &mut Room) -> Bench {
 // The first session: nothing to replay, four orders, of which the last has the identifier of the first, and the line breaks.
 pub fn first_session(b: Bench, book: &mut Room, log: &Room) -> Bench {
     let before = bench::later(bench::at(b, 9, 29), 59500);
-    let asked = bench::logs_in(before, book);
+    let asked = bench::logs_in(before, false, book);
     let live = bench::delivers(asked, log, book);
     let abc = written::new_order(b"ABC123", written::BUY, 500, ABC);
     let one = orders_out::sends(bench::at(live, 9, 30), abc);
@@ -147,7 +148,7 @@ pub fn while_down(b: Bench, log: &mut Room) -> Bench {
 // The first replay, in which a rejection arrives between two messages, and the line breaks.
 pub fn first_replay(b: Bench, book: &mut Room, log: &Room) -> Bench {
     say::title(b"3. A new line; a rejection between two messages; it breaks during the replay");
-    let asked = bench::logs_in(bench::at(b, 9, 31), book);
+    let asked = bench::logs_in(bench::at(b, 9, 31), false, book);
     let one = bench::delivers(asked, log, book);
     let mut bytes = [0u8; 200];
     written::order_rejected(b"ABC123", b'D', b"Duplicate ClOrdID", &mut bytes);
@@ -160,8 +161,10 @@ pub fn first_replay(b: Bench, book: &mut Room, log: &Room) -> Bench {
 
 // The second replay, in which the line breaks again.
 pub fn second_replay(b: Bench, book: &mut Room, log: &Room) -> Bench {
-    say::title(b"4. The next line; it breaks during the replay again");
-    let asked = bench::logs_in(bench::at(b, 9, 32), book);
+    say::title(
+        b"4. The next line, with the full list of units by name; it breaks during the replay again",
+    );
+    let asked = bench::logs_in(bench::at(b, 9, 32), true, book);
     let one = bench::delivers(asked, log, book);
     let jkl = written::new_order(b"JKL012", written::BUY, 300, JKL);
     let refused = orders_out::sends(bench::later(one, 5), jkl);
@@ -172,7 +175,7 @@ pub fn second_replay(b: Bench, book: &mut Room, log: &Room) -> Bench {
 // The third replay, up to the message in whose middle the power fails.
 pub fn third_replay(b: Bench, book: &mut Room, log: &Room) -> Bench {
     say::title(b"5. Another line; the power fails in the middle of a message");
-    let asked = bench::logs_in(bench::at(b, 9, 33), book);
+    let asked = bench::logs_in(bench::at(b, 9, 33), false, book);
     let one = bench::delivers(asked, log, book);
     bench::delivers(one, log, book)
 }
@@ -225,7 +228,9 @@ fn with_old(b: Book, number: u32, buffer: &mut Room) -> Book {
 pub fn full_replay(b: Bench, book: &mut Room, log: &mut Room) -> Bench {
     say::title(b"7. A new line after the restart; the replay completes");
     let logged = executes(bench::at(b, 9, 36), 3, b"GHI789", 500, GHI, 0, log);
-    let asked = bench::logs_in(bench::later(logged, 10), book);
+    let ready = bench::later(logged, 10);
+    forms::compares(ready, log);
+    let asked = bench::logs_in(ready, false, book);
     let one = bench::delivers(asked, log, book);
     let meanwhile = executes(one, 2, b"DEF456", 500, DEF, 0, log);
     let two = bench::delivers(meanwhile, log, book);
@@ -291,7 +296,7 @@ pub fn heartbeats(b: Bench, book: &mut Room) -> Bench {
 pub fn end_of_day(b: Bench, book: &mut Room, log: &Room) -> Bench {
     say::title(b"11. The last line: nothing to replay, and a Logout at the end of the day");
     let before = bench::later(bench::at(b, 15, 59), 59000);
-    let asked = bench::logs_in(before, book);
+    let asked = bench::logs_in(before, false, book);
     let complete = bench::delivers(asked, log, book);
     let v = complete.venue;
     let mut bytes = [0u8; 200];
@@ -308,7 +313,7 @@ pub fn options_desk() {
     let mut book = [0u8; 4096];
     let log = [0u8; 4096];
     let opened = begins(Market::Options, &mut book);
-    let asked = bench::logs_in(bench::at(opened, 9, 30), &mut book);
+    let asked = bench::logs_in(bench::at(opened, 9, 30), false, &mut book);
     let live = bench::delivers(asked, &log, &mut book);
     let call = written::option(b"OPT001", written::BUY, b'1', MATURITY, PREMIUM, STRIKE);
     let one = orders_out::sends(bench::later(live, 100), call);
@@ -317,7 +322,7 @@ pub fn options_desk() {
     let dayless = written::option(b"OPT002", written::BUY, b'1', NO_DAY, PREMIUM, STRIKE);
     let three = orders_out::sends(bench::later(two, 100), dayless);
     let broken = bench::breaks(bench::later(three, 50), &mut book);
-    let again = bench::logs_in(bench::at(broken, 9, 31), &mut book);
+    let again = bench::logs_in(bench::at(broken, 9, 31), false, &mut book);
     let back = bench::delivers(again, &log, &mut book);
     let put = written::option(b"OPT003", written::SELL, b'0', MATURITY, PREMIUM, STRIKE);
     orders_out::sends(bench::later(back, 100), put);

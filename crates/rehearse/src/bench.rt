@@ -1,4 +1,5 @@
 // The bench: our gateway's session and the venue, by value, while the book's and the log's bytes are lent; and what passes between the two.
+use crate::forms;
 use crate::replays;
 use crate::say;
 use crate::told;
@@ -94,11 +95,20 @@ pub fn length_of(b: Bench) -> u32 {
     book.length
 }
 
-// Our gateway sends its login.
-fn asks(b: Bench, up: &mut [u8]) -> Bench {
+// Which units a login lists.
+fn lists(full: bool) {
+    if full {
+        writing::text(b"logs in with the full list of 32 units");
+    } else {
+        writing::text(b"logs in with its units above 0");
+    }
+}
+
+// Our gateway sends its login in a form.
+fn asks(b: Bench, full: bool, up: &mut [u8]) -> Bench {
     let s = b.session;
     let answer = s.login(
-        session_logins::no_choice(),
+        forms::choice(full),
         written::names(),
         written::acknowledgment_fields(),
         written::execution_fields(),
@@ -109,7 +119,7 @@ fn asks(b: Bench, up: &mut [u8]) -> Bench {
         writing::text(b"may not log in: ");
         say::refusal(answer.refusal);
     } else {
-        writing::text(b"logs in with its whole table of 32 units");
+        lists(full);
         told::size(up);
         writing::text(b"; it claims: ");
         say::table(table_of(b));
@@ -139,11 +149,11 @@ fn answers(b: Bench, up: &[u8], down: &mut [u8]) -> Bench {
     next
 }
 
-// Our gateway logs in on a new line, the venue answers, and the answer arrives.
-pub fn logs_in(b: Bench, book: &mut Room) -> Bench {
+// Our gateway logs in on a new line, with the full list of units or with no choice of them, the venue answers, and the answer arrives.
+pub fn logs_in(b: Bench, full: bool, book: &mut Room) -> Bench {
     let mut up = [0u8; 600];
     let mut down = [0u8; 600];
-    let asked = asks(b, &mut up);
+    let asked = asks(b, full, &mut up);
     let answered = answers(later(asked, 10), &up, &mut down);
     receives(later(answered, 10), &down, book)
 }

@@ -1,6 +1,7 @@
 // A rehearsal of one trading day: our gateway's session against the bench venue, told row by row. Every answer is one of the proved core.
 mod acts;
 mod bench;
+mod forms;
 mod lasts;
 mod orders_out;
 mod outage;

@@ -11,7 +11,7 @@ use borrow.Author.Tests.{lt-ltb, le-ltb}
 use Rattle.table.specs.declared.Table.{Table}
 use Rattle.table.specs.declared.Unit.{Unit}
 use Rattle.table.specs.Table.{lastOf}
-use Rattle.session_logins.specs.LoginRequests.{onlyIf, usedFrom, filled, usedUnits}
+use Rattle.session_logins.specs.LoginRequests.{onlyIf, isUsed, usedFrom, filled, usedUnits}
 use Rattle.session_logins.specs.UsedUnits.{used-more, used-few}
 
 abbrev unit : ℕ → Unit
@@ -38,7 +38,7 @@ module _ (t : Table) (i : ℕ) {units : List Unit} {count entry : ℕ} (h : i < 
       let k : i + 1 ≡ suc i = omega arith in
       let j : 1 + i ≡ i + 1 = omega arith in
       ap (λ (n : ℕ). usedFrom t n 1) k ∙ used-more t i 1
-      ∙ ap (λ (u : ℕ). us ++ onlyIf (ltb 0 (lastOf t u)) u []) j
+      ∙ ap (λ (u : ℕ). us ++ onlyIf (isUsed t u) u []) j
       ∙ ap (λ (x : ℕ). us ++ onlyIf (ltb 0 x) (i + 1) []) (sym e)
       ∙ ap (λ (x : Bool). us ++ onlyIf x (i + 1) []) g
 
@@ -66,7 +66,7 @@ module _ (t : Table) (i : ℕ) {units : List Unit} {count entry : ℕ} (h : i < 
       record { many = s .many ∙ ap length (sym m); are = s .are ∙ ap filled (sym m) }
 
 -- after all 32 they are the choice
-pub all-used : (t : Table) (i : ℕ) {units : List Unit} {count : ℕ} → i ≡ 32 → Sofar t i units count → record { which = 1; flag = 0; count = count; units = units } ≡ usedUnits t
+pub all-used : (t : Table) (i : ℕ) {units : List Unit} {count : ℕ} → i ≡ 32 → Sofar t i units count → record { which = 1; flag = usedUnits t .flag; count = count; units = units } ≡ usedUnits t
 all-used t i z s =
-    ap₂ (λ (n : ℕ) (l : List Unit). record { which = 1; flag = 0; count = n; units = l }) (s .many) (s .are)
-    ∙ ap (λ (k : ℕ). record { which = 1; flag = 0; count = length (usedFrom t k 1); units = filled (usedFrom t k 1) }) z
+    ap₂ (λ (n : ℕ) (l : List Unit). record { which = 1; flag = usedUnits t .flag; count = n; units = l }) (s .many) (s .are)
+    ∙ ap (λ (k : ℕ). record { which = 1; flag = usedUnits t .flag; count = length (usedFrom t k 1); units = filled (usedFrom t k 1) }) z

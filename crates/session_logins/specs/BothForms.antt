@@ -3,7 +3,7 @@
 --     default-lists-used        with no choice given a unit is listed exactly when its entry is above 0, with its number, ascending, with flag 0
 --     named-lists-all           by name all 32 units are listed, ascending, with flag 1 and the table's numbers
 --     both-ask-for-the-table    either form asks, of every unit, for what is above the table's number
---     whole-is-stored           what the writer leaves in the front of its buffer, whatever stood there, is that message
+-- The first two speak of what the writer leaves in the front of its buffer, whatever stood there.
 -- Assumes nothing.
 use mathlib.Core.Path.{_≡_, refl, sym, ap, ap₂, _∙_}
 use mathlib.Core.Bool.{Bool, true, false, cond}
@@ -18,14 +18,15 @@ use Rattle.table.specs.declared.Table.{Table}
 use Rattle.table.specs.Table.{lastOf}
 use Rattle.session_groups.specs.Values.{Pair, NumbersFit, groupBytes}
 use Rattle.session_groups.specs.Values.Group.{units}
-use Rattle.session_groups.specs.Asked.{askedOf}
+use Rattle.session_groups.specs.Asked.{askedOf, asked}
 use Rattle.session_groups.specs.Ascending.{listed, Ascends, numbers-fit}
+use Rattle.session_messages.specs.declared.Record.{Record}
 use Rattle.session_messages.specs.Sessions.{namesGood, recordRefusal, writeBuffer, recordBuffer, sessionBytes}
 use Rattle.session_logins.specs.declared.Choice.{Choice}
 use Rattle.session_logins.specs.declared.Bitfields.{Bitfields}
 use Rattle.session_logins.specs.LoginRequests.{usedFrom, usedUnits, allUnits, wholeTable, choiceOf, unitsPart, unitsGroup, bitsPart, one, groupCount, saidOf, padded, loginRecord}
 use Rattle.session_logins.specs.UsedUnits.{usedPairs, used-few, filled-long, used-pairs, used-ascends, used-fit, Among, used-listed, listed-used, listed-asks, used-asks}
-use Rattle.session_logins.specs.LoginRequestLaws.{choice-default, said-most, BitsInOrder, whole-in-order, units-bytes, login-bytes, whole-is-written}
+use Rattle.session_logins.specs.LoginRequestLaws.{choice-default, said-most, BitsInOrder, whole-in-order, groupsValue, units-bytes, login-bytes, whole-is-written}
 
 -- ---- the group of units
 
@@ -73,30 +74,11 @@ module _ (table : Table) (names : List ℕ) (acknowledgments executions : Bitfie
   unfolding loginRecord
   whole-body full = ap padded (whole-says full)
 
-  -- ---- no choice given
-
-  -- the login of a choice: its group of units has flag 0 and pairs for exactly the units of 1 to 32 whose entry is above 0, ascending
-  pub record ListsUsed (choice : Choice) : Type 0 where
-    pub pairs : List Pair
-    pub body : loginRecord table choice names acknowledgments executions .body ≡ padded (saidWith 0 pairs names acknowledgments executions)
-    pub each : (u : ℕ) → 1 ≤ u → u ≤ 32 → 0 < lastOf table u → Among pairs u (lastOf table u)
-    pub only : (u n : ℕ) → Among pairs u n → (1 ≤ u) × (u ≤ 32) × (n ≡ lastOf table u) × (0 < n)
-    pub ascending : Ascends 1 pairs
-
-  -- DEFAULT LISTS USED
-  pub default-lists-used : (choice : Choice) → choice .which ≡ 0 → ListsUsed choice
-  unfolding loginRecord
-  default-lists-used choice z = record {
-    pairs = usedPairs table;
-    body = ap (λ (c : Choice). padded (saidOf table c names acknowledgments executions)) (sym (choice-default table choice z)) ∙ ap padded said-used;
-    each = used-listed table;
-    only = listed-used table;
-    ascending = used-ascends table;
-  }
-
-  -- NAMED LISTS ALL
-  pub named-lists-all : loginRecord table allUnits names acknowledgments executions .body ≡ padded (saidWith 1 (listed 32 1 (lastOf table)) names acknowledgments executions)
-  named-lists-all = whole-body true
+  -- any choice that is none is the same login
+  none-given : (choice : Choice) → choice .which ≡ 0 → loginRecord table choice names acknowledgments executions ≡ loginRecord table (wholeTable false) names acknowledgments executions
+  unfolding loginRecord choiceOf
+  none-given choice z =
+      ap (λ (c : Choice). record { message = 0x37; unit = 0; number = 0; body = padded (saidOf table c names acknowledgments executions) }) (sym (choice-default table choice z))
 
 -- ---- what either form asks for
 
@@ -104,28 +86,60 @@ pub form-fits : (t : Table) → ((u : ℕ) → lastOf t u < 4294967296) → (ful
 form-fits t h true = numbers-fit 32 1 (lastOf t) h
 form-fits t h false = used-fit t h
 
--- BOTH ASK FOR THE TABLE: a listed unit for what is above its number, and an unlisted one, whose entry is 0, for all
-pub both-ask-for-the-table : (t : Table) (full : Bool) (u : ℕ) → 1 ≤ u → u ≤ 32 → askedOf (formFlag full) (formPairs t full) u ≡ lastOf t u
-both-ask-for-the-table t true u h k = listed-asks (lastOf t) 1 u 32 1 h (omega arith)
-both-ask-for-the-table t false u h k = used-asks t u h k
+pub form-asks : (t : Table) (full : Bool) (u : ℕ) → 1 ≤ u → u ≤ 32 → askedOf (formFlag full) (formPairs t full) u ≡ lastOf t u
+form-asks t true u h k = listed-asks (lastOf t) 1 u 32 1 h (omega arith)
+form-asks t false u h k = used-asks t u h k
+
+-- BOTH ASK FOR THE TABLE: of a listed unit for what is above its number, and of an unlisted one, whose entry is 0, for all
+pub both-ask-for-the-table : (t : Table) (acknowledgments executions : Bitfields) (full : Bool) (u : ℕ) → 1 ≤ u → u ≤ 32 → asked (groupsValue t (choiceOf t (wholeTable full)) acknowledgments executions) u ≡ lastOf t u
+unfolding choiceOf
+both-ask-for-the-table t acknowledgments executions true u h k = form-asks t true u h k
+both-ask-for-the-table t acknowledgments executions false u h k = ap (λ (ps : List Pair). askedOf 0 ps u) (used-pairs t) ∙ form-asks t false u h k
 
 -- ---- what the writer leaves in its buffer
 
-module _ (table : Table) (fit : (u : ℕ) → lastOf table u < 4294967296) (full : Bool) (names : List ℕ) (acknowledgments executions : Bitfields) (out : List ℕ) (long : length names ≡ 18)
+-- the message of a login with a group of units of a flag and pairs: the header, and what it says
+abbrev pub messageWith : ℕ → List Pair → List ℕ → Bitfields → Bitfields → List ℕ
+messageWith flag ps names acknowledgments executions =
+    headerBytes (8 + length (saidWith flag ps names acknowledgments executions)) 0x37 0 0 ++ saidWith flag ps names acknowledgments executions
+
+-- with names that agree, bitfields in order and 234 bytes of room, in which anything may stand
+module _ (table : Table) (fit : (u : ℕ) → lastOf table u < 4294967296) (names : List ℕ) (acknowledgments executions : Bitfields) (out : List ℕ) (long : length names ≡ 18)
     (good : namesGood names ≡ true) (q : acknowledgments .given ≡ true → BitsInOrder acknowledgments) (r : executions .given ≡ true → BitsInOrder executions)
     (has-room : 234 ≤ length out) where
-  abbrev said : List ℕ
-  said = saidWith (formFlag full) (formPairs table full) names acknowledgments executions
+  whole-room : (full : Bool) → 10 + length (saidOf table (choiceOf table (wholeTable full)) names acknowledgments executions) ≤ length out
+  whole-room full = let h = said-most table (choiceOf table (wholeTable full)) names acknowledgments executions long in omega (arith, h, has-room)
 
-  -- WHOLE IS STORED: with names that agree, bitfields in order and 234 bytes of room, either form is written: the header, and what it says
-  pub whole-is-stored : recordBuffer (loginRecord table (wholeTable full) names acknowledgments executions) out ≡ patched out 0 (headerBytes (8 + length said) 0x37 0 0 ++ said)
+  -- WHOLE IS STORED: either form is written into the buffer's front
+  pub whole-is-stored : (full : Bool) → recordBuffer (loginRecord table (wholeTable full) names acknowledgments executions) out ≡ patched out 0 (messageWith (formFlag full) (formPairs table full) names acknowledgments executions)
   unfolding writeBuffer
-  whole-is-stored =
-      let h = said-most table (choiceOf table (wholeTable full)) names acknowledgments executions long in
-      let room : 10 + length (saidOf table (choiceOf table (wholeTable full)) names acknowledgments executions) ≤ length out = omega (arith, h, has-room) in
+  whole-is-stored full =
       let z : recordRefusal (loginRecord table (wholeTable full) names acknowledgments executions) (length out) ≡ 0 =
-      whole-is-written table (wholeTable full) names acknowledgments executions (length out) long good q r room full refl fit in
+      whole-is-written table (wholeTable full) names acknowledgments executions (length out) long good q r (whole-room full) full refl fit in
       ap (λ (b : Bool). cond b (patched out 0 (sessionBytes (loginRecord table (wholeTable full) names acknowledgments executions))) out) (eq-eqb _ 0 z)
       ∙ ap (patched out 0)
-      (login-bytes table (wholeTable full) names acknowledgments executions (length out) long good q r room (λ _. whole-in-order table fit full)
+      (login-bytes table (wholeTable full) names acknowledgments executions (length out) long good q r (whole-room full) (λ _. whole-in-order table fit full)
       ∙ ap (λ (l : List ℕ). headerBytes (8 + length l) 0x37 0 0 ++ l) (whole-says table names acknowledgments executions full))
+
+  -- the login of a choice that is none: its group of units has flag 0 and pairs for exactly the units of 1 to 32 whose entry is above 0, each with its
+  -- number, ascending
+  pub record ListsUsed (choice : Choice) : Type 0 where
+    pub pairs : List Pair
+    pub stored : recordBuffer (loginRecord table choice names acknowledgments executions) out ≡ patched out 0 (messageWith 0 pairs names acknowledgments executions)
+    pub each : (u : ℕ) → 1 ≤ u → u ≤ 32 → 0 < lastOf table u → Among pairs u (lastOf table u)
+    pub only : (u n : ℕ) → Among pairs u n → (1 ≤ u) × (u ≤ 32) × (n ≡ lastOf table u) × (0 < n)
+    pub ascending : Ascends 1 pairs
+
+  -- DEFAULT LISTS USED
+  pub default-lists-used : (choice : Choice) → choice .which ≡ 0 → ListsUsed choice
+  default-lists-used choice z = record {
+    pairs = usedPairs table;
+    stored = ap (λ (l : Record). recordBuffer l out) (none-given table names acknowledgments executions choice z) ∙ whole-is-stored false;
+    each = used-listed table;
+    only = listed-used table;
+    ascending = used-ascends table;
+  }
+
+  -- NAMED LISTS ALL
+  pub named-lists-all : recordBuffer (loginRecord table allUnits names acknowledgments executions) out ≡ patched out 0 (messageWith 1 (listed 32 1 (lastOf table)) names acknowledgments executions)
+  named-lists-all = whole-is-stored true

@@ -35,10 +35,14 @@ abbrev pub onlyIf : Bool → ℕ → List Unit → List Unit
 onlyIf true u us = record { 0 = u } ∷ us
 onlyIf false u us = us
 
--- of n units from k on those whose entry is above 0, ascending
+-- whether a unit's entry is above 0
+abbrev pub isUsed : Table → ℕ → Bool
+isUsed table u = ltb 0 (lastOf table u)
+
+-- of n units from k on those of which this is so, ascending
 unfoldable pub usedFrom : Table → ℕ → ℕ → List Unit
 usedFrom table zero k = []
-usedFrom table (suc n) k = onlyIf (ltb 0 (lastOf table k)) k (usedFrom table n (suc k))
+usedFrom table (suc n) k = onlyIf (isUsed table k) k (usedFrom table n (suc k))
 
 -- the places of a choice: the units that it lists, and 0 in the others
 abbrev pub filled : List Unit → List Unit

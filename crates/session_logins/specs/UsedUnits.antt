@@ -21,7 +21,7 @@ use Rattle.table.specs.Table.{lastOf}
 use Rattle.session_groups.specs.Values.{Pair, NumbersFit}
 use Rattle.session_groups.specs.Asked.{askedOf}
 use Rattle.session_groups.specs.Ascending.{listed, Ascends, ascends-below, listed-ascends, numbers-fit}
-use Rattle.session_logins.specs.LoginRequests.{onlyIf, usedFrom, filled, numbersOf, pairsFor}
+use Rattle.session_logins.specs.LoginRequests.{onlyIf, isUsed, usedFrom, filled, numbersOf, pairsFor}
 
 -- ---- one unit more
 
@@ -29,18 +29,18 @@ onto-end : (b : Bool) (u : ℕ) (us vs : List Unit) → onlyIf b u (us ++ vs) �
 onto-end true u us vs = refl
 onto-end false u us vs = refl
 
-pub used-more : (t : Table) (n k : ℕ) → usedFrom t (suc n) k ≡ usedFrom t n k ++ onlyIf (ltb 0 (lastOf t (k + n))) (k + n) []
+pub used-more : (t : Table) (n k : ℕ) → usedFrom t (suc n) k ≡ usedFrom t n k ++ onlyIf (isUsed t (k + n)) (k + n) []
 unfolding usedFrom
-used-more t zero k = let z : k ≡ k + 0 = omega arith in ap (λ (u : ℕ). onlyIf (ltb 0 (lastOf t u)) u []) z
+used-more t zero k = let z : k ≡ k + 0 = omega arith in ap (λ (u : ℕ). onlyIf (isUsed t u) u []) z
 used-more t (suc n) k =
     let z : suc k + n ≡ k + suc n = omega arith in
-    ap (onlyIf (ltb 0 (lastOf t k)) k) (used-more t n (suc k) ∙ ap (λ (u : ℕ). usedFrom t n (suc k) ++ onlyIf (ltb 0 (lastOf t u)) u []) z)
-    ∙ onto-end (ltb 0 (lastOf t k)) k (usedFrom t n (suc k)) (onlyIf (ltb 0 (lastOf t (k + suc n))) (k + suc n) [])
+    ap (onlyIf (isUsed t k) k) (used-more t n (suc k) ∙ ap (λ (u : ℕ). usedFrom t n (suc k) ++ onlyIf (isUsed t u) u []) z)
+    ∙ onto-end (isUsed t k) k (usedFrom t n (suc k)) (onlyIf (isUsed t (k + suc n)) (k + suc n) [])
 
 pub used-few : (t : Table) (n k : ℕ) → length (usedFrom t n k) ≤ n
 unfolding usedFrom
 used-few t zero k = omega arith
-used-few t (suc n) k = by (ltb 0 (lastOf t k)) (used-few t n (suc k))
+used-few t (suc n) k = by (isUsed t k) (used-few t n (suc k))
   where
     by : (b : Bool) → length (usedFrom t n (suc k)) ≤ n → length (onlyIf b k (usedFrom t n (suc k))) ≤ suc n
     by true h = omega arith
@@ -71,7 +71,7 @@ usedPairs t = aboveZero (listed 32 1 (lastOf t))
 numbered : (t : Table) (n k : ℕ) → pairsFor t (numbersOf (usedFrom t n k)) ≡ aboveZero (listed n k (lastOf t))
 unfolding usedFrom
 numbered t zero k = refl
-numbered t (suc n) k = by (ltb 0 (lastOf t k)) (numbered t n (suc k))
+numbered t (suc n) k = by (isUsed t k) (numbered t n (suc k))
   where
     by : (b : Bool) → pairsFor t (numbersOf (usedFrom t n (suc k))) ≡ aboveZero (listed n (suc k) (lastOf t))
         → pairsFor t (numbersOf (onlyIf b k (usedFrom t n (suc k)))) ≡ keptIf b (record { unit = k; number = lastOf t k }) (aboveZero (listed n (suc k) (lastOf t)))

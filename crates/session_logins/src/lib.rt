@@ -117,19 +117,14 @@ pub fn used_units(table: Table) -> Choice
     let mut i: usize = 0;
     while i < 32 {
         let unit = Unit((i + 1) as u8);
-        let entry = table.entry(unit);
-        if entry.last.0 > 0 {
+        let held = table.entry(unit);
+        if held.last.0 > 0 {
             units[count] = unit;
             count += 1;
         }
         i += 1;
     }
-    Choice {
-        which: 1,
-        flag: 0,
-        count: count as u8,
-        units: units,
-    }
+    chosen(0, count as u8, units)
 }
 
 // The choice as it is carried out: the units whose entry is above 0 where none is given.

@@ -32,7 +32,7 @@ use Rattle.day_model.specs.Model as day
 use Rattle.day_model.specs.Story.{Bytes}
 use Rattle.day_model.specs.Brings.{Call, sentBy}
 use Rattle.day_model.specs.SameReplay.{Replayed}
-use Rattle.day_line.specs.Lines.{msgOf, says, Fine, loginOfTable, OurLogin}
+use Rattle.day_line.specs.Lines.{msgOf, says, Fine, OurLogin}
 use Rattle.day_line.specs.OurLogins.{our-asked, our-record}
 use Rattle.venue.specs.declared.Thresholds.{Thresholds}
 use Rattle.venue.specs.declared.Venue as state

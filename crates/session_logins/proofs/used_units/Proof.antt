@@ -58,13 +58,16 @@ loop-again c =
           (c .if1 .came),
     )
 
-cast-t13 : tie.Need-cast-t13 Inv-loop μ-loop
-cast-t13 c = omega (arith, c .before .loop .inv .0, few-yet (c .before .before .args .table) (c .before .loop .i) (c .before .loop .inv .1))
+cast-chosen : tie.Need-cast-chosen Inv-loop μ-loop
+cast-chosen c = omega (arith, c .before .loop .inv .0, few-yet (c .before .before .args .table) (c .before .loop .i) (c .before .loop .inv .1))
+
+chosen-requires : tie.Need-chosen-requires Inv-loop μ-loop
+chosen-requires c κs = tt
 
 returns : tie.Need-returns Inv-loop μ-loop
 returns c =
-    let l = c .before .loop in
-    all-used (c .before .before .args .table) (l .i) (omega (arith, l .inv .0, c .loop-test .left)) (l .inv .1)
+    let l = c .before .before .loop in
+    c .chosen .ensures ∙ all-used (c .before .before .before .args .table) (l .i) (omega (arith, l .inv .0, c .before .loop-test .left)) (l .inv .1)
 
 pub used-units-spec : {M : Type 1} → statement M
 used-units-spec =
@@ -81,5 +84,6 @@ used-units-spec =
     add-i
     loop-less
     loop-again
-    cast-t13
+    cast-chosen
+    chosen-requires
     returns)
