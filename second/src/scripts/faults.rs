@@ -14,7 +14,7 @@ use crate::questions::session::sample::{
     Sample as Session, CLIENT_HEARTBEAT, LOGIN, LOGOUT, REPLAY_COMPLETE, RESPONSE, SERVER_HEARTBEAT,
 };
 use crate::random::Random;
-use crate::rules::book::{BOOKED, MARK};
+use crate::rules::book::{Book, BOOKED, MARK};
 use crate::rules::frame;
 use crate::rules::market::{self, Market};
 use crate::rules::record::{COUNT_PLACE, SIZE, SLOTS_PLACE};
@@ -214,8 +214,13 @@ pub fn set_phase(driver: &mut Driver, phase: u8, outgoing: u32) {
 
 /// The same with its market.
 pub fn set_market(driver: &mut Driver, phase: u8, outgoing: u32, market: Market) {
-    let book = &driver.bench.member.book;
-    let line = format!(
+    let line = member_line(phase, outgoing, market, &driver.bench.member.book);
+    driver.ask(line);
+}
+
+/// The question that sets a member's state.
+pub fn member_line(phase: u8, outgoing: u32, market: Market, book: &Book) -> String {
+    format!(
         "m-state {} {} {} {} {} {} {} {} {}",
         phase,
         outgoing,
@@ -226,8 +231,7 @@ pub fn set_market(driver: &mut Driver, phase: u8, outgoing: u32, market: Market)
         book.count,
         hex::write(&book.table),
         hex::write(&book.places)
-    );
-    driver.ask(line);
+    )
 }
 
 /// The faults of what the venue sends, by the call for any message; those of an application message

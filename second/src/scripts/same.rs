@@ -3,6 +3,7 @@
 
 use super::day;
 use super::driver::{Driver, LoginLine, SHOWN};
+use super::faults::member_line;
 use crate::hex;
 use crate::random::Random;
 use crate::rules::member::{Member, Phase};
@@ -168,7 +169,7 @@ fn both(driver: &mut Driver, member: &Member, venue: &Venue, breaks: bool) {
     let random = driver.random.clone();
     for full in [false, true] {
         driver.random = random.clone();
-        driver.ask(member_line(member));
+        driver.ask(member_state(member));
         driver.ask(venue_line(venue));
         driver.lose_line();
         driver.to_venue.clear();
@@ -190,7 +191,8 @@ fn both(driver: &mut Driver, member: &Member, venue: &Venue, breaks: bool) {
     driver.ask(venue_line(venue));
 }
 
-/// A login of a form, with just enough room or more and at times first with a byte less, and ten steps. Most of what they send is got at once.
+/// A login of a form, with just enough room or more and at times first with a byte less, and ten steps.
+/// Most of what they send is got at once.
 fn replay(driver: &mut Driver, full: bool, logs: bool) {
     let login = LoginLine::good(&mut driver.random, false, &driver.units);
     let login = match full {
@@ -218,23 +220,13 @@ fn replay(driver: &mut Driver, full: bool, logs: bool) {
     }
 }
 
-fn member_line(member: &Member) -> String {
-    let book = &member.book;
-    format!(
-        "m-state {} {} {} {} {} {} {} {} {}",
-        Phase::Closed as u8,
-        member.outgoing,
-        member.market as u8,
-        book.date,
-        book.length,
-        book.last,
-        book.count,
-        hex::write(&book.table),
-        hex::write(&book.places)
-    )
+/// Outside a session.
+fn member_state(member: &Member) -> String {
+    let closed = Phase::Closed as u8;
+    member_line(closed, member.outgoing, member.market, &member.book)
 }
 
-/// Outside a session.
+/// The same of a venue.
 fn venue_line(venue: &Venue) -> String {
     format!(
         "v-state 0 0 0 0 {} {} {} {} {}",
@@ -455,7 +447,7 @@ mod tests {
             let mut driver = Driver::new(Random::new(seed));
             let mut member = Member::blank();
             member.book.table = table;
-            driver.ask(member_line(&member));
+            driver.ask(member_state(&member));
             assert_eq!(driver.ask(login.line(size - 1)), "13");
             let message = driver.ask_for_message(login.line(size));
             assert_eq!(message.map(|bytes| bytes.len()), Some(size));
