@@ -52,6 +52,11 @@ logged-runs : (q : Bool) (m : Msg) (v : Venue) → logged q m v .running ≡ v .
 logged-runs true m v = refl
 logged-runs false m v = refl
 
+-- bytes of which each is known by what it says, from what they say
+pub spoken-all : (says : Bytes → Sent) (spoken : Sent → Bytes) (xs : List Bytes) → All (λ (b : Bytes). spoken (says b) ≡ b) xs → map spoken (map says xs) ≡ xs
+spoken-all says spoken [] a = refl
+spoken-all says spoken (x ∷ xs) a = ap₂ (λ (b : Bytes) (l : List Bytes). b ∷ l) (a .0) (spoken-all says spoken xs (a .1))
+
 -- ---- two states of one venue
 
 module _ (L : Line) (B : VenueCode) (N : MeetsVenue L B) (T : StepsAsTold L B N) where
@@ -70,10 +75,9 @@ module _ (L : Line) (B : VenueCode) (N : MeetsVenue L B) (T : StepsAsTold L B N)
 -- bytes that a step sends are known by what they say: by `spoken`
 module _ (L : Line) (B : VenueCode) (N : MeetsVenue L B) (T : StepsAsTold L B N) (spoken : Sent → Bytes)
     (clear : (b : Bytes) → L .Fine b → Replayed (L .says b) → spoken (L .says b) ≡ b) where
-  -- what a step sends, from what it says
-  spoken-all : (xs : List Bytes) → All (L .Fine) xs → AllReplayed (map (L .says) xs) → map spoken (map (L .says) xs) ≡ xs
-  spoken-all [] f r = refl
-  spoken-all (x ∷ xs) f r = ap₂ (λ (b : Bytes) (l : List Bytes). b ∷ l) (clear x (f .0) (r .0)) (spoken-all xs (f .1) (r .1))
+  all-clear : (xs : List Bytes) → All (L .Fine) xs → AllReplayed (map (L .says) xs) → All (λ (b : Bytes). spoken (L .says b) ≡ b) xs
+  all-clear [] f r = tt
+  all-clear (x ∷ xs) f r = (clear x (f .0) (r .0), all-clear xs (f .1) (r .1))
 
   module _ (v : B .Ven) (g : N .GoodV v) (runs : B .running v ≡ true) (room : ℕ) (h : T .stepRoom ≤ room) where
     told : StepsAs (N .viewV v) (N .viewV (B .stepTo room v)) (map (L .says) (B .stepSends room v))
@@ -81,7 +85,7 @@ module _ (L : Line) (B : VenueCode) (N : MeetsVenue L B) (T : StepsAsTold L B N)
 
     pub step-bytes : B .stepSends room v ≡ map spoken (docStep (suc (length (N .viewV v .log))) (N .viewV v) .sent)
     step-bytes =
-        sym (spoken-all (B .stepSends room v) (N .step-fine room v g runs) (rw (told .sent) (doc-replays (suc (length (N .viewV v .log))) (N .viewV v))))
+        sym (spoken-all (L .says) spoken (B .stepSends room v) (all-clear (B .stepSends room v) (N .step-fine room v g runs) (rw (told .sent) (doc-replays (suc (length (N .viewV v .log))) (N .viewV v)))))
         ∙ ap (map spoken) (told .sent)
 
     pub step-to : N .viewV (B .stepTo room v) ≡ docStep (suc (length (N .viewV v .log))) (N .viewV v) .to

@@ -68,8 +68,9 @@ rejected es = anAside rejection ∷ aDelivery 1000 ∷ es
 abbrev breaks : List Event → List Event
 breaks es = aBreak 1000 ∷ aDrop ∷ es
 
--- three messages of two units; a replay that breaks after its first message, and one, of a login with the full list, that breaks after its next; a cut in the middle of the
--- second message, which stands after 16 + 48 + 16 bytes, with a restart for the other market; and a third replay, with a rejection between its two messages, up to what the venue sends last
+-- three messages of two units; a replay that breaks after its first message, and one, of a login with the full list, that breaks after its next; a cut in the
+-- middle of the second message, which stands after 16 + 48 + 16 bytes, with a restart for the other market; and a third replay, with a rejection between its
+-- two messages, up to what the venue sends last
 abbrev pub events : List Event
 events =
     theLog 1000 (msg 1 1) ∷ theLog 1000 (msg 2 1) ∷ theLog 1000 (msg 1 2)

@@ -188,8 +188,9 @@ pub record TheBenchIsSuchAVenue : Type 1 where
 -- 'Demand 3 holds for both forms of login': the form is one of the fields that the event of a login has, so that the statements above speak of the logins of
 -- both forms, in any order, and of those of broken lines that still reach the venue. 'and it is to be shown that they bring the same replay': at any moment
 -- of the day, with the session closed and no session at the venue, log in with any valid fields, in one form or the other. Whichever login the venue takes,
--- of whatever it is offered for its log and hears after it and of all the steps that it makes with room, all that it sends is the same, byte for byte. The
--- venue's steps are those of document 01
+-- of whatever it is offered for its log and hears after it and of all the steps that it makes with room, all that it sends is the same, byte for byte. Two
+-- things are asked of the venue for this: its steps are those of document 01, and whether its log can read a message that it is offered and has room for it is the
+-- same after both (`Alike`)
 module _ (date market : ℕ) (X : VenueCode) (w : Moment date market X) where
   -- the venue after it took the login
   abbrev pub loggedIn : Fields → Bytes → ℕ → X .Ven

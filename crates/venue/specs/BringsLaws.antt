@@ -24,11 +24,12 @@ use Rattle.session_messages.specs.declared.Record.{Record}
 use Rattle.session_messages.specs.Sessions as logins
 use Rattle.session_fields.specs.SessionFields.{groupFlag, groupListed}
 use Rattle.day_model.specs.Model.{Msg, Table, keep, count, above, Sent, message, complete, Venue}
-use Rattle.day_model.specs.Story.{Bytes, All}
+use Rattle.day_model.specs.Story.{Bytes}
 use Rattle.day_model.specs.Brings as day
 use Rattle.day_model.specs.Brings.{aboveOf, brings, Call, calls, sentBy}
 use Rattle.day_model.specs.BringsLaws.{Owes, moves-go, a-step-sends-the-next}
 use Rattle.day_model.specs.BringsCalls.{login-followed}
+use Rattle.day_model.specs.SameReplay.{spoken-all}
 use Rattle.day_line.specs.Lines.{ourLine, msgOf, says}
 use Rattle.venue.specs.declared.Venue as state
 use Rattle.session_fields.specs.AskedFor.{unitsAt}
@@ -93,10 +94,6 @@ pub bench-good : (us : List Use) → GoodV (bench us)
 bench-good us = uses-good us empty empty-good
 
 -- ---- bytes and what they say
-
-spoken-all : (xs : List Bytes) → All Clear xs → map spoken (map says xs) ≡ xs
-spoken-all [] a = refl
-spoken-all (x ∷ xs) a = ap₂ (λ (b : Bytes) (l : List Bytes). b ∷ l) (a .0) (spoken-all xs (a .1))
 
 abbrev body : Msg → Bytes
 body m = m .body
@@ -227,7 +224,7 @@ module _ (t : Table) (w : Bench) (xs : List Bytes) (o : Owing t w xs) (room : �
 
   -- a step with room sends the next of it
   sends-next : stepSends room w ≡ take 1 xs
-  sends-next = sym (spoken-all (stepSends room w) (steps w (o .good) runs room .clear)) ∙ ap (map spoken) said ∙ take-one (o .all) ∙ ap (take 1) (o .is)
+  sends-next = sym (spoken-all says spoken (stepSends room w) (steps w (o .good) runs room .clear)) ∙ ap (map spoken) said ∙ take-one (o .all) ∙ ap (take 1) (o .is)
 
   then-owes : Owing t (stepTo room w) (drop 1 xs)
   then-owes =
@@ -271,7 +268,7 @@ module _ (room : ℕ) (b : Bytes) (w : Bench) (g : GoodV w) (ok : accepts room b
             ∙ map-append body (map msgOf ms) (q .later)
             ∙ ap (λ (x : List Bytes). x ++ map body (q .later)) (bodies ms);
         rest = map spoken (q .rest);
-        front = ap (λ (x : List Bytes). x ++ map spoken (q .rest)) (sym (spoken-all out (f .each-sent)))
+        front = ap (λ (x : List Bytes). x ++ map spoken (q .rest)) (sym (spoken-all says spoken out (f .each-sent)))
             ∙ sym (map-append spoken (map says out) (q .rest))
             ∙ ap (map spoken) (q .is)
             ∙ bytes-of-list t (viewV w .log) (q .later)

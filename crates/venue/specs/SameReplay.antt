@@ -35,13 +35,10 @@ use Rattle.day_model.specs.SameReplay.{Replayed}
 use Rattle.day_line.specs.Lines.{msgOf, says, Fine, OurLogin}
 use Rattle.day_line.specs.OurLogins.{our-asked, our-record}
 use Rattle.venue.specs.declared.Thresholds.{Thresholds}
-use Rattle.venue.specs.declared.Venue as state
-use Rattle.venue.specs.declared.Answer.{Answer}
-use Rattle.venue.specs.Venues.{numbersFor, thresholdsOf, loggedIn, completeBytes}
+use Rattle.venue.specs.Venues.{numbersFor, thresholdsOf, completeBytes}
 use Rattle.venue.specs.VenueDay.{Bench, with, ourVenue, accepts, takesLogin}
 use Rattle.venue.specs.VenueLine.{spoken, read-frames}
-use Rattle.venue.specs.VenueTaken.{taken, login-answer}
-use Rattle.venue.specs.VenueLogin.{our-whole}
+use Rattle.venue.specs.VenueLogin.{logged-in, our-whole}
 
 -- ---- the thresholds
 
@@ -73,9 +70,6 @@ pub bench-same-replay : (w : Bench) (room room′ : ℕ) (b b′ : Bytes) (o : O
     → accepts room b w ≡ true → accepts room′ b′ w ≡ true → SameReplay (takesLogin room b w) (takesLogin room′ b′ w)
 bench-same-replay w room room′ b b′ o o′ e ok ok′ = record { state-is = is; sent = λ cs. ap (sentBy ourVenue cs) is }
   where
-    after : (room : ℕ) (b : Bytes) → accepts room b w ≡ true → takesLogin room b w ≡ with (loggedIn (w .venue) (framed b)) w
-    after room b ok = ap (λ (x : Answer). with (x .venue) w) (login-answer (w .venue) b room (taken room b w ok .none))
-
     alike : thresholdsOf (logins.recordOf (framed b)) ≡ thresholdsOf (logins.recordOf (framed b′))
     alike = thresholds-alike (logins.recordOf (framed b)) (logins.recordOf (framed b′)) (λ u h k. asks-for b o u h k ∙ e u ∙ sym (asks-for b′ o′ u h k))
 
@@ -83,7 +77,7 @@ bench-same-replay w room room′ b b′ o o′ e ok ok′ = record { state-is = 
     begins t = with (record { running = true; told = false; at = 0; upto = w .venue .length; length = w .venue .length; received = w .venue .received; thresholds = t; table = w .venue .table }) w
 
     is : takesLogin room b w ≡ takesLogin room′ b′ w
-    is = after room b ok ∙ ap begins alike ∙ sym (after room′ b′ ok′)
+    is = logged-in room b w ok ∙ ap begins alike ∙ sym (logged-in room′ b′ w ok′)
 
 -- ---- what is on our line, of any venue
 

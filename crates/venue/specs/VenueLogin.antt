@@ -34,12 +34,13 @@ use Rattle.venue.specs.VenueTaken.{Login, taken, login-answer, takes-it}
 
 -- ---- any login
 
+-- the state after it
+pub logged-in : (room : ℕ) (b : Bytes) (w : Bench) → accepts room b w ≡ true → takesLogin room b w ≡ with (loggedIn (w .venue) (framed b)) w
+logged-in room b w ok = ap (λ (x : Answer). with (x .venue) w) (login-answer (w .venue) b room (taken room b w ok .none))
+
 module _ (room : ℕ) (b : Bytes) (w : Bench) (g : GoodV w) (ok : accepts room b w ≡ true) where
   abbrev t : Thresholds
   t = thresholdsOf (logins.recordOf (framed b))
-
-  logged-in : takesLogin room b w ≡ with (loggedIn (w .venue) (framed b)) w
-  logged-in = ap (λ (x : Answer). with (x .venue) w) (login-answer (w .venue) b room (taken room b w ok .none))
 
   new-good : GoodV (with (loggedIn (w .venue) (framed b)) w)
   new-good =
@@ -62,7 +63,7 @@ module _ (room : ℕ) (b : Bytes) (w : Bench) (g : GoodV w) (ok : accepts room b
       }
 
   pub takes-good : GoodV (takesLogin room b w)
-  takes-good = rw logged-in new-good
+  takes-good = rw (logged-in room b w ok) new-good
 
   all-of : take (length (g .messages)) (map msgOf (g .messages)) ≡ map msgOf (g .messages)
   all-of = ap (λ (n : ℕ). take n (map msgOf (g .messages))) (sym (map-long msgOf (g .messages))) ∙ take-length (map msgOf (g .messages))
@@ -76,7 +77,7 @@ module _ (room : ℕ) (b : Bytes) (w : Bench) (g : GoodV w) (ok : accepts room b
   strays-is =
       let ms = g .messages in
       let e : low t (length ms) (map msgOf ms) ≡ (λ u. min (wantedAbove t u) (count u (map msgOf ms))) = ap (λ (l : List Msg). λ (u : ℕ). min (wantedAbove t u) (count u l)) all-of in
-      ap viewV logged-in
+      ap viewV (logged-in room b w ok)
       ∙ view-is (with (loggedIn (w .venue) (framed b)) w) new-good
       ∙ ap (λ (x : Table). record { log = map msgOf ms; running = true; listed = x; at = 0; upTo = length ms; told = false }) e
       ∙ ap (λ (n : ℕ). record { log = map msgOf ms; running = true; listed = λ u. min (wantedAbove t u) (count u (map msgOf ms)); at = 0; upTo = n; told = false }) (sym (map-long msgOf ms))
