@@ -1,6 +1,6 @@
-/* A small gateway over the C entry points. It restarts from its day book, reads the venue's bytes in whatever pieces they come, books each
- * message that is the next of its unit, and keeps the book in a file that a restart takes after any kill. A rejection, which has no unit and no
- * number, it hands to the desk and does not book.
+/* A small gateway over the session's calls. It restarts from its day book, logs in, gives the session each whole message of the line, in whatever
+ * pieces the bytes come, and keeps the book in a file that a restart takes after any kill. What the session books, and a rejection, which it does
+ * not book, it hands to the desk.
  *
  * usage: gateway DATE BOOKFILE [LOGIN] < LINE    DATE as YYYYMMDD; LINE is what the venue sends on one line, from the Login Response on;
  *                                                LOGIN, a new file, gets the bytes of the login, which a gateway sends on that line
@@ -33,17 +33,17 @@ enum { SYSTEM_FAILED = 100, WRONG_USAGE = 101, LOG_IN_AGAIN = 102, LOGIN_REJECTE
 /* What stands in the place of an exit status while the session goes on. */
 enum { GOES_ON = -1 };
 
-/* The book's bytes and its state. What stands in the file is what stands here. The buffer has one byte more than a book may have: a longer
- * file is then longer here too, and restart refuses it. */
+/* The market that this gateway serves. A book does not say of which market it is: each start tells the session. */
+enum { MARKET = BOE_EQUITIES };
+
+/* The book's bytes and the session's state. What stands in the file is what stands here. The buffer has one byte more than a book may have: a
+ * longer file is then longer here too, and restart refuses it. */
 static uint8_t book[BOE_BOOK_MOST_BYTES + 1];
-static struct boe_state state;
+static struct boe_session state;
 static int file;
 
 /* How many of the book's bytes the file has and the desk was handed. */
 static size_t settled;
-
-/* Whether a Login Response of status A has come on this line. */
-static bool accepted;
 
 /* How many rejections were handed to the desk on this line, and how many messages were refused, by the number of refusal. */
 static unsigned long handed, refused[BOE_REFUSALS + 1];
@@ -62,6 +62,8 @@ static uint32_t number_at(const uint8_t *p) {
 }
 
 static size_t book_length(void) { return number_at(state.bytes + BOE_STATE_LENGTH_AT); }
+
+static uint32_t phase(void) { return boe_session_phase(&state, sizeof state); }
 
 /* ---- the file */
 
@@ -169,13 +171,14 @@ static void write_messages(void) {
 
 /* Tells where each unit stopped: a line for its last message. 26 is a unit that has none; no other refusal comes of a state and its own book. */
 static unsigned write_last(void) {
+    const struct boe_state *of = boe_session_book(&state);
     for (uint8_t unit = 1; unit <= BOE_UNITS; unit++) {
-        unsigned refusal = boe_last_refusal(unit, book, sizeof book, &state, sizeof state);
+        unsigned refusal = boe_last_refusal(unit, book, sizeof book, of, sizeof *of);
         if (refusal == BOE_NONE) continue;
         if (refusal) return refusal;
-        size_t at = boe_last_at(unit, book, sizeof book, &state, sizeof state);
+        size_t at = boe_last_at(unit, book, sizeof book, of, sizeof *of);
         print_message(at);
-        printf(" at %zu %zu\n", at, boe_last_length(unit, book, sizeof book, &state, sizeof state));
+        printf(" at %zu %zu\n", at, boe_last_length(unit, book, sizeof book, of, sizeof *of));
     }
     return 0;
 }
@@ -187,9 +190,9 @@ static unsigned write_last(void) {
  * it would make the next restart 18. Every other refusal is the caller's to end on: after a 17 the table would be last night's. */
 static unsigned take_up(uint32_t date, const char *path) {
     size_t held = load();
-    unsigned refusal = boe_restart(date, book, held, &state, sizeof state);
+    unsigned refusal = boe_session_restart(date, MARKET, book, held, &state, sizeof state);
     if (refusal == BOE_NO_FIRST_MARK) {
-        refusal = boe_book_open(date, book, BOE_BOOK_MOST_BYTES, &state, sizeof state);
+        refusal = boe_session_open(date, MARKET, book, BOE_BOOK_MOST_BYTES, &state, sizeof state);
         if (refusal == 0) store(0);
     }
     if (refusal) return refusal;
@@ -199,47 +202,24 @@ static unsigned take_up(uint32_t date, const char *path) {
     return 0;
 }
 
-/* The login's group of units: those whose number is above 0, ascending, with flag 0, so that the venue replays a unit that is not listed from its
- * first message. */
-static void put_units(uint8_t *group) {
-    unsigned listed = 0;
-    for (unsigned i = 0; i < BOE_UNITS; i++) {
-        const uint8_t *last = state.bytes + BOE_STATE_TABLE_AT + 4 * i;
-        if (!(last[0] | last[1] | last[2] | last[3])) continue;
-        uint8_t *pair = group + BOE_UNITS_GROUP_PAIRS_AT + listed * BOE_PAIR_LEN;
-        pair[0] = (uint8_t)(i + 1);
-        memcpy(pair + 1, last, 4);
-        listed++;
-    }
-    group[BOE_UNITS_GROUP_LENGTH_AT] = (uint8_t)(BOE_UNITS_GROUP_PAIRS_AT + listed * BOE_PAIR_LEN);
-    group[BOE_UNITS_GROUP_TYPE_AT] = BOE_UNITS_GROUP;
-    group[BOE_UNITS_GROUP_FLAG_AT] = 0;
-    group[BOE_UNITS_GROUP_NUMBER_OF_UNITS_AT] = (uint8_t)listed;
-}
-
-/* Writes the login of the table, so that the venue replays what the book does not hold, and nothing else. The names are those of the protocol's
- * example. */
-static unsigned write_login(uint8_t *out, size_t out_len) {
-    struct boe_record record = {{0}};
-    record.bytes[BOE_RECORD_TYPE_AT] = BOE_LOGIN_REQUEST;
-    memcpy(record.bytes + BOE_LOGIN_REQUEST_SESSION_SUB_ID_AT, "0001", 4);
-    memcpy(record.bytes + BOE_LOGIN_REQUEST_USERNAME_AT, "TEST", 4);
-    memcpy(record.bytes + BOE_LOGIN_REQUEST_PASSWORD_AT, "TESTING", 7);
-    record.bytes[BOE_LOGIN_REQUEST_NUMBER_OF_GROUPS_AT] = 1;
-    put_units(record.bytes + BOE_LOGIN_REQUEST_GROUPS_AT);
-    return boe_write(BOE_FROM_MEMBER, &record, sizeof record, out, out_len);
-}
-
 /* The login goes to a new file and to no other: what is there already, the book by another name say, is not written over. */
-static unsigned send_login(const char *path) {
-    uint8_t login[BOE_LOGIN_MOST_BYTES];
-    unsigned refusal = write_login(login, sizeof login);
-    if (refusal) return refusal;
-    size_t length = boe_frame_length(login, sizeof login);
+static void send_login(const char *path, const uint8_t *login, size_t length) {
     FILE *line = fopen(path, "wbx");
     if (!line) fail(path);
     if (fwrite(login, 1, length, line) != length || fclose(line) != 0) fail("sending the login");
-    return 0;
+}
+
+/* Logs in, with the names of the protocol's example and no choice of units: the session lists what its table has, so that the venue replays what
+ * the book does not hold, and nothing else. Where no file is named the login goes nowhere, and the line is taken for one on which it was sent. */
+static unsigned log_in(const char *path) {
+    struct boe_login login = {{0}};
+    uint8_t out[BOE_LOGIN_MOST_BYTES];
+    memcpy(login.bytes + BOE_LOGIN_SESSION_SUB_ID_AT, "0001", 4);
+    memcpy(login.bytes + BOE_LOGIN_USERNAME_AT, "TEST", 4);
+    memcpy(login.bytes + BOE_LOGIN_PASSWORD_AT, "TESTING", 7);
+    unsigned refusal = boe_session_login(&login, sizeof login, out, sizeof out, &state, sizeof state);
+    if (refusal == 0 && path) send_login(path, out, boe_frame_length(out, sizeof out));
+    return refusal;
 }
 
 /* ---- a session */
@@ -250,17 +230,6 @@ static char shown(uint8_t code) { return code > ' ' && code <= '~' ? (char)code 
 /* Tells a status or reason of the venue's, and its text. */
 static void tell_text(const char *what, uint8_t code, const uint8_t *text, int most) {
     fprintf(stderr, "gateway: %s: %c: %.*s\n", what, shown(code), most, (const char *)text);
-}
-
-/* A Login Response: the first alone is in phase. Only status A lets messages be booked; any other ends the session. */
-static unsigned respond(const struct boe_record *record, int *status) {
-    uint8_t answer = record->bytes[BOE_LOGIN_RESPONSE_STATUS_AT];
-    if (accepted) return BOE_OUT_OF_PHASE;
-    accepted = answer == 'A';
-    if (accepted) return 0;
-    tell_text("the venue rejects the login", answer, record->bytes + BOE_LOGIN_RESPONSE_TEXT_AT, BOE_LOGIN_RESPONSE_TEXT_LEN);
-    *status = LOGIN_REJECTED;
-    return 0;
 }
 
 /* Hands a rejection to the desk: a line with type, ClOrdID, reason and text, after the lines of what was booked before it. The three types have
@@ -274,29 +243,30 @@ static void hand_rejection(const struct boe_record *record) {
     handed++;
 }
 
-/* What a whole message from the venue does: its refusal, or 0 where it is booked, handed to the desk or passed over; the status where it ends the
- * session. */
+/* Tells the message that has ended the session, a Logout or a Login Response of another status than A, and answers the exit status. A Logout that
+ * comes in the place of the Login Response is no success. */
+static int ended_by(const struct boe_record *record, uint32_t before) {
+    const uint8_t *r = record->bytes;
+    if (r[BOE_RECORD_TYPE_AT] == BOE_LOGOUT) {
+        tell_text("Logout", r[BOE_LOGOUT_REASON_AT], r + BOE_LOGOUT_TEXT_AT, BOE_LOGOUT_TEXT_LEN);
+        return before == BOE_ASKED ? LOG_IN_AGAIN : 0;
+    }
+    tell_text("the venue rejects the login", r[BOE_LOGIN_RESPONSE_STATUS_AT], r + BOE_LOGIN_RESPONSE_TEXT_AT, BOE_LOGIN_RESPONSE_TEXT_LEN);
+    return LOGIN_REJECTED;
+}
+
+/* Gives the session a whole message from the venue, and answers its refusal. A booked one stays for `settle`; the others are read, which refuses
+ * none that the session has taken: a rejection goes to the desk, and the message that ends the session sets the status. */
 static unsigned receive(const uint8_t *message, size_t length, int *status) {
     struct boe_record record;
-    unsigned refusal = boe_read(BOE_FROM_VENUE, message, length, &record, sizeof record);
+    uint32_t told = BOE_NOTHING, before = phase();
+    unsigned refusal = boe_session_receive(message, length, &told, book, BOE_BOOK_MOST_BYTES, &state, sizeof state);
+    if (refusal || told == BOE_BOOKED) return refusal;
+    refusal = boe_read(BOE_FROM_VENUE, message, length, &record, sizeof record);
     if (refusal) return refusal;
-    uint8_t type = record.bytes[BOE_RECORD_TYPE_AT];
-    if (type == BOE_LOGIN_RESPONSE) return respond(&record, status);
-    if (type == BOE_LOGOUT) {
-        tell_text("Logout", record.bytes[BOE_LOGOUT_REASON_AT], record.bytes + BOE_LOGOUT_TEXT_AT, BOE_LOGOUT_TEXT_LEN);
-        *status = accepted ? 0 : LOG_IN_AGAIN;
-        return 0;
-    }
-    if (!accepted) return BOE_OUT_OF_PHASE;
-    switch (boe_told(type)) {
-    case BOE_BOOKED:
-        return boe_book_append(message, length, book, BOE_BOOK_MOST_BYTES, &state, sizeof state);
-    case BOE_HANDED:
-        hand_rejection(&record);
-        return 0;
-    default: /* Replay Complete and heartbeats */
-        return 0;
-    }
+    if (told == BOE_HANDED) hand_rejection(&record);
+    if (phase() == BOE_CLOSED) *status = ended_by(&record, before);
+    return 0;
 }
 
 /* What is done about a refusal, by its number. A 14 is a message that is sent again, and passed over. Any other is told in words, with the
@@ -351,11 +321,11 @@ static int follow(void) {
     return status;
 }
 
-/* The session's end: its mark, in the book and in the file. Where there is no room for a mark the length stays, and nothing is stored. */
-static void close_book(void) {
-    size_t from = book_length();
-    boe_book_close(book, BOE_BOOK_MOST_BYTES, &state, sizeof state);
-    store(from);
+/* The line's end: a session that still runs has its mark in the book, and in the file. Where there is no room for a mark the length stays, and
+ * nothing is stored; where a message has ended the session, the mark was settled with it. */
+static void end_line(void) {
+    boe_session_break(book, BOE_BOOK_MOST_BYTES, &state, sizeof state);
+    store(settled);
 }
 
 static void report(void) {
@@ -385,9 +355,9 @@ static int run(uint32_t date, const char *path, const char *login) {
     if (refusal) return (int)BOE_NUMBER(refusal);
     hand_on(0);
     settled = book_length();
-    if (login) refusal = send_login(login);
+    refusal = log_in(login);
     int status = refusal ? (int)BOE_NUMBER(refusal) : follow();
-    close_book();
+    end_line();
     report();
     return status;
 }
@@ -397,6 +367,7 @@ int main(int argc, char **argv) {
                                 "       gateway --messages DATE BOOKFILE\n"
                                 "       gateway --last DATE BOOKFILE\n";
     keep_standard_streams();
+    if (boe_version() != BOE_VERSION) fail_as("the library", "its version is not that of the header this program was compiled with");
     bool help = argc == 2 && strcmp(argv[1], "--help") == 0, last = argc == 4 && strcmp(argv[1], "--last") == 0;
     bool asks = last || (argc == 4 && strcmp(argv[1], "--messages") == 0);
     char **words = argv + 1 + asks;
@@ -409,10 +380,10 @@ int main(int argc, char **argv) {
     } else {
         /* what is no day is told before there is a file: a restart on no bytes is 19, or 22 */
         uint32_t date = (uint32_t)strtoul(words[0], NULL, 10);
-        status = (int)BOE_NUMBER(boe_restart(date, book, 0, &state, sizeof state));
+        status = (int)BOE_NUMBER(boe_session_restart(date, MARKET, book, 0, &state, sizeof state));
         if (status == BOE_NO_FIRST_MARK && asks) {
             open_file(words[1], false);
-            status = (int)BOE_NUMBER(boe_restart(date, book, load(), &state, sizeof state));
+            status = (int)BOE_NUMBER(boe_session_restart(date, MARKET, book, load(), &state, sizeof state));
             if (status == 0 && last) status = (int)write_last();
             else if (status == 0) write_messages();
         } else if (status == BOE_NO_FIRST_MARK) {
@@ -420,6 +391,6 @@ int main(int argc, char **argv) {
         }
     }
     if (fflush(stdout) != 0 || ferror(stdout)) fail("standard output");
-    if (status > 0 && status <= BOE_REFUSALS) fprintf(stderr, "gateway: ended by refusal %d %s\n", status, refusal_name((uint32_t)status));
+    if (status > 0 && status <= BOE_REFUSALS) fprintf(stderr, "gateway: ended by refusal %d %s\n", status, boe_refusal_name((uint32_t)status));
     return status;
 }

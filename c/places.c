@@ -1,14 +1,5 @@
-/* The names of refusals and fields, and which field of a message begins at a place. */
+/* The names of fields, and which field of a message begins at a place. */
 #include "places.h"
-
-static const char *const names[BOE_REFUSALS + 1] = {
-#define NAME(name) [BOE_##name] = #name
-    NAME(BAD_START), NAME(BAD_LENGTH), NAME(INCOMPLETE), NAME(UNKNOWN_TYPE), NAME(BAD_UNIT), NAME(WRONG_TOTAL), NAME(TOO_MANY_BITFIELDS),
-    NAME(UNLISTED_BIT), NAME(NOT_SELECTED), NAME(BAD_VALUE), NAME(BAD_GROUP), NAME(NOT_ZERO), NAME(NO_ROOM), NAME(ALREADY_TAKEN), NAME(GAP),
-    NAME(OUT_OF_PHASE), NAME(OTHER_DATE), NAME(BAD_BOOK), NAME(NOT_A_DAY), NAME(NUMBERS_USED_UP), NAME(OLD_NUMBER), NAME(NO_FIRST_MARK),
-    NAME(CONFLICT), NAME(NONE)};
-
-const char *refusal_name(uint32_t refusal) { return names[BOE_NUMBER(refusal)]; }
 
 /* How much further on a byte of a fixed part, or of a session message's body, stands in the message than in the record. */
 enum { FURTHER = 4 };
@@ -145,7 +136,7 @@ static void print_place(FILE *to, uint32_t refusal, const struct source *from) {
 }
 
 void print_refused(FILE *to, uint32_t refusal, uint8_t direction, const uint8_t *message) {
-    fprintf(to, "%u %s", BOE_NUMBER(refusal), refusal_name(refusal));
+    fprintf(to, "%u %s", BOE_NUMBER(refusal), boe_refusal_name(refusal));
     if (BOE_NUMBER(refusal) == BOE_WRONG_TOTAL) {
         fprintf(to, " at byte %u, the end", BOE_PLACE(refusal));
     } else if (BOE_PLACE(refusal)) {
@@ -157,7 +148,7 @@ void print_refused(FILE *to, uint32_t refusal, uint8_t direction, const uint8_t 
 
 void print_unwritten(FILE *to, uint32_t refusal, const struct boe_record *record) {
     uint8_t type = record->bytes[BOE_RECORD_TYPE_AT];
-    fprintf(to, "%u %s", BOE_NUMBER(refusal), refusal_name(refusal));
+    fprintf(to, "%u %s", BOE_NUMBER(refusal), boe_refusal_name(refusal));
     if (BOE_PLACE(refusal))
         print_place(to, refusal, &(struct source){type, record->bytes, BOE_RECORD_COUNT_AT, BOE_PURGE_ORDERS_RISK_GROUP_ID_CNT_AT});
 }

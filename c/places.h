@@ -6,9 +6,6 @@
 
 #include <stdio.h>
 
-/* The name of a refusal, without its BOE_; 24 and 25 have none, and no call answers them. */
-const char *refusal_name(uint32_t refusal);
-
 /* Prints number and name of a refusal, and where it has a place the place and what is there: the end, the count of bitfields, a bitfield by its
  * number, or the field that begins there. The message is the one that was read in the direction, or appended; where there is no place it is not
  * looked at. The direction tells the fields of a New Order, which each market has its own of. */

@@ -490,7 +490,26 @@ static const struct optional purge_fields[] = {
     OPTIONAL(PURGE_ORDERS, CLEARING_FIRM), OPTIONAL(PURGE_ORDERS, MASS_CANCEL_INST), OPTIONAL(PURGE_ORDERS, MASS_CANCEL_ID),
     OPTIONAL(PURGE_ORDERS, SYMBOL), OPTIONAL(PURGE_ORDERS, SYMBOL_SFX)};
 
-/* docs/GUIDE.md's modify: 000's example, field by field. */
+/* A live session of a market, in which the last order had a number: any bytes are a state. */
+static struct boe_session live_session(uint8_t market, uint32_t outgoing) {
+    struct boe_session state = {{0}};
+    put(state.bytes + BOE_SESSION_OUTGOING_AT, 4, outgoing);
+    state.bytes[BOE_SESSION_PHASE_AT] = BOE_LIVE;
+    state.bytes[BOE_SESSION_MARKET_AT] = market;
+    return state;
+}
+
+/* docs/GUIDE.md's modify, 000's example: by the fields' names, as an order of a session. */
+static uint32_t modify_by_name(struct boe_session *state, uint8_t *out, size_t out_len) {
+    struct boe_record record = boe_blank_record(BOE_MODIFY_ORDER);
+    boe_modify_order_set_cl_ord_id(&record, "ABC124");
+    boe_modify_order_set_orig_cl_ord_id(&record, "ABC123");
+    boe_modify_order_set_order_qty(&record, 12000);
+    boe_modify_order_set_price(&record, 123400);
+    return boe_session_order(&record, sizeof record, out, out_len, state, sizeof *state);
+}
+
+/* The same by the fields' places, and written under a number of the caller's. */
 static uint32_t modify_as_told(uint32_t number, uint8_t *out, size_t out_len) {
     struct boe_record record = {{0}};
     uint8_t *r = record.bytes;
@@ -507,7 +526,10 @@ static uint32_t modify_as_told(uint32_t number, uint8_t *out, size_t out_len) {
 
 static void modifies(void) {
     uint8_t told[sizeof modify_order];
-    check(modify_as_told(100, told, sizeof told) == 0 && memcmp(told, modify_order, sizeof told) == 0, "the guide's modify is the example");
+    struct boe_session state = live_session(BOE_EQUITIES, 99);
+    check(modify_by_name(&state, told, sizeof told) == 0 && memcmp(told, modify_order, sizeof told) == 0, "the guide's modify is the example");
+    memset(told, 0, sizeof told);
+    check(modify_as_told(100, told, sizeof told) == 0 && memcmp(told, modify_order, sizeof told) == 0, "by its places too");
     struct boe_record record;
     uint8_t bytes[sizeof modify_order];
     again_in_both(modify_order, sizeof modify_order);
@@ -673,31 +695,22 @@ static const struct optional options_fields[] = {
     OPTIONAL_DAY(OPTIONS_NEW_ORDER, MATURITY_DATE, 20110319), OPTIONAL(OPTIONS_NEW_ORDER, STRIKE_PRICE), OPTIONAL(OPTIONS_NEW_ORDER, PUT_OR_CALL),
     OPTIONAL(OPTIONS_NEW_ORDER, OPEN_CLOSE)};
 
-/* 002's options order, field by field: 10 calls MSFT of 19 March 2011 with strike 17.50, to open, at 0.60. */
-static uint32_t option_as_told(uint32_t number, uint8_t *out, size_t out_len) {
-    struct boe_record record = {{0}};
-    uint8_t *r = record.bytes, *bitfields = r + BOE_RECORD_BITFIELDS_AT;
-    r[BOE_RECORD_TYPE_AT] = BOE_OPTIONS_NEW_ORDER;
-    put(r + BOE_RECORD_NUMBER_AT, 4, number);
-    memcpy(r + BOE_OPTIONS_NEW_ORDER_CL_ORD_ID_AT, "ABC123", 6);
-    r[BOE_OPTIONS_NEW_ORDER_SIDE_AT] = '1';
-    put(r + BOE_OPTIONS_NEW_ORDER_ORDER_QTY_AT, BOE_OPTIONS_NEW_ORDER_ORDER_QTY_LEN, 10);
-    r[BOE_RECORD_COUNT_AT] = 4;
-    bitfields[0] = BOE_OPTIONS_NEW_ORDER_PRICE_BIT;
-    bitfields[1] = BOE_OPTIONS_NEW_ORDER_SYMBOL_BIT | BOE_OPTIONS_NEW_ORDER_CAPACITY_BIT | BOE_OPTIONS_NEW_ORDER_ROUTING_INST_BIT;
-    bitfields[2] = BOE_OPTIONS_NEW_ORDER_ACCOUNT_BIT;
-    bitfields[3] = BOE_OPTIONS_NEW_ORDER_MATURITY_DATE_BIT | BOE_OPTIONS_NEW_ORDER_STRIKE_PRICE_BIT | BOE_OPTIONS_NEW_ORDER_PUT_OR_CALL_BIT |
-                   BOE_OPTIONS_NEW_ORDER_OPEN_CLOSE_BIT;
-    put(r + BOE_OPTIONS_NEW_ORDER_PRICE_AT, BOE_OPTIONS_NEW_ORDER_PRICE_LEN, 6000);
-    memcpy(r + BOE_OPTIONS_NEW_ORDER_SYMBOL_AT, "MSFT", 4);
-    r[BOE_OPTIONS_NEW_ORDER_CAPACITY_AT] = 'C';
-    r[BOE_OPTIONS_NEW_ORDER_ROUTING_INST_AT] = 'R';
-    memcpy(r + BOE_OPTIONS_NEW_ORDER_ACCOUNT_AT, "DEFG", 4);
-    put(r + BOE_OPTIONS_NEW_ORDER_MATURITY_DATE_AT, BOE_OPTIONS_NEW_ORDER_MATURITY_DATE_LEN, 20110319);
-    put(r + BOE_OPTIONS_NEW_ORDER_STRIKE_PRICE_AT, BOE_OPTIONS_NEW_ORDER_STRIKE_PRICE_LEN, 175000);
-    r[BOE_OPTIONS_NEW_ORDER_PUT_OR_CALL_AT] = '1';
-    r[BOE_OPTIONS_NEW_ORDER_OPEN_CLOSE_AT] = 'O';
-    return boe_write(BOE_FROM_OPTIONS_MEMBER, &record, sizeof record, out, out_len);
+/* docs/GUIDE.md's options order, 002's example: 10 calls MSFT of 19 March 2011 with strike 17.50, to open, at 0.60. */
+static uint32_t option_as_told(struct boe_session *state, uint8_t *out, size_t out_len) {
+    struct boe_record record = boe_blank_record(BOE_OPTIONS_NEW_ORDER);
+    boe_options_new_order_set_cl_ord_id(&record, "ABC123");
+    boe_options_new_order_set_side(&record, '1');
+    boe_options_new_order_set_order_qty(&record, 10);
+    boe_options_new_order_set_price(&record, 6000);
+    boe_options_new_order_set_symbol(&record, "MSFT");
+    boe_options_new_order_set_capacity(&record, 'C');
+    boe_options_new_order_set_routing_inst(&record, "R");
+    boe_options_new_order_set_account(&record, "DEFG");
+    boe_options_new_order_set_maturity_date(&record, 20110319);
+    boe_options_new_order_set_strike_price(&record, 175000);
+    boe_options_new_order_set_put_or_call(&record, '1');
+    boe_options_new_order_set_open_close(&record, 'O');
+    return boe_session_order(&record, sizeof record, out, out_len, state, sizeof *state);
 }
 
 /* The options order with other maturities, read and written: a calendar day of 1970 to 2099 is taken, and for any other number nothing stored. */
@@ -772,7 +785,9 @@ static void options(void) {
     uint8_t told[sizeof options_order];
     struct boe_record record;
     const uint8_t *at = record.bytes;
-    check(option_as_told(1, told, sizeof told) == 0 && memcmp(told, options_order, sizeof told) == 0, "the order made by name is the example");
+    struct boe_session state = live_session(BOE_OPTIONS, 0), other = live_session(BOE_EQUITIES, 0);
+    check(option_as_told(&other, told, sizeof told) == BOE_UNKNOWN_TYPE, "the guide's options order in an equities session");
+    check(option_as_told(&state, told, sizeof told) == 0 && memcmp(told, options_order, sizeof told) == 0, "in its own it is the example");
     again(BOE_FROM_OPTIONS_MEMBER, options_order, sizeof options_order);
     member_header(BOE_FROM_OPTIONS_MEMBER, options_order, sizeof options_order);
     for (size_t i = 0; i < COUNT_OF(optioned); i++) try_rest(BOE_FROM_OPTIONS_MEMBER, options_order, 35, &optioned[i]);
@@ -1146,6 +1161,105 @@ static void books(void) {
     check(same_bytes(buffer, held, sizeof buffer) && same_bytes(state, kept, sizeof state), "changed nothing");
 }
 
+/* ---- a gateway's session and the bench venue, each with its buffer */
+
+static struct boe_session session;
+static struct boe_venue venue;
+static uint8_t day_book[512], venue_log[512];
+
+static uint32_t session_phase(void) { return boe_session_phase(&session, sizeof session); }
+static size_t book_length(void) { return number_at(session.bytes + BOE_STATE_LENGTH_AT); }
+
+/* docs/GUIDE.md's morning: the venue logs a message and takes the session's login; then the session is given what the venue sends, a step at a time,
+ * until it sends nothing. The first refusal, or 0. */
+static uint32_t morning_as_told(const struct boe_login *names, const uint8_t *message, size_t len) {
+    uint8_t asked[BOE_LOGIN_MOST_BYTES], line[BOE_MESSAGE_MOST_BYTES];
+    uint32_t sent = 0, told = 0;
+    uint32_t refusal = boe_venue_log(message, len, venue_log, sizeof venue_log, &venue, sizeof venue);
+    if (refusal == 0) refusal = boe_session_login(names, sizeof *names, asked, sizeof asked, &session, sizeof session);
+    if (refusal == 0) refusal = boe_venue_login(asked, sizeof asked, &sent, line, sizeof line, &venue, sizeof venue);
+    while (refusal == 0 && sent > 0) {
+        refusal = boe_session_receive(line, sent, &told, day_book, sizeof day_book, &session, sizeof session);
+        if (refusal == 0) refusal = boe_venue_step(venue_log, sizeof venue_log, &sent, line, sizeof line, &venue, sizeof venue);
+    }
+    return refusal;
+}
+
+/* docs/GUIDE.md's pulse, at a moment of the clock: the line of a silent venue is broken, and where a heartbeat is due one is written. Answers the bytes
+ * to send. */
+static size_t pulse_as_told(uint32_t now, uint32_t heard, uint32_t *sent, uint8_t *out, size_t out_len) {
+    if (boe_peer_silent(now, heard)) {
+        boe_session_break(day_book, sizeof day_book, &session, sizeof session);
+        return 0;
+    }
+    if (!boe_heartbeat_due(now, *sent) || boe_session_heartbeat(&session, sizeof session, out, out_len) != 0) return 0;
+    *sent = now;
+    return boe_frame_length(out, out_len);
+}
+
+/* What goes from the live session to the venue: orders under the next outgoing numbers, each of which the venue takes once, and a heartbeat. */
+static void day_as_told(void) {
+    struct boe_session before;
+    uint8_t out[BOE_WRITTEN_MOST_BYTES];
+    uint32_t sent = 0;
+    for (uint32_t number = 1; number <= 2; number++) {
+        check(modify_by_name(&session, out, sizeof out) == 0, "an order");
+        check(number_at(out + 6) == number && same_bytes(out + 10, modify_order + 10, sizeof modify_order - 10), "under the next number");
+        check(boe_venue_order(BOE_EQUITIES, out, sizeof out, &venue, sizeof venue) == 0, "is taken by the venue");
+        check(boe_venue_order(BOE_EQUITIES, out, sizeof out, &venue, sizeof venue) == BOE_OLD_NUMBER, "once");
+    }
+    before = session;
+    check(option_as_told(&session, out, sizeof out) == BOE_UNKNOWN_TYPE, "an order of the other market");
+    check(memcmp(&session, &before, sizeof before) == 0, "uses no number up");
+    check(pulse_as_told(999, 0, &sent, out, sizeof out) == 0 && sent == 0, "no heartbeat before its time");
+    check(pulse_as_told(1000, 0, &sent, out, sizeof out) == sizeof client_heartbeat && sent == 1000, "a heartbeat");
+    check(same_bytes(out, client_heartbeat, sizeof client_heartbeat), "is the example");
+    check(boe_venue_order(BOE_EQUITIES, out, sizeof out, &venue, sizeof venue) == 0, "and taken by the venue");
+    check(pulse_as_told(4999, 0, &sent, out, sizeof out) > 0 && session_phase() == BOE_LIVE, "a venue that was heard");
+    check(pulse_as_told(5000, 0, &sent, out, sizeof out) == 0 && session_phase() == BOE_CLOSED, "and one that is silent: the line is broken");
+    check(pulse_as_told(10000, 10000, &sent, out, sizeof out) == 0, "a closed session sends no heartbeat");
+}
+
+/* Two mornings with a break between them, and a Logout: the book has the log's messages, each once, and a mark where a session ended. */
+static void mornings(void) {
+    enum { DATE = 20250819, LEN = sizeof acknowledgment, FIRST_AT = BOE_MARK_BYTES, SECOND_AT = FIRST_AT + LEN + BOE_MARK_BYTES };
+    struct boe_login names = {{0}};
+    struct boe_session restarted;
+    uint8_t first[LEN], second[LEN], out[BOE_WRITTEN_MOST_BYTES];
+    uint32_t told = 7;
+    memcpy(first, acknowledgment, LEN);
+    first[6] = 1;
+    memcpy(second, first, LEN);
+    second[6] = 2;
+    memcpy(names.bytes + BOE_LOGIN_SESSION_SUB_ID_AT, "0001", 4);
+    memcpy(names.bytes + BOE_LOGIN_USERNAME_AT, "TEST", 4);
+    memcpy(names.bytes + BOE_LOGIN_PASSWORD_AT, "TESTING", 7);
+
+    check(boe_session_restart(DATE, BOE_EQUITIES, day_book, 0, &session, sizeof session) == BOE_NO_FIRST_MARK, "no book yet");
+    check(boe_session_open(DATE, BOE_EQUITIES, day_book, sizeof day_book, &session, sizeof session) == 0 && session_phase() == BOE_CLOSED, "a closed session");
+    check(boe_session_receive(login_response, sizeof login_response, &told, day_book, sizeof day_book, &session, sizeof session) == BOE_OUT_OF_PHASE,
+          "takes no message");
+    check(told == 7, "tells nothing of it");
+    check(boe_session_heartbeat(&session, sizeof session, out, sizeof out) == BOE_OUT_OF_PHASE, "and sends none");
+    check(boe_venue_new(&venue, sizeof venue) == 0, "a venue");
+
+    check(morning_as_told(&names, first, LEN) == 0 && session_phase() == BOE_LIVE, "a morning to its Replay Complete");
+    check(book_length() == FIRST_AT + LEN && same_bytes(day_book + FIRST_AT, venue_log, LEN), "the book has the log's message");
+    check(same_bytes(venue_log, first, LEN), "which is what was logged");
+    day_as_told();
+    check(boe_session_break(day_book, sizeof day_book, &session, sizeof session) == 0 && book_length() == SECOND_AT, "a break has left a mark, and one alone");
+    check(boe_venue_break(&venue, sizeof venue) == 0, "the venue sees the break");
+
+    boe_login_all_units(&names);
+    check(morning_as_told(&names, second, LEN) == 0 && session_phase() == BOE_LIVE, "a second morning, with the full list");
+    check(book_length() == SECOND_AT + LEN && same_bytes(day_book + SECOND_AT, second, LEN), "brings what the book has not, and nothing else");
+    check(number_at(session.bytes + BOE_SESSION_OUTGOING_AT) == 2, "the orders' numbers go on");
+    check(boe_session_receive(logout, sizeof logout, &told, day_book, sizeof day_book, &session, sizeof session) == 0, "a Logout");
+    check(told == BOE_NOTHING && session_phase() == BOE_CLOSED && book_length() == SECOND_AT + LEN + BOE_MARK_BYTES, "ends the session with a mark");
+    check(boe_session_restart(DATE, BOE_EQUITIES, day_book, book_length(), &restarted, sizeof restarted) == 0, "a restart from the book");
+    check(memcmp(&restarted, &session, BOE_STATE_BYTES) == 0, "has the same book");
+}
+
 /* ---- refusals with a place */
 
 /* An example with a byte changed, at a place of the message or of its record, and its refusal. */
@@ -1498,6 +1612,7 @@ void hand_made_cases(void) {
     header_alone(BOE_FROM_VENUE, server_heartbeat);
     header_alone(BOE_FROM_VENUE, replay_complete);
     books();
+    mornings();
     places();
     most();
 }

@@ -1,153 +1,7 @@
 /* Puts an input's call to the C entry points and looks at every buffer that they were lent. See fuzz.h and README.md. */
-#define _DEFAULT_SOURCE
 #include "fuzz.h"
-#include "boe.h"
-#include <stdio.h>
-#include <stdlib.h>
+#include "lent.h"
 #include <string.h>
-#include <sys/mman.h>
-
-enum {
-    LONGEST = 8000,             /* the most characters of a question */
-    BENCH_BYTES = 16384,        /* the book's buffer in a script */
-    MOST_BUFFER = BENCH_BYTES,  /* of any buffer here */
-    FRONT = 64,                 /* the bytes looked at before a buffer */
-    MOST_TEXT = 1 << 17,
-    FILL = 0x5A
-};
-
-/* ---- the question and the answer */
-
-struct text {
-    size_t len;
-    char at[MOST_TEXT];
-};
-
-static struct text question, proved;
-
-static void put_text(struct text *text, const char *from, size_t n) {
-    if (text->len + n >= MOST_TEXT) abort();
-    memcpy(text->at + text->len, from, n);
-    text->len += n;
-    text->at[text->len] = 0;
-}
-
-/* A word; a space stands before it unless it is its line's first. */
-static void word(struct text *text, const char *from, size_t n) {
-    if (text->len > 0 && text->at[text->len - 1] != '\n') put_text(text, " ", 1);
-    put_text(text, from, n);
-}
-
-static void name(struct text *text, const char *from) { word(text, from, strlen(from)); }
-
-static void number(struct text *text, uint64_t value) {
-    char digits[24];
-    word(text, digits, (size_t)sprintf(digits, "%llu", (unsigned long long)value));
-}
-
-static void hex(struct text *text, const uint8_t *bytes, size_t n) {
-    static const char digits[] = "0123456789ABCDEF";
-    static char out[2 * MOST_BUFFER];
-    for (size_t i = 0; i < n; i++) {
-        out[2 * i] = digits[bytes[i] / 16];
-        out[2 * i + 1] = digits[bytes[i] % 16];
-    }
-    if (n == 0) name(text, "-");
-    else word(text, out, 2 * n);
-}
-
-static void end_line(struct text *text) { put_text(text, "\n", 1); }
-
-/* Hands on the questions and the answers; a line that is too long for the format is not asked. */
-static void ask(void) {
-    size_t line = 0;
-    end_line(&question);
-    end_line(&proved);
-    for (size_t i = 0; i < question.len; i++) {
-        line = question.at[i] == '\n' ? 0 : line + 1;
-        if (line > LONGEST) return;
-    }
-    compare(question.at, proved.at);
-}
-
-/* What must hold whatever the second program answers. */
-static void must(int holds, const char *what) {
-    if (holds) return;
-    fprintf(stderr, "fuzz: WRONG: %s\nquestion: %s\nproved:   %s\n", what, question.at, proved.at);
-    abort();
-}
-
-/* A refusal as a word of the answer: its number, and after an @ its place where it has one. 6 to 10 alone have one, 6 the end of the message
- * and the others a byte of it after its header; the total is the message's, or 0 where the call has none. */
-static void refused(uint32_t refusal, size_t total) {
-    uint32_t code = BOE_NUMBER(refusal), place = BOE_PLACE(refusal);
-    char told[24];
-    word(&proved, told, (size_t)sprintf(told, place ? "%u@%u" : "%u", code, place));
-    if (code < BOE_WRONG_TOTAL || code > BOE_BAD_VALUE) must(place == 0, "a place of a number that has none");
-    else must(place >= 10 && (code == BOE_WRONG_TOTAL ? place == total : place < total), "a place that is not in the message");
-}
-
-/* ---- the buffers */
-
-/* A buffer that ends where a page starts that may not be touched, with what it and the bytes before it held when it was lent. */
-struct buffer {
-    uint8_t *end, *at;
-    size_t len;
-    uint8_t was[MOST_BUFFER];
-};
-
-static struct buffer bytes, record, out, state, other, more;
-
-static uint8_t *room(struct buffer *buffer, size_t len) {
-    enum { PAGE = 65536 };
-    if (!buffer->end) {
-        uint8_t *pages = mmap(NULL, 2 * PAGE, PROT_READ | PROT_WRITE, MAP_PRIVATE | MAP_ANONYMOUS, -1, 0);
-        if (pages == MAP_FAILED || mprotect(pages + PAGE, PAGE, PROT_NONE) != 0) {
-            perror("fuzz");
-            exit(2);
-        }
-        buffer->end = pages + PAGE;
-    }
-    if (len > MOST_BUFFER) abort();
-    buffer->at = buffer->end - len;
-    buffer->len = len;
-    memset(buffer->at - FRONT, FILL, FRONT);
-    return buffer->at;
-}
-
-static void lend(struct buffer *buffer, const uint8_t *from, size_t len) {
-    room(buffer, len);
-    if (len == 0) return;
-    memcpy(buffer->at, from, len);
-    memcpy(buffer->was, from, len);
-}
-
-static void lend_filled(struct buffer *buffer, uint8_t fill, size_t len) {
-    memset(room(buffer, len), fill, len);
-    memset(buffer->was, fill, len);
-}
-
-/* A buffer of any length as a record's and as a state's. */
-static struct boe_record *record_in(const struct buffer *buffer) { return (struct boe_record *)buffer->at; }
-static struct boe_state *state_in(const struct buffer *buffer) { return (struct boe_state *)buffer->at; }
-
-/* Whether the bytes from a place on, and those before the buffer, are as they were. */
-static int stayed_from(const struct buffer *buffer, size_t from) {
-    for (size_t i = 1; i <= FRONT; i++)
-        if (*(buffer->at - i) != FILL) return 0;
-    return from >= buffer->len || memcmp(buffer->at + from, buffer->was + from, buffer->len - from) == 0;
-}
-
-static int stayed(const struct buffer *buffer) { return stayed_from(buffer, 0); }
-
-static uint32_t number_at(const uint8_t *at) { return at[0] | (uint32_t)at[1] << 8 | (uint32_t)at[2] << 16 | (uint32_t)at[3] << 24; }
-
-static void put_number(uint8_t *at, uint32_t value) {
-    for (int i = 0; i < 4; i++) at[i] = (uint8_t)(value >> 8 * i);
-}
-
-/* A buffer's length by a byte of the input: what is enough and up to three bytes more, or less. */
-static size_t room_by(uint8_t choice, size_t enough) { return choice < 192 ? enough + choice % 4 : (choice - 192) * enough / 64; }
 
 /* ---- framing, the table, reading and writing */
 
@@ -205,6 +59,23 @@ static void try_told(uint8_t type) {
     number(&question, type);
     number(&proved, fate);
     must(fate == BOE_NOTHING || fate == BOE_BOOKED || fate == BOE_HANDED, "a fate that there is not");
+    ask();
+}
+
+static void try_pulse(uint32_t now, uint32_t then) {
+    uint32_t due = boe_heartbeat_due(now, then), silent = boe_peer_silent(now, then);
+    name(&question, "due");
+    number(&question, now);
+    number(&question, then);
+    end_line(&question);
+    name(&question, "silent");
+    number(&question, now);
+    number(&question, then);
+    number(&proved, due);
+    end_line(&proved);
+    number(&proved, silent);
+    must(due >= silent, "a peer is silent that needs no heartbeat yet");
+    must(boe_version() == BOE_VERSION, "the library is of another version than its header");
     ask();
 }
 
@@ -465,20 +336,13 @@ static void state_words(struct text *text) {
     number(text, number_at(state.at + BOE_STATE_MESSAGES_AT));
 }
 
-/* The sum of the state's 32 numbers from a place on. */
-static uint64_t sum_at(size_t from) {
-    uint64_t sum = 0;
-    for (size_t i = 0; i < BOE_TABLE_BYTES; i += 4) sum += number_at(state.at + from + i);
-    return sum;
-}
-
 static void member_words(unsigned phase) {
     number(&proved, phase);
     number(&proved, 0);
     number(&proved, market);
     state_words(&proved);
-    number(&proved, sum_at(BOE_STATE_TABLE_AT));
-    number(&proved, sum_at(BOE_STATE_PLACES_AT));
+    number(&proved, sum_of(state.at + BOE_STATE_TABLE_AT));
+    number(&proved, sum_of(state.at + BOE_STATE_PLACES_AT));
 }
 
 /* The member gets the state. */
@@ -604,16 +468,12 @@ static void try_last_on(uint8_t choice, uint8_t unit, const uint8_t *data, size_
 
 /* ---- an input */
 
-static uint16_t short_at(const uint8_t *at) { return (uint16_t)(at[0] | at[1] << 8); }
-
-/* The bytes of a call's arguments that come before the last. */
-static const size_t before[CALLS] = {
+const size_t before[CALLS] = {
     [FRAME] = 0, [STEP] = 5, [READ] = 2, [WRITE] = 4, [OPEN] = 5, [RESTART] = 5, [APPEND] = 8, [CLOSE] = 6, [APPEND_ON] = 3, [CLOSE_ON] = 3,
-    [TOLD] = 1, [LAST] = 7, [LAST_ON] = 2,
+    [TOLD] = 1, [LAST] = 7, [LAST_ON] = 2, [PULSE] = 8, [STEPS] = 0,
 };
 
-/* The bytes of an append's message among those that follow its numbers. */
-static size_t message_len(const uint8_t *args, size_t n) { return short_at(args + 6) % (n + 1); }
+size_t message_len(const uint8_t *args, size_t n) { return short_at(args + 6) % (n + 1); }
 
 void try_input(const uint8_t *data, size_t size) {
     if (size < 1 || size > MOST_INPUT) return;
@@ -640,132 +500,8 @@ void try_input(const uint8_t *data, size_t size) {
     case TOLD: try_told(args[0]); break;
     case LAST: try_last(number_at(args), short_at(args + 4), args[6], rest, n); break;
     case LAST_ON: try_last_on(args[0], args[1], rest, n); break;
+    case PULSE: try_pulse(number_at(args), number_at(args + 4)); break;
+    case STEPS: try_steps(rest, n); break;
     case CALLS: break;
-    }
-}
-
-/* ---- mending */
-
-/* A Purge Orders gets the next RiskGroupIDCnt with which its total is right, if there is one. */
-static void mend_ids(uint8_t *message, size_t n) {
-    struct boe_record unused;
-    size_t at = n < 12 ? n : 12u + message[11];
-    for (unsigned tries = 0; at < n && tries < 256; tries++, message[at]++)
-        if (BOE_NUMBER(boe_read(BOE_FROM_MEMBER, message, n, &unused, sizeof unused)) != BOE_WRONG_TOTAL) return;
-}
-
-/* A date made of four bytes: a day of 1970 to 2099, but for the last days of the shorter months. */
-static void mend_date(uint8_t *at) { put_number(at, (1970 + at[0] % 130u) * 10000 + (1 + at[1] % 12u) * 100 + 1 + at[2] % 31u); }
-
-/* An options New Order whose MaturityDate is its first bad field gets a day there. A date is no good value of any other field that can be bad, so
- * that these stay as they are. */
-static void mend_maturity(uint8_t *message, size_t n) {
-    struct boe_record unused;
-    uint8_t kept[4];
-    uint32_t refusal = boe_read(BOE_FROM_OPTIONS_MEMBER, message, n, &unused, sizeof unused), at = BOE_PLACE(refusal);
-    if (BOE_NUMBER(refusal) != BOE_BAD_VALUE || message[4] != BOE_NEW_ORDER || n - at < sizeof kept) return;
-    memcpy(kept, message + at, sizeof kept);
-    mend_date(message + at);
-    if (boe_read(BOE_FROM_OPTIONS_MEMBER, message, n, &unused, sizeof unused) == refusal) memcpy(message + at, kept, sizeof kept);
-}
-
-/* A record of a New Order gets the direction of its market, and an options one that has a MaturityDate a day. */
-static void mend_record(uint8_t *direction, uint8_t *record, size_t n) {
-    enum { DATE_AT = BOE_OPTIONS_NEW_ORDER_MATURITY_DATE_AT, END = DATE_AT + BOE_OPTIONS_NEW_ORDER_MATURITY_DATE_LEN };
-    if (n > BOE_RECORD_TYPE_AT && record[BOE_RECORD_TYPE_AT] == BOE_NEW_ORDER) *direction = BOE_FROM_MEMBER;
-    if (n < END || record[BOE_RECORD_TYPE_AT] != BOE_OPTIONS_NEW_ORDER) return;
-    *direction = BOE_FROM_OPTIONS_MEMBER;
-    if (number_at(record + DATE_AT) != 0) mend_date(record + DATE_AT);
-}
-
-static void mend_message(uint8_t *message, size_t n) {
-    if (n < 10 || n > 2048) return;
-    message[0] = message[1] = 0xBA;
-    message[2] = (uint8_t)((n - 2) % 256);
-    message[3] = (uint8_t)((n - 2) / 256);
-    if (boe_told(message[4]) == BOE_HANDED) memset(message + 5, 0, 5); /* neither unit nor number */
-    if (message[4] == BOE_PURGE_ORDERS) mend_ids(message, n);
-}
-
-/* A unit's last message in a book. */
-struct reached {
-    uint32_t number, place;
-};
-
-/* Marks get the date and what goes before them, messages their unit's next number; what each unit has come to is left in `reached`. */
-static void mend_book(uint32_t date, uint8_t *book, size_t n, struct reached *reached) {
-    size_t at = 0, last = 0, total;
-    uint32_t messages = 0;
-    while (n - at >= BOE_MARK_BYTES) {
-        if (at == 0 || number_at(book + at) == 0) {
-            put_number(book + at, 0);
-            put_number(book + at + 4, date);
-            put_number(book + at + 8, messages);
-            put_number(book + at + 12, (uint32_t)(at - last));
-            last = at;
-            at += BOE_MARK_BYTES;
-        } else if ((total = boe_frame_length(book + at, n - at)) != 0) {
-            put_number(book + at + 6, ++reached[book[at + 5]].number);
-            reached[book[at + 5]].place = (uint32_t)at;
-            messages++;
-            at += total;
-        } else {
-            return;
-        }
-    }
-}
-
-/* The first unit from this one on, and round, that has come to a message; where there is none, a unit of 1 to 32. */
-static uint8_t mend_unit(uint8_t unit, const struct reached *reached) {
-    unsigned first = (unit - 1u) % BOE_UNITS, next = first;
-    do {
-        if (reached[next + 1].number != 0) break;
-        next = (next + 1) % BOE_UNITS;
-    } while (next != first);
-    return (uint8_t)(next + 1);
-}
-
-void mend(uint8_t *data, size_t size) {
-    struct reached reached[256] = {0};
-    if (size < 1) return;
-    enum call call = data[0] % CALLS;
-    if (size - 1 < before[call]) return;
-    uint8_t *args = data + 1, *rest = args + before[call];
-    size_t n = size - 1 - before[call], k;
-    switch (call) {
-    case FRAME: mend_message(rest, n); break;
-    case READ:
-        mend_message(rest, n);
-        if (args[0] == BOE_FROM_OPTIONS_MEMBER) mend_maturity(rest, n);
-        break;
-    case WRITE: mend_record(args, rest, n); break;
-    case RESTART: mend_book(number_at(args + 1), rest, n, reached); break;
-    case CLOSE: mend_book(number_at(args), rest, n, reached); break;
-    case APPEND:
-        k = message_len(args, n);
-        mend_book(number_at(args), rest + k, n - k, reached);
-        mend_message(rest, k);
-        if (k >= 10) put_number(rest + 6, reached[rest[5]].number + 1);
-        break;
-    case APPEND_ON:
-        if (n < BOE_STATE_BYTES + 10) break;
-        mend_message(rest + BOE_STATE_BYTES, n - BOE_STATE_BYTES);
-        k = (rest[BOE_STATE_BYTES + 5] - 1u) % 32;
-        put_number(rest + BOE_STATE_BYTES + 6, number_at(rest + 4 * k) + 1);
-        break;
-    case LAST:
-        mend_book(number_at(args), rest, n, reached);
-        args[6] = mend_unit(args[6], reached);
-        break;
-    case LAST_ON:
-        if (n < BOE_STATE_BYTES) break;
-        mend_book(number_at(rest + BOE_STATE_DATE_AT), rest + BOE_STATE_BYTES, n - BOE_STATE_BYTES, reached);
-        args[1] = mend_unit(args[1], reached);
-        k = 4 * (args[1] - 1u);
-        put_number(rest + BOE_STATE_TABLE_AT + k, reached[args[1]].number);
-        put_number(rest + BOE_STATE_PLACES_AT + k, reached[args[1]].place);
-        put_number(rest + BOE_STATE_LENGTH_AT, (uint32_t)(n - BOE_STATE_BYTES));
-        break;
-    default: break;
     }
 }

@@ -22,9 +22,11 @@ int LLVMFuzzerTestOneInput(const uint8_t *data, size_t size) {
     return 0;
 }
 
-/* libFuzzer's own changes, and one time in three what they seldom get right is put right after them. */
+/* libFuzzer's own changes, or one time in four a step put in; and one time in three what they seldom get right is put right after them. */
 size_t LLVMFuzzerCustomMutator(uint8_t *data, size_t size, size_t most, unsigned seed) {
-    size = LLVMFuzzerMutate(data, size, most);
+    random_state = seed;
+    size_t with_step = below(4) == 0 ? put_step_in(data, size, most) : size;
+    size = with_step == size ? LLVMFuzzerMutate(data, size, most) : with_step;
     if (seed % 3 == 0) mend(data, size);
     return size;
 }

@@ -1,23 +1,24 @@
 /* Inputs without libFuzzer. See README.md.
- *   plain seeds QUESTIONS ANSWERS FOLDER           makes inputs of stored questions: some of each call, type and refusal
+ *   plain seeds QUESTIONS ANSWERS SCRIPTS ANSWERS FOLDER
+ *                                                  makes inputs of stored questions, some of each call, type and refusal, and of stored scripts
  *   plain random SEEDS SEED COUNT QUESTIONS PROVED tries COUNT inputs, which are seeds with random changes, and writes questions and answers
  *   plain reached CORPUS                           tries a corpus, and counts the edges of the proved library that it reaches
  * The last wants a library that was compiled with counters. */
+#include "plain.h"
 #include "boe.h"
 #include "fuzz.h"
 #include <dirent.h>
-#include <stdio.h>
 #include <stdlib.h>
 #include <string.h>
 
-enum { MOST_LINE = 1 << 17, MOST_SEEDS = 1 << 16, EACH = 40 };
+enum { MOST_SEEDS = 1 << 16 };
 
-static void fail(const char *what) {
+void fail(const char *what) {
     perror(what);
     exit(2);
 }
 
-static FILE *file(const char *path, const char *mode) {
+FILE *file(const char *path, const char *mode) {
     FILE *opened = fopen(path, mode);
     if (!opened) fail(path);
     return opened;
@@ -35,173 +36,8 @@ void compare(const char *questions, const char *proved) {
     fputs(proved, proved_out);
 }
 
-/* ---- seeds of stored questions */
-
-static uint8_t input[8 * MOST_INPUT];
-static size_t input_len;
-
-static void put(unsigned value, size_t width) {
-    for (; width > 0; width--, value >>= 8) input[input_len++] = (uint8_t)value;
-}
-
-static unsigned digit(int c) { return c >= 'A' ? (unsigned)(c - 'A' + 10) : (unsigned)(c - '0'); }
-
-/* The bytes of a word, and how many they are. */
-static size_t put_bytes(const char *word) {
-    size_t n = strcmp(word, "-") == 0 ? 0 : strlen(word) / 2;
-    for (size_t i = 0; i < n && input_len < sizeof input; i++) put(digit(word[2 * i]) * 16 + digit(word[2 * i + 1]), 1);
-    return n;
-}
-
-static unsigned value(const char *word) { return (unsigned)strtoul(word, NULL, 10); }
-
-/* The input of a question: 0 where it asks for none of the calls. */
-static int input_of(char **word, int words) {
-    const char *call = word[0];
-    input_len = 0;
-    if (words == 2 && strcmp(call, "frame") == 0) {
-        put(FRAME, 1);
-        put_bytes(word[1]);
-    } else if (words == 2 && strcmp(call, "told") == 0) {
-        put(TOLD, 1);
-        put(value(word[1]), 1);
-    } else if (words == 4 && strcmp(call, "step") == 0) {
-        put(STEP, 1);
-        put(value(word[2]), 1);
-        put(value(word[3]), 4);
-        put_bytes(word[1]);
-    } else if (words == 3 && strcmp(call, "read") == 0) {
-        put(READ, 1);
-        put(value(word[1]), 1);
-        put(0, 1);
-        put_bytes(word[2]);
-    } else if (words == 4 && strcmp(call, "write") == 0) {
-        put(WRITE, 1);
-        put(value(word[1]), 1);
-        put(0xEE, 1);
-        put(strcmp(word[3], "-") == 0 ? 0 : (unsigned)strlen(word[3]) / 2, 2);
-        put_bytes(word[2]);
-    } else if (words == 3 && (strcmp(call, "open") == 0 || strcmp(call, "restart") == 0)) {
-        put(call[0] == 'o' ? OPEN : RESTART, 1);
-        put(0, 1);
-        put(value(word[1]), 4);
-        put_bytes(word[2]);
-    } else if (words == 5 && strcmp(call, "append") == 0) {
-        put(APPEND, 1);
-        put(value(word[1]), 4);
-        put(value(word[3]), 2);
-        put((unsigned)(strcmp(word[4], "-") == 0 ? 0 : strlen(word[4]) / 2), 2);
-        put_bytes(word[4]);
-        put_bytes(word[2]);
-    } else if (words == 4 && strcmp(call, "close") == 0) {
-        put(CLOSE, 1);
-        put(value(word[1]), 4);
-        put(value(word[3]), 2);
-        put_bytes(word[2]);
-    } else if (words == 4 && strcmp(call, "last") == 0) {
-        put(LAST, 1);
-        put(value(word[1]), 4);
-        put(0, 2);
-        put(value(word[2]), 1);
-        put_bytes(word[3]);
-    } else if (words == 4 && strcmp(call, "last-state") == 0) {
-        size_t len = strcmp(word[1], "-") == 0 ? 0 : strlen(word[1]) / 2;
-        put(LAST_ON, 1);
-        put(len < BOE_STATE_BYTES ? (unsigned)(192 + len * 64 / BOE_STATE_BYTES) : 0, 1);
-        put(value(word[2]), 1);
-        size_t from = input_len;
-        put_bytes(word[1]);
-        for (input_len = from + BOE_STATE_BYTES; len < BOE_STATE_BYTES; len++) input[from + len] = 0;
-        put_bytes(word[3]);
-    } else {
-        return 0;
-    }
-    return input_len <= MOST_INPUT;
-}
-
-/* The input of an append, a close or a question for a unit's last message on the state that a restart from its book leaves: 0 where restart
- * refuses. */
-static int input_on(char **word, int words) {
-    static uint8_t book[sizeof input];
-    static struct boe_state state;
-    int last = strcmp(word[0], "last") == 0;
-    input_len = 0;
-    size_t n = put_bytes(word[last ? 3 : 2]);
-    memcpy(book, input, n);
-    if (boe_restart(value(word[1]), book, n, &state, sizeof state) != 0) return 0;
-    input_len = 0;
-    put(last ? LAST_ON : words == 5 ? APPEND_ON : CLOSE_ON, 1);
-    put(0, 1);
-    if (last) put(value(word[2]), 1);
-    else put((unsigned)n + value(word[3]), 2);
-    memcpy(input + input_len, state.bytes, sizeof state);
-    input_len += sizeof state;
-    if (last) put_bytes(word[3]);
-    else if (words == 5) put_bytes(word[4]);
-    return input_len <= MOST_INPUT;
-}
-
-static void write_input(const char *folder, unsigned long line, const char *form) {
-    char path[4096];
-    snprintf(path, sizeof path, "%s/%lu%s", folder, line, form);
-    FILE *to = file(path, "wb");
-    fwrite(input, 1, input_len, to);
-    if (fclose(to) != 0) fail(path);
-}
-
-/* The type of a message or record in hex, or -- for one that no direction has. */
-static void type_of(const char *hex, size_t at, char *type) {
-    static const char known[] = "03 08 09 13 24 25 26 29 2B 2C 37 38 39 3A 47 B8";
-    memcpy(type, "--", 3);
-    if (strlen(hex) < at + 2) return;
-    memcpy(type, hex + at, 2);
-    if (!strstr(known, type)) memcpy(type, "--", 3);
-}
-
-/* What a seed is for: the call, a reading's or writing's direction and type, and the refusals. */
-static void kind_of(char **word, const char *answer, char *kind, size_t room) {
-    int refusal = 0, then = 0, reading = strcmp(word[0], "read") == 0;
-    char type[3] = "";
-    sscanf(answer, "%d %d", &refusal, &then);
-    if (reading || strcmp(word[0], "write") == 0) {
-        type_of(word[2], reading ? 8 : 0, type);
-        snprintf(kind, room, "%s %s %s %d", word[0], strlen(word[1]) == 1 && word[1][0] < '3' ? word[1] : "-", type, refusal);
-    } else {
-        snprintf(kind, room, "%.20s %d %d", word[0], refusal, strcmp(word[0], "append") == 0 || strcmp(word[0], "last") == 0 ? then : 0);
-    }
-}
-
-static int seeds(const char *questions, const char *answers, const char *folder) {
-    static char line[MOST_LINE], answer[MOST_LINE];
-    static struct { char of[64]; int made; } kinds[4096];
-    FILE *from = file(questions, "r"), *beside = file(answers, "r");
-    unsigned long at = 0, made = 0, known = 0;
-    while (fgets(line, sizeof line, from) && fgets(answer, sizeof answer, beside)) {
-        char *word[6], kind[64];
-        int words = 0;
-        at++;
-        line[strcspn(line, "\n")] = 0;
-        for (char *next = strtok(line, " "); next && words < 6; next = strtok(NULL, " ")) word[words++] = next;
-        if (words == 0 || answer[0] == '?' || !input_of(word, words)) continue;
-        kind_of(word, answer, kind, sizeof kind);
-        size_t i = 0;
-        while (i < known && strcmp(kinds[i].of, kind) != 0) i++;
-        if (i == known) {
-            if (known == sizeof kinds / sizeof kinds[0]) continue;
-            strcpy(kinds[known++].of, kind);
-        }
-        if (kinds[i].made == EACH) continue;
-        kinds[i].made++;
-        made++;
-        write_input(folder, at, "");
-        if ((strcmp(word[0], "append") == 0 || strcmp(word[0], "close") == 0 || strcmp(word[0], "last") == 0) && input_on(word, words)) {
-            made++;
-            write_input(folder, at, "-on");
-        }
-    }
-    printf("%lu inputs of %lu kinds\n", made, known);
-    return made > 0 ? 0 : 1;
-}
+uint8_t input[8 * MOST_INPUT];
+size_t input_len;
 
 /* ---- a folder's inputs */
 
@@ -233,16 +69,6 @@ static void take_folder(const char *folder) {
 }
 
 /* ---- random changes */
-
-static uint64_t random_state;
-
-/* A number from 0 to end - 1 (splitmix64). */
-static size_t below(size_t end) {
-    uint64_t mixed = random_state += 0x9E3779B97F4A7C15u;
-    mixed = (mixed ^ mixed >> 30) * 0xBF58476D1CE4E5B9u;
-    mixed = (mixed ^ mixed >> 27) * 0x94D049BB133111EBu;
-    return (size_t)((mixed ^ mixed >> 31) % end);
-}
 
 /* A message is read, or a record written, as of the other market's member: the directions of members are 0 and 2. A New Order's record may become
  * one of that market, too. */
@@ -293,6 +119,7 @@ static int try_random(unsigned long count) {
         input_len = held_len[seed];
         memcpy(input, held[seed], input_len);
         for (size_t changes = below(5); changes > 0 && input_len > 0; changes--) change();
+        while (call == STEPS && below(2) == 0) input_len = put_step_in(input, input_len, MOST_INPUT);
         if (below(2) == 0) mend(input, input_len);
         try_input(input, input_len);
     }
@@ -353,7 +180,11 @@ static int reached(void) {
 }
 
 int main(int argc, char **argv) {
-    if (argc == 5 && strcmp(argv[1], "seeds") == 0) return seeds(argv[2], argv[3], argv[4]);
+    if (argc == 7 && strcmp(argv[1], "seeds") == 0) {
+        unsigned long kinds, made = question_seeds(argv[2], argv[3], argv[6], &kinds), played = script_seeds(argv[4], argv[5], argv[6]);
+        printf("%lu inputs of %lu kinds, and %lu of scripts\n", made, kinds, played);
+        return made > 0 && played > 0 ? 0 : 1;
+    }
     if (argc == 7 && strcmp(argv[1], "random") == 0) {
         take_folder(argv[2]);
         random_state = strtoull(argv[3], NULL, 10);
@@ -365,6 +196,6 @@ int main(int argc, char **argv) {
         take_folder(argv[2]);
         return reached();
     }
-    fprintf(stderr, "usage: plain seeds QUESTIONS ANSWERS FOLDER | plain random SEEDS SEED COUNT QUESTIONS PROVED | plain reached CORPUS\n");
+    fprintf(stderr, "usage: plain seeds QUESTIONS ANSWERS SCRIPTS ANSWERS FOLDER | plain random SEEDS SEED COUNT QUESTIONS PROVED | plain reached CORPUS\n");
     return 2;
 }

@@ -10,16 +10,27 @@
  * beside it, `sizeof` of the struct, since a call takes any length. A struct of bytes is aligned to 1: a longer or shorter buffer may be cast
  * to it, with its own length.
  *
+ * A number that is lent for an answer (`told`, `sent`) is a pointer that is not null; a refused call leaves it as it was.
+ *
+ * A gateway makes the calls of the session, boe_session_*: the day's promises are theirs. The calls of the book, boe_book_* and boe_restart, are for a
+ * gateway that has a session of its own. The calls of the bench venue, boe_venue_*, are a venue to try a gateway against.
+ *
  * Link libgateway.a (`rt staticlib gateway` writes it to target/staticlib/); it is x86-64 code. */
 #ifndef BOE_H
 #define BOE_H
 
+#include <stdbool.h>
 #include <stddef.h>
 #include <stdint.h>
 
 #ifdef __cplusplus
 extern "C" {
 #endif
+
+/* The version of this header. boe_version answers that of the library: where they differ, calls or layouts do, and a program ends before it calls
+ * anything else. */
+#define BOE_VERSION 1
+uint32_t boe_version(void);
 
 /* The numbers of refusal. 0 is no refusal. */
 enum boe_refusal {
@@ -75,6 +86,38 @@ enum boe_refusal {
  * number other than 0 in a rejection or a session message. */
 #define BOE_NUMBER(refusal) ((uint32_t)(refusal) & 0xFF)
 #define BOE_PLACE(refusal) ((uint32_t)(refusal) >> 8)
+
+/* The name of a refusal, that of its number in the table without BOE_. */
+static inline const char *boe_refusal_name(uint32_t refusal) {
+    switch (BOE_NUMBER(refusal)) {
+    case 0: return "no refusal";
+    case BOE_BAD_START: return "BAD_START";
+    case BOE_BAD_LENGTH: return "BAD_LENGTH";
+    case BOE_INCOMPLETE: return "INCOMPLETE";
+    case BOE_UNKNOWN_TYPE: return "UNKNOWN_TYPE";
+    case BOE_BAD_UNIT: return "BAD_UNIT";
+    case BOE_WRONG_TOTAL: return "WRONG_TOTAL";
+    case BOE_TOO_MANY_BITFIELDS: return "TOO_MANY_BITFIELDS";
+    case BOE_UNLISTED_BIT: return "UNLISTED_BIT";
+    case BOE_NOT_SELECTED: return "NOT_SELECTED";
+    case BOE_BAD_VALUE: return "BAD_VALUE";
+    case BOE_BAD_GROUP: return "BAD_GROUP";
+    case BOE_NOT_ZERO: return "NOT_ZERO";
+    case BOE_NO_ROOM: return "NO_ROOM";
+    case BOE_ALREADY_TAKEN: return "ALREADY_TAKEN";
+    case BOE_GAP: return "GAP";
+    case BOE_OUT_OF_PHASE: return "OUT_OF_PHASE";
+    case BOE_OTHER_DATE: return "OTHER_DATE";
+    case BOE_BAD_BOOK: return "BAD_BOOK";
+    case BOE_NOT_A_DAY: return "NOT_A_DAY";
+    case BOE_NUMBERS_USED_UP: return "NUMBERS_USED_UP";
+    case BOE_OLD_NUMBER: return "OLD_NUMBER";
+    case BOE_NO_FIRST_MARK: return "NO_FIRST_MARK";
+    case BOE_CONFLICT: return "CONFLICT";
+    case BOE_NONE: return "NONE";
+    default: return "unknown refusal";
+    }
+}
 
 /* The longest message that framing takes; the longest that writing stores, a Login Response; and the longest Login Request. */
 #define BOE_MESSAGE_MOST_BYTES 2048
@@ -273,6 +316,171 @@ uint32_t boe_read(uint8_t direction, const uint8_t *bytes, size_t len, struct bo
  * and last 13 for a buffer under the message's length. Bytes past 291 in the record of an order message, and past 439 in that of a session
  * message, play no part. */
 uint32_t boe_write(uint8_t direction, const struct boe_record *record, size_t record_len, uint8_t *out, size_t out_len);
+
+/* ---- the member's session
+ *
+ * A session's state is 278 bytes of the caller's: the state of its book in the front, as above, so that boe_last_refusal, boe_last_at and boe_last_length
+ * take it too (boe_session_book), and after it
+ *
+ *   place  bytes
+ *     272      4   the number of the last order that went out
+ *     276      1   the phase: 1, 2 or 3 of the names below; any other byte is 0, closed
+ *     277      1   the market: 0 equities, any other byte options
+ *
+ * Any 278 bytes are a state. A state's buffer may be longer; its bytes past 278 are not touched. It is kept in no file: restart makes it from the book.
+ * Each call is 13 for a state under 278 bytes, before all its other refusals, since there is no session to judge by. */
+#define BOE_SESSION_BYTES 278
+#define BOE_SESSION_OUTGOING_AT 272
+#define BOE_SESSION_PHASE_AT 276
+#define BOE_SESSION_MARKET_AT 277
+
+struct boe_session {
+    uint8_t bytes[BOE_SESSION_BYTES];
+};
+
+/* The book's state in the front of a session's; its length is BOE_STATE_BYTES. */
+static inline const struct boe_state *boe_session_book(const struct boe_session *state) { return (const struct boe_state *)state; }
+
+enum boe_phase {
+    BOE_CLOSED = 0,    /* no session */
+    BOE_ASKED = 1,     /* a login is written, and not yet answered */
+    BOE_REPLAYING = 2, /* the venue has answered with status A, and replays */
+    BOE_LIVE = 3       /* Replay Complete has come: orders go out */
+};
+
+enum boe_market { BOE_EQUITIES = 0, BOE_OPTIONS = 1 };
+
+/* The phase of a state; of one under 278 bytes 0. */
+uint32_t boe_session_phase(const struct boe_session *state, size_t state_len);
+
+/* Opens a book for a date, and a closed session for a market (0 equities, any other options) in which no order has gone out. 0: as boe_book_open. Otherwise
+ * buffer and state are as they were: 13 for the state, 19, 13 for a buffer under 16 bytes. */
+uint32_t boe_session_open(uint32_t date, uint8_t market, uint8_t *buffer, size_t buffer_len, struct boe_session *state, size_t state_len);
+
+/* Restarts from the book in the bytes, all of them, for a date, with a closed session for a market, which the book does not have: it is told again. 0: as
+ * boe_restart. Otherwise the state is as it was: 13 for the state, 19, 22, 18 for a bad first mark, 17, 18. */
+uint32_t boe_session_restart(uint32_t date, uint8_t market, const uint8_t *bytes, size_t len, struct boe_session *state, size_t state_len);
+
+/* What a login is given beside the table: 87 bytes. Zeros after the names ask for no bitfields and give no choice of units: the login then lists, with flag 0,
+ * the units whose number in the table is above 0. The full list of 32 units with flag 1 is asked for by boe_login_all_units. Of a unit that is not listed the
+ * venue replays everything with flag 0, and nothing with flag 1. */
+#define BOE_LOGIN_BYTES 87
+#define BOE_LOGIN_SESSION_SUB_ID_AT 0
+#define BOE_LOGIN_SESSION_SUB_ID_LEN 4
+#define BOE_LOGIN_USERNAME_AT 4
+#define BOE_LOGIN_USERNAME_LEN 4
+#define BOE_LOGIN_PASSWORD_AT 8
+#define BOE_LOGIN_PASSWORD_LEN 10
+/* the bitfields that acknowledgments, and executions, shall have: 0 for none asked for, how many, and 15 of them */
+#define BOE_LOGIN_ACKNOWLEDGMENTS_AT 18
+#define BOE_LOGIN_ACKNOWLEDGMENTS_COUNT_AT 19
+#define BOE_LOGIN_ACKNOWLEDGMENTS_BITFIELDS_AT 20
+#define BOE_LOGIN_EXECUTIONS_AT 35
+#define BOE_LOGIN_EXECUTIONS_COUNT_AT 36
+#define BOE_LOGIN_EXECUTIONS_BITFIELDS_AT 37
+#define BOE_LOGIN_BITFIELDS_LEN 15
+/* the choice of units: 0 none given, 1 the first `count` of those listed, with the flag, any other no group of units */
+#define BOE_LOGIN_CHOICE_AT 52
+#define BOE_LOGIN_FLAG_AT 53
+#define BOE_LOGIN_COUNT_AT 54
+#define BOE_LOGIN_UNITS_AT 55
+
+struct boe_login {
+    uint8_t bytes[BOE_LOGIN_BYTES];
+};
+
+/* The full list by name: all 32 units, with flag 1. */
+static inline void boe_login_all_units(struct boe_login *login) {
+    login->bytes[BOE_LOGIN_CHOICE_AT] = 1;
+    login->bytes[BOE_LOGIN_FLAG_AT] = 1;
+    login->bytes[BOE_LOGIN_COUNT_AT] = BOE_UNITS;
+    for (unsigned i = 0; i < BOE_UNITS; i++) login->bytes[BOE_LOGIN_UNITS_AT + i] = (uint8_t)(i + 1);
+}
+
+/* A login with the table's numbers, which the caller cannot give. 0: it stands in the front of `out`, boe_frame_length of it is its length, and the session is
+ * asked. Otherwise buffer and state are as they were: 13 for the state, 13 for a login under 87 bytes, 16 unless closed, 10, 11, 13 for `out`. */
+uint32_t boe_session_login(const struct boe_login *login, size_t login_len, uint8_t *out, size_t out_len, struct boe_session *state, size_t state_len);
+
+/* Any bytes from the venue, of which the first whole message counts, with the book's buffer. 0: the state is that after the message, `told` is what became
+ * of it, a number of enum boe_fate, and the book's buffer has it if it is booked, or a mark where it has ended the session. Otherwise buffer, told and
+ * state are as they were: 13 for the state, 16 if closed, 1 to 11 by the message, 16 for a type that the phase does not take, and of an acknowledgment or
+ * execution 14, 15 and 13.
+ *
+ * A Login Response of status A leads from asked to replaying, any other status to closed; Replay Complete from replaying to live; a Logout to closed.
+ * A booked message stands in the book before it is handed on: write the book's file from the length before the call on. */
+uint32_t boe_session_receive(const uint8_t *bytes, size_t len, uint32_t *told, uint8_t *buffer, size_t buffer_len, struct boe_session *state,
+                             size_t state_len);
+
+/* An order: the record of a New Order of the session's market, a Cancel Order, a Modify Order or a Purge Orders. Its number plays no part: it goes out
+ * under the next outgoing number. 0: its message stands in the front of `out`, and the state has its number. Otherwise buffer and state are as they
+ * were, and no number is used up: 13 for the state, 16 unless live, 20, 13 for a record under 291 bytes, 4 for what is not an order of the market, and the
+ * writer's: 5, 7 to 10, 23, 12, 13. */
+uint32_t boe_session_order(const struct boe_record *record, size_t record_len, uint8_t *out, size_t out_len, struct boe_session *state, size_t state_len);
+
+/* A heartbeat. 0: it stands in the front of `out`, 10 bytes. Otherwise the buffer is as it was: 13 for the state, 16 unless replaying or live, 13. */
+uint32_t boe_session_heartbeat(const struct boe_session *state, size_t state_len, uint8_t *out, size_t out_len);
+
+/* The line is broken. 0: the session is closed, and where one ran the book has a mark, if it finds room. 13 for the state, and both are as they were. After
+ * it no byte of the broken line is given to boe_session_receive. */
+uint32_t boe_session_break(uint8_t *buffer, size_t buffer_len, struct boe_session *state, size_t state_len);
+
+/* The pulse, on a millisecond clock of 32 bits that wraps: 1 where a heartbeat is due, a second after the last message went out, and where the peer is silent,
+ * five seconds after it was last heard; else 0. */
+uint32_t boe_heartbeat_due(uint32_t now, uint32_t sent);
+uint32_t boe_peer_silent(uint32_t now, uint32_t heard);
+
+/* ---- the bench venue
+ *
+ * A venue that keeps its log in a buffer of the caller's and replays it as document 01 says. Its state is 402 bytes of the caller's:
+ *
+ *   place  bytes
+ *       0    128   the last number of each unit in the log, as in a sequence table
+ *     128      4   the place in the log up to which the session has come
+ *     132      4   the log's length
+ *     136      4   the log's length when the session's login was taken
+ *     140      4   the last number that a member's order had
+ *     144    128   where the last message of each unit starts in the log
+ *     272    128   of each unit the number above which the login wants its messages, as in a sequence table
+ *     400      1   not 0: a session runs
+ *     401      1   not 0: Replay Complete was sent in it
+ *
+ * Any 402 bytes are a state; bytes past them are not touched. Each call is 13 for a state under 402 bytes, before all its other refusals. */
+#define BOE_VENUE_BYTES 402
+#define BOE_VENUE_TABLE_AT 0
+#define BOE_VENUE_PLACE_AT 128
+#define BOE_VENUE_LENGTH_AT 132
+#define BOE_VENUE_LOGIN_LENGTH_AT 136
+#define BOE_VENUE_RECEIVED_AT 140
+#define BOE_VENUE_PLACES_AT 144
+#define BOE_VENUE_THRESHOLDS_AT 272
+#define BOE_VENUE_RUNNING_AT 400
+#define BOE_VENUE_TOLD_AT 401
+
+struct boe_venue {
+    uint8_t bytes[BOE_VENUE_BYTES];
+};
+
+/* A venue with a new log and no session. */
+uint32_t boe_venue_new(struct boe_venue *state, size_t state_len);
+
+/* Appends the first whole message of the bytes to the log, which takes what a day book would take. 0: its bytes stand at the log's end. Otherwise buffer and
+ * state are as they were: 13 for the state, 1 to 10, 14, 15, 13. */
+uint32_t boe_venue_log(const uint8_t *bytes, size_t len, uint8_t *buffer, size_t buffer_len, struct boe_venue *state, size_t state_len);
+
+/* Takes a login while no session runs. 0: the Login Response stands in the front of `out`, `sent` is its length, and the session has begun. Otherwise all
+ * is as it was: 13 for the state, 16 during a session, 1 to 11, 4 for any other type among them, 13 for `out`. */
+uint32_t boe_venue_login(const uint8_t *bytes, size_t len, uint32_t *sent, uint8_t *out, size_t out_len, struct boe_venue *state, size_t state_len);
+
+/* A step of a session over the log's buffer. 0: the next message that the login wants, or Replay Complete, stands in the front of `out`, and `sent` is its
+ * length; or nothing comes next, `sent` is 0 and `out` is as it was. Otherwise all is as it was: 13 for the state, 16 outside a session, 13 for `out`. */
+uint32_t boe_venue_step(const uint8_t *log, size_t log_len, uint32_t *sent, uint8_t *out, size_t out_len, struct boe_venue *state, size_t state_len);
+
+/* Takes what a member of a market (0 equities, any other options) sends in a session, an order or a heartbeat. 0: its number is kept, where it has one.
+ * Otherwise the state is as it was: 13 for the state, 16 outside a session, 1 to 10, 23, and 21 for a number at or below the last one. */
+uint32_t boe_venue_order(uint8_t market, const uint8_t *bytes, size_t len, struct boe_venue *state, size_t state_len);
+
+/* The line of the session is broken: nothing is left of it but the last number that an order had. */
+uint32_t boe_venue_break(struct boe_venue *state, size_t state_len);
 
 /* New Order (0x38), from a member of an equities market: place and width in a record; for an optional field also its bitfield byte, counted from
  * 1, and its bit */
@@ -919,6 +1127,9 @@ uint32_t boe_write(uint8_t direction, const struct boe_record *record, size_t re
 #define BOE_CLIENT_HEARTBEAT 0x03
 #define BOE_SERVER_HEARTBEAT 0x09
 #define BOE_REPLAY_COMPLETE 0x13
+
+/* The fields by name: a setter and a getter for each. */
+#include "boe_fields.h"
 
 #ifdef __cplusplus
 }

@@ -91,7 +91,7 @@ module _ (date : ℕ) (d : isDay date ≡ true) (market : ℕ) (X : VenueCode) (
   pub small : date < 4294967296
   small = omega (arith, day-in-range date d .1)
 
-  the : Meets (dayOf date market X)
+  pub the : Meets (dayOf date market X)
   the = both ourLine (ourMember date market) X (our-member-meets date d small market) such
 
   -- 1
@@ -142,10 +142,9 @@ module _ (date : ℕ) (d : isDay date ≡ true) (market : ℕ) (X : VenueCode) (
         kept = ap inBook q ∙ ap (λ (x : List Item). map (λ (m : Msg). m .body) (messages x)) (made-items (c .made) ∙ sym (i ∙ cut-keeps (g .made) c));
       }
 
-  restarts : (es : List Event) (told k : ℕ) → Restarts date market X (after date market X es) told k
-  restarts es told k =
-      let w = after date market X es in
-      let g = good-of es in
+  -- of any moment whose member is good
+  pub restarts-from : (w : Moment date market X) → Good date (w .member) → (told k : ℕ) → Restarts date market X w told k
+  restarts-from w g told k =
       ⊎-elim
       (λ (h : k < 16). cut-short w g told k h)
       (λ (h : 16 ≤ k). ⊎-elim
@@ -154,6 +153,23 @@ module _ (date : ℕ) (d : isDay date ≡ true) (market : ℕ) (X : VenueCode) (
       cut-long w g told k (length (w .member .bytes)) (take-all k (w .member .bytes) l ∙ sym (take-length (w .member .bytes))) (within-more (g .made) k l) (sixteen (g .made)) (omega arith))
       (lt-or-le k (length (w .member .bytes))))
       (lt-or-le k 16)
+
+  restarts : (es : List Event) (told k : ℕ) → Restarts date market X (after date market X es) told k
+  restarts es told k = restarts-from (after date market X es) (good-of es) told k
+
+  -- a moment that the day can come to: its member is good, and so is the next moment's
+  abbrev pub Reached : Moment date market X → Type 0
+  Reached w = Holds (dayOf date market X) the w
+
+  pub at-dawn : Reached (after date market X [])
+  at-dawn = holds (dayOf date market X) the []
+
+  pub goes-on : (e : Event) (w : Moment date market X) → Reached w → Reached (then date market X w e)
+  goes-on e w h = holds-all (dayOf date market X) the (e ∷ []) w h
+
+  pub member-good : (w : Moment date market X) → Reached w → Good date (w .member)
+  unfolding the our-member-meets
+  member-good w h = h .good .member
 
   -- 4
   login-taken : (es : List Event) (f : Fields) (out : Bytes) → Valid f → 234 ≤ length out → logins.recordRefusal (loginOfTable (after date market X es .member .session .book .table) f) (length out) ≡ 0

@@ -10,14 +10,16 @@ use lib.Seq.{getD-take, length-take-le}
 use borrow.Author.Tests.{eq-eqb, ne-eqb, eqb-false, lt-ltb, le-ltb, ltb-false}
 use Rattle.numbers.specs.Numbers.{bytesOf, patched, putBuffer}
 use Rattle.numbers.specs.NumberLaws.{put-stores}
+use Rattle.orders.specs.declared.Market.{Market}
 use Rattle.orders.specs.Markets.{ofMarket, onWire}
 use Rattle.orders.specs.declared.Record.{Record}
 use Rattle.orders.specs.Orders as orders
 use Rattle.order_records.specs.Records.{recordAt}
+use Rattle.session.specs.declared.Phase.{Phase}
 use Rattle.session.specs.declared.Session.{Session}
 use Rattle.session.specs.declared.Answer.{Answer}
 use Rattle.session.specs.Sessions.{answer, isLive, numbered, nextOutgoing, orderRefusal, orderOf, orderOut}
-use Rattle.session.specs.Stages.{gateRefusal}
+use Rattle.session.specs.Stages.{gateBy, gateRefusal}
 use Rattle.session.specs.SessionLaws.{refuses, accepts}
 use Rattle.block.specs.Sizes.{fixedSize, layoutSize, recordSize, mostBitfields, bitsPlace, slotsPlace}
 
@@ -58,28 +60,23 @@ numbered-is (a ∷ b ∷ c ∷ d ∷ e ∷ []) n h k = absurd (omega (arith, h))
 
 -- ---- before the writer
 
-module _ (s : Session) (given : List ℕ) where
-  pub not-live : isLive (s .phase) ≡ false → 16 ≡ gateRefusal s given
-  unfolding gateRefusal
+module _ (p : Phase) (n : ℕ) (market : Market) (given : List ℕ) where
+  pub not-live : isLive p ≡ false → 16 ≡ gateBy p n market given
   not-live e = rw e
 
-  module _ (l : isLive (s .phase) ≡ true) where
-    pub used-up : s .outgoing .0 ≡ 4294967295 → 20 ≡ gateRefusal s given
-    unfolding gateRefusal
-    used-up e = rw (l, eq-eqb (s .outgoing .0) 4294967295 e)
+  module _ (l : isLive p ≡ true) where
+    pub used-up : n ≡ 4294967295 → 20 ≡ gateBy p n market given
+    used-up e = rw (l, eq-eqb n 4294967295 e)
 
-    module _ (u : s .outgoing .0 ≡ 4294967295 → ⊥) where
-      pub short : length given < recordSize → 13 ≡ gateRefusal s given
-      unfolding gateRefusal
-      short h = rw (l, ne-eqb (s .outgoing .0) 4294967295 u, lt-ltb (length given) recordSize h)
+    module _ (u : n ≡ 4294967295 → ⊥) where
+      pub short : length given < recordSize → 13 ≡ gateBy p n market given
+      short h = rw (l, ne-eqb n 4294967295 u, lt-ltb (length given) recordSize h)
 
-      pub no-order : recordSize ≤ length given → ofMarket (s .market) (getD given 0 0) ≡ false → 4 ≡ gateRefusal s given
-      unfolding gateRefusal
-      no-order h e = rw (l, ne-eqb (s .outgoing .0) 4294967295 u, le-ltb (length given) recordSize h, e)
+      pub no-order : recordSize ≤ length given → ofMarket market (getD given 0 0) ≡ false → 4 ≡ gateBy p n market given
+      no-order h e = rw (l, ne-eqb n 4294967295 u, le-ltb (length given) recordSize h, e)
 
-      pub an-order : recordSize ≤ length given → ofMarket (s .market) (getD given 0 0) ≡ true → 0 ≡ gateRefusal s given
-      unfolding gateRefusal
-      an-order h e = rw (l, ne-eqb (s .outgoing .0) 4294967295 u, le-ltb (length given) recordSize h, e)
+      pub an-order : recordSize ≤ length given → ofMarket market (getD given 0 0) ≡ true → 0 ≡ gateBy p n market given
+      an-order h e = rw (l, ne-eqb n 4294967295 u, le-ltb (length given) recordSize h, e)
 
 -- what an order that comes to the writer has
 pub record Admitted (s : Session) (given : List ℕ) : Type 0 where

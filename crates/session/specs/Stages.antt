@@ -7,9 +7,11 @@ use lib.ListN.{length, getD}
 use Rattle.refusals.specs.Names.{unknownType, noRoom, outOfPhase, numbersUsedUp}
 use Rattle.wire.specs.Header.{typeOf}
 use Rattle.wire.specs.Frame.{framed}
+use Rattle.orders.specs.declared.Market.{Market}
 use Rattle.orders.specs.Markets.{ofMarket}
 use Rattle.book.specs.declared.Answer.{Answer as BookAnswer}
 use Rattle.book.specs.Books.{closeBuffer}
+use Rattle.session.specs.declared.Phase.{Phase}
 use Rattle.session.specs.declared.Phase.the-variants.{Live}
 use Rattle.session.specs.declared.Session.{Session}
 use Rattle.session.specs.declared.Answer.{Answer}
@@ -46,12 +48,15 @@ afterReading s n room bytes = answered (afterRefusal s n room bytes) (receivedBy
 unfoldable pub afterBuffer : Session → ℕ → List ℕ → List ℕ → List ℕ
 afterBuffer s n xs bytes = cond (eqb (afterRefusal s n (length xs) bytes) 0) (receivedBuffer s xs (framed bytes)) xs
 
--- an order's refusals before the writer's: 16, 20, 13 for the record, 4 for one that is not of its market
-unfoldable pub gateRefusal : Session → List ℕ → ℕ
-gateRefusal s given =
-    cond (isLive (s .phase))
-    (cond (eqb (s .outgoing .0) 4294967295) numbersUsedUp
+-- an order's refusals before the writer's, by what they go by of a session: 16, 20, 13 for the record, 4 for one that is not of its market
+abbrev pub gateBy : Phase → ℕ → Market → List ℕ → ℕ
+gateBy phase outgoing market given =
+    cond (isLive phase)
+    (cond (eqb outgoing 4294967295) numbersUsedUp
     (cond (ltb (length given) recordSize) noRoom
-    (cond (ofMarket (s .market) (getD given 0 0)) 0
+    (cond (ofMarket market (getD given 0 0)) 0
     unknownType)))
     outOfPhase
+
+unfoldable pub gateRefusal : Session → List ℕ → ℕ
+gateRefusal s given = gateBy (s .phase) (s .outgoing .0) (s .market) given

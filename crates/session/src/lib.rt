@@ -13,7 +13,7 @@ ghost use Rattle.session_logins.specs.LoginRequests.{loginRecord};
 ghost use Rattle.messages.specs.Messages.{readRefusal};
 ghost use Rattle.book.specs.Books.{appendOf, appendBuffer, closeBuffer};
 ghost use Rattle.session.specs.Sessions.{closedWith, inPhase, isClosed, endedBy, brokenBy, brokenBuffer, respondedBy, respondedBuffer, receivedIn, responseReading, responseOf, responseBuffer, messageOf, messageBuffer, receiveOf, receiveBuffer, toldOf, receivedWith, receiveAnswer, loginOf, loginOut, heartbeatOf, heartbeatOut, numbered, orderOf, orderOut};
-ghost use Rattle.session.specs.Stages.{bookedAs, heardBy, heardBuffer, afterReading, afterBuffer, gateRefusal};
+ghost use Rattle.session.specs.Stages.{bookedAs, heardBy, heardBuffer, afterReading, afterBuffer, gateBy, gateRefusal};
 ghost use Rattle.block.specs.Sizes.{recordSize};
 use book::Book;
 use orders::Market;
@@ -104,7 +104,7 @@ pub fn closed_with(market: Market, b: Book) -> Session
 }
 
 // Writes an order's record, the first RECORD bytes given, under a number.
-fn write_numbered(given: &[u8], number: OutgoingNumber, out: &mut [u8]) -> u32
+pub fn write_numbered(given: &[u8], number: OutgoingNumber, out: &mut [u8]) -> u32
     requires { ⌜ recordSize ≤ length (now given) ⌝ }
     ensures { λ r. ⌜ (r ≡ writeRefusal (numbered (now (given .entry)) (number .0)) (length (now (out .entry)))) × (now (out .exit) ≡ writeBuffer (numbered (now (given .entry)) (number .0)) (now (out .entry))) ⌝ }
 {
@@ -134,6 +134,26 @@ fn response_refusal(bytes: &[u8]) -> u32
         return refusals::UNKNOWN_TYPE;
     }
     session_messages::read_refusal(m)
+}
+
+// The refusals of an order before the writer's, by phase, last outgoing number and market: 16 unless live, 20, 13 for a record under RECORD bytes, 4 for one
+// that is not an order of the market.
+pub fn gate(phase: Phase, outgoing: OutgoingNumber, market: Market, given: &[u8]) -> u32
+    ensures { λ r. ⌜ r ≡ gateBy phase (outgoing .0) market (now (given .entry)) ⌝ }
+{
+    if !phases::is_live(phase) {
+        return refusals::OUT_OF_PHASE;
+    }
+    if outgoing.0 == 4294967295 {
+        return refusals::NUMBERS_USED_UP;
+    }
+    if given.len() < block::RECORD {
+        return refusals::NO_ROOM;
+    }
+    if !orders::of_market(market, given[0]) {
+        return refusals::UNKNOWN_TYPE;
+    }
+    0
 }
 
 impl Session {
@@ -383,20 +403,9 @@ impl Session {
         ensures { λ r. ⌜ r ≡ gateRefusal self (now (given .entry)) ⌝ }
     {
         let phase = self.phase;
+        let outgoing = self.outgoing;
         let market = self.market;
-        if !phases::is_live(phase) {
-            return refusals::OUT_OF_PHASE;
-        }
-        if self.outgoing.0 == 4294967295 {
-            return refusals::NUMBERS_USED_UP;
-        }
-        if given.len() < block::RECORD {
-            return refusals::NO_ROOM;
-        }
-        if !orders::of_market(market, given[0]) {
-            return refusals::UNKNOWN_TYPE;
-        }
-        0
+        gate(phase, outgoing, market, given)
     }
 
     // An order, of which the first RECORD bytes given are the record, under the next outgoing number; a refused one uses no number up.
