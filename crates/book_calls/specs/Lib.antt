@@ -5,3 +5,4 @@ pub mod InPlace
 pub mod BookBytesLaws
 pub mod InPlaceLaws
 pub mod BookRefusals
+pub mod BookSized

@@ -1,30 +1,28 @@
 -- The day of the calls over bytes goes as the day of the session's own calls: after the same events the two are the same moment, but for the member's
 -- outgoing number. Assumes nothing.
-use Prim.Native.Nat.{ℕ, _≤_, _<_}
+use Prim.Native.Nat.{ℕ, _≤_}
 use mathlib.Core.Logic.{⊎-elim}
-use mathlib.Core.Path.{_≡_, refl, sym, ap, ap₂, subst, _∙_}
+use mathlib.Core.Path.{_≡_, refl, sym, ap, ap₂, subst}
 use mathlib.Core.Bool.{Bool, true, false, true≢false}
 use mathlib.Core.List.{List, [], _∷_, map}
 use lib.ListN.{length, take}
 use Rattle.table.specs.declared.OutgoingNumber.{OutgoingNumber}
 use Rattle.calendar.specs.Calendar.{isDay}
-use Rattle.book_restart.specs.Restarts.{restartOf}
 use Rattle.day_model.specs.Model.{Phase, closed, asked, replaying, live}
 use Rattle.day_model.specs.Moments.{withMember, newLine, noLine, withQueue, refusing}
-use Rattle.day_model.specs.Story.{Happens, theLog, aLogin, aSending, aHearing, anAside, aBye, aNo, aTaking, aStep, aStray, aDelivery, aBreak, aDrop, aCut, nowLogin, nowTaken, nowStep, nowAside, nowBye, nowNo, nowGets, nowDrop, nowStray, next, story, dawn}
+use Rattle.day_model.specs.Story.{theLog, aLogin, aSending, aHearing, anAside, aBye, aNo, aTaking, aStep, aStray, aDelivery, aBreak, aDrop, aCut, nowLogin, nowTaken, nowStep, nowAside, nowBye, nowNo, nowGets, nowDrop, nowStray, story}
 use Rattle.day_model.specs.Halves.{VenueCode}
 use Rattle.session.specs.MemberDay as member
 use Rattle.session.specs.MemberDay.{Desk, phaseOf, refusedForRoom}
 use Rattle.session.specs.MemberSteps.{Good}
 use Rattle.session_calls.specs.SessionBytes.{sessionSize, sessionOf}
-use Rattle.session_calls.specs.SessionAgain.{withOutgoing}
 use Rattle.day_proved.specs.Words.{Bytes}
 use Rattle.day_proved.specs.Demand3 as day
 use Rattle.day_proved.specs.Demand3.{SuchAVenue, Accepted, OpenedAfresh}
 use Rattle.day_proved.specs.Proved.{small, Reached, at-dawn, goes-on, member-good, restarts-from}
-use Rattle.day_calls.specs.CallsDay.{Program, Given, fieldsOf, deskOf, writes, loginBytes, login}
+use Rattle.day_calls.specs.CallsDay.{Given, fieldsOf, deskOf, writes, login}
 use Rattle.day_calls.specs.Demand3Calls.{dayOf, Event, Moment, after, then}
-use Rattle.day_calls.specs.Matches.{deskWith, Matches, gets-match, ended-match, sends-match, writes-same, bytes-same, login-match, opened-match, restart-accepted, restart-afresh}
+use Rattle.day_calls.specs.Matches.{deskWith, gets-match, ended-match, sends-match, writes-same, bytes-same, login-match, opened-match, restart-accepted, restart-afresh}
 
 -- an event, told of the session's own calls: what a login is given is the fields that its bytes are
 abbrev pub told : Event → day.Event

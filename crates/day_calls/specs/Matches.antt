@@ -1,111 +1,50 @@
 -- A program's step and the desk's: each call over bytes leaves a program whose session and book are the desk's, but for the outgoing number, which
 -- plays no part in the day. Assumes nothing.
-use Prim.Native.Nat.{ℕ, zero, suc, _+_, _-_, _≤_, _<_}
+use Prim.Native.Nat.{ℕ, _-_, _≤_, _<_}
 use mathlib.Core.Path.{_≡_, refl, sym, ap, ap₂, subst, _∙_}
 use mathlib.Core.Bool.{Bool, true, false, cond}
-use mathlib.Core.List.{List, [], _∷_, _++_}
+use mathlib.Core.List.{List}
 use native.Mathlib.Omega.{arith}
 use lib.Dec.{eqb}
-use lib.ListN.{length, getD, set, take, replicate, length-append}
-use lib.Seq.{getD-set-same, getD-set-other}
-use borrow.Author.Tests.{eq-eqb, ne-eqb, eqb-true, eqb-false}
-use Rattle.numbers.specs.Numbers.{numberAt, bytesOf, patched}
+use lib.ListN.{length, getD, take}
+use borrow.Author.Tests.{eq-eqb, ne-eqb, eqb-false}
+use Rattle.numbers.specs.Numbers.{patched}
 use Rattle.numbers.specs.NumberLaws.{patched-length}
-use Rattle.wire.specs.Header.{typeOf, unitOf, numberOf}
+use Rattle.wire.specs.Header.{typeOf}
 use Rattle.wire.specs.Frame.{framed}
 use Rattle.block.specs.Slots.{zeros}
-use Rattle.table.specs.declared.Entry.{Entry}
 use Rattle.table.specs.declared.Table.{Table}
 use Rattle.table.specs.declared.OutgoingNumber.{OutgoingNumber}
-use Rattle.table.specs.Table.{entryAt, blankEntry, lastOf, raisedTable}
-use Rattle.table.specs.TableLaws.{unit-taken, entry-is}
 use Rattle.orders.specs.Shapes.{sequenced}
 use Rattle.orders.specs.Markets.{marketOf}
-use Rattle.messages.specs.Messages.{readRefusal}
 use Rattle.session_messages.specs.declared.Record.{Record}
 use Rattle.session_logins.specs.declared.Choice.{Choice}
 use Rattle.session_logins.specs.LoginRequests.{wholeTable, pickChoice, usedUnits, choiceOf, saidOf, padded, loginRecord}
 use Rattle.calendar.specs.Calendar.{isDay, dayRefusal}
 use Rattle.book.specs.declared.Book.{Book}
 use Rattle.book.specs.declared.Answer as bookAnswers
-use Rattle.book.specs.Books.{limit, answer, blankBook, openedBook, markBytes, openRefusal, openOf, openBuffer, appendedBy, marked}
+use Rattle.book.specs.Books.{answer, blankBook, openedBook, markBytes, openRefusal, openOf, openBuffer, appendedBy}
 use Rattle.book_restart.specs.Restarts.{restartOf}
-use Rattle.book_restart.specs.Cut.{Made, opens, books, marks, sound, appended-has}
-use Rattle.book_restart.specs.Kept.{table-long}
-use Rattle.book_calls.specs.BookBytes.{bookOf, bookBytes}
-use Rattle.book_calls.specs.BookBytesLaws.{Sized, book-long}
-use Rattle.day_line.specs.Lines.{Fields, loginOfTable}
+use Rattle.book_restart.specs.Cut.{Made, opens}
+use Rattle.book_calls.specs.BookBytes.{bookOf}
+use Rattle.book_calls.specs.BookBytesLaws.{Sized}
+use Rattle.day_line.specs.Lines.{loginOfTable}
 use Rattle.day_line.specs.Lent.{lent, kept}
-use Rattle.session.specs.declared.Phase.{Phase}
 use Rattle.session.specs.declared.Phase.the-variants.{Asked, Live}
 use Rattle.session.specs.declared.Session.{Session}
 use Rattle.session.specs.Sessions.{pickSession, closedWith, inPhase, withBook, isClosed, endedBy, brokenBy, brokenBuffer, respondedBy, respondedBuffer, statusIn, receivedIn, receiveRefusal, receivedBy, receiveOf, receivedBuffer, receiveBuffer, loginRefusal, loginOf, loginOut, orderRefusal, orderOf, nextOutgoing}
 use Rattle.session.specs.MemberDay as member
 use Rattle.session.specs.MemberDay.{Desk, restartedBy}
 use Rattle.session.specs.MemberSteps.{Good}
-use Rattle.session.specs.MeetsMember.{entries-fit}
-use Rattle.session_calls.specs.LoginBytes.{loginSize, namesIn, bitsIn, choiceIn, givenRecord}
-use Rattle.session_calls.specs.SessionBytes.{sessionSize, sessionOf, besideBytes, sessionBytes, sessionAfter, called, openCall, openCallState, openCallBuffer, restartCall, restartCallState, loginCall, loginCallState, loginCallOut, receiveCall, receiveCallState, receiveCallBuffer, orderCall, orderCallState, breakCallState, breakCallBuffer}
-use Rattle.session_calls.specs.SessionBytesLaws.{long-called, long-back, given-is, given-back, session-kept, session-stored}
+use Rattle.session_calls.specs.LoginBytes.{namesIn, bitsIn, choiceIn, givenRecord}
+use Rattle.session_calls.specs.SessionBytes.{sessionSize, sessionOf, sessionBytes, sessionAfter, openCall, openCallBuffer, restartCall, restartCallState, loginCall}
+use Rattle.session_calls.specs.SessionBytesLaws.{long-called, long-back, given-is, given-back}
 use Rattle.session_calls.specs.SessionAgain.{withOutgoing, seen-again}
-use Rattle.day_calls.specs.CallsDay.{Program, lengthIn, WholeIn, Given, fieldsOf, opened, gets, ended, writes, login, loginBytes, sends, pickProgram, restartedWith, restart}
-
--- ---- a book that was made has numbers of 32 bits
-
-blank-there : (n k : ℕ) → getD (replicate n blankEntry) k blankEntry ≡ blankEntry
-blank-there zero zero = refl
-blank-there zero (suc k) = refl
-blank-there (suc n) zero = refl
-blank-there (suc n) (suc k) = blank-there n k
-
-places-low : {date n : ℕ} {b : Book} {xs : List ℕ} → Made date n b xs → (k : ℕ) → k < 32 → getD (b .table .entries) k blankEntry .place .0 ≤ limit
-unfolding appendedBy raisedTable
-places-low opens k h = let e : getD (replicate 32 blankEntry) k blankEntry .place .0 ≡ 0 = ap (λ (x : Entry). x .place .0) (blank-there 32 k) in omega (arith, e)
-places-low {date} (books {b = b} room s m z) k h = by (eqb k (unitOf (framed s) - 1)) refl (places-low m k h)
-  where
-    by : (q : Bool) → eqb k (unitOf (framed s) - 1) ≡ q → getD (b .table .entries) k blankEntry .place .0 ≤ limit → getD (appendedBy b (framed s) .table .entries) k blankEntry .place .0 ≤ limit
-    by true e l =
-        let i = eqb-true k (unitOf (framed s) - 1) e in
-        let x = entryAt (numberOf (framed s)) (b .length) in
-        let g : getD (set (b .table .entries) (unitOf (framed s) - 1) x) k blankEntry ≡ x =
-        ap (λ (j : ℕ). getD (set (b .table .entries) (unitOf (framed s) - 1) x) j blankEntry) i
-        ∙ getD-set-same (b .table .entries) (unitOf (framed s) - 1) x blankEntry (omega (arith, h, i, table-long m)) in
-        let f : getD (set (b .table .entries) (unitOf (framed s) - 1) x) k blankEntry .place .0 ≡ b .length = ap (λ (y : Entry). y .place .0) g in
-        omega (arith, f, sound m .within)
-    by false e l =
-        let d = eqb-false k (unitOf (framed s) - 1) e in
-        let x = entryAt (numberOf (framed s)) (b .length) in
-        let f : getD (set (b .table .entries) (unitOf (framed s) - 1) x) k blankEntry .place .0 ≡ getD (b .table .entries) k blankEntry .place .0 =
-        ap (λ (y : Entry). y .place .0) (getD-set-other (b .table .entries) (unitOf (framed s) - 1) k x blankEntry d) in
-        omega (arith, f, l)
-places-low (marks room m z) k h = places-low m k h
-
-module _ (date : ℕ) (d : isDay date ≡ true) (small : date < 4294967296) where
-  pub made-sized : {n : ℕ} {b : Book} {xs : List ℕ} → Made date n b xs → Sized b
-  made-sized {b = b} m =
-      let o = sound m in
-      record {
-        units = table-long m;
-        entry = λ k h.
-            let u = suc k in
-            let z = unit-taken u (omega arith) (omega (arith, h)) in
-            let i : u - 1 ≡ k = omega arith in
-            let e : lastOf (b .table) u ≡ getD (b .table .entries) k blankEntry .last .0 =
-            ap (λ (x : Entry). x .last .0) (entry-is (b .table) u z ∙ ap (λ (j : ℕ). getD (b .table .entries) j blankEntry) i) in
-            omega (arith, e, entries-fit date d small m u);
-        place = λ k h. omega (arith, places-low m k h);
-        date = omega (arith, o .dated, small);
-        size = omega (arith, o .within);
-        last = omega (arith, o .within, o .last-in);
-        count = omega (arith, o .within, o .counts);
-      }
+use Rattle.session_calls.specs.SessionSized.{made-sized}
+use Rattle.session_calls.specs.SessionKeeps.{session-size}
+use Rattle.day_calls.specs.CallsDay.{Program, lengthIn, WholeIn, Given, fieldsOf, opened, gets, ended, writes, login, loginBytes, sends, restartedWith, restart}
 
 -- ---- a state after a call, without its outgoing number
-
--- a session's bytes are a state's
-session-long : (s : Session) → length (sessionBytes s) ≡ sessionSize
-unfolding sessionBytes besideBytes
-session-long s = omega (arith, book-long (s .book), length-append (bookBytes (s .book)) (besideBytes (s .phase) (s .outgoing .0) (s .market)))
 
 -- the session of a program, with a given outgoing number, and its book's bytes
 abbrev pub deskWith : OutgoingNumber → Program → Desk
@@ -124,7 +63,7 @@ module _ (state : List ℕ) (h : sessionSize ≤ length state) where
   after-long n t = by (eqb n 0)
     where
       by : (q : Bool) → sessionSize ≤ length (cond q (patched state 0 (sessionBytes t)) state)
-      by true = omega (arith, h, patched-length state 0 (sessionBytes t) (omega (arith, h, session-long t)))
+      by true = omega (arith, h, patched-length state 0 (sessionBytes t) (omega (arith, h, session-size t)))
       by false = h
 
   -- where a refused call would answer the session as it was, the state is the session that the call answers

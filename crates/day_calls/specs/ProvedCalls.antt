@@ -10,36 +10,32 @@ use lib.ListN.{length, take}
 use borrow.Author.Tests.{le-ltb, eq-eqb, eqb-true}
 use Rattle.numbers.specs.Numbers.{numberAt}
 use Rattle.wire.specs.Header.{typeOf}
-use Rattle.wire.specs.Frame.{framed}
 use Rattle.table.specs.Table.{unitRefusal, lastOf}
 use Rattle.session_messages.specs.Sessions as logins
 use Rattle.calendar.specs.Calendar.{isDay}
-use Rattle.book.specs.declared.Answer as bookAnswers
 use Rattle.book_restart.specs.Restarts.{restartOf}
 use Rattle.book_calls.specs.TableBytes.{placeOf}
-use Rattle.book_calls.specs.TableBytesLaws.{Numbers}
 use Rattle.book_calls.specs.BookBytes.{stateSize, bookOf, lastCall}
 use Rattle.book_calls.specs.BookBytesLaws.{state-numbers}
-use Rattle.last_message.specs.Last.{lastRefusal}
 use Rattle.day_model.specs.Model as days
 use Rattle.day_model.specs.Story.{aLogin, aTaking, aDelivery, aCut, nowLogin}
 use Rattle.day_model.specs.Halves.{VenueCode}
 use Rattle.day_line.specs.Lines.{loginOfTable}
 use Rattle.session.specs.declared.Phase.{Phase}
-use Rattle.session.specs.declared.Phase.the-variants.{Closed, Asked, Replaying, Live}
+use Rattle.session.specs.declared.Phase.the-variants.{Closed, Replaying, Live}
 use Rattle.session.specs.MemberDay as member
-use Rattle.session_calls.specs.SessionBytes.{sessionSize, phaseOf, phaseNumber, sessionOf, restartCall, loginCall, loginCallOut, phaseCall}
+use Rattle.session_calls.specs.SessionBytes.{sessionSize, phaseOf, phaseNumber, sessionOf, restartCall, loginCall, phaseCall}
 use Rattle.session_calls.specs.SessionBytesLaws.{phase-told}
 use Rattle.session_calls.specs.SessionRefusals.{restart-refused}
 use Rattle.session_calls.specs.SessionAgain.{phase-back}
-use Rattle.day_proved.specs.Words.{Bytes, inBook, ofUnit, wholeIn, newest}
+use Rattle.day_proved.specs.Words.{Bytes, inBook, ofUnit, newest}
 use Rattle.day_proved.specs.Demand3 as day
 use Rattle.day_proved.specs.Demand3.{SuchAVenue, Valid, OnlySequenced}
 use Rattle.day_proved.specs.Proved.{small, login-writes, at-every-moment-the-book-holds-the-firsts, each-restart-keeps-every-whole-message, when-a-replay-completes-the-book-is-whole, a-login-is-written, a-venue-takes-it, the-replay-completes, only-sequenced-in-the-book}
 use Rattle.day_proved.specs.AskedProved.{asked-at-every-moment}
-use Rattle.day_calls.specs.CallsDay.{Program, Given, fieldsOf, opened, writes}
-use Rattle.day_calls.specs.Demand3Calls.{dayOf, Event, Moment, after, then, book, state, tableSays, log, HoldsFirsts, AtEveryMoment, Accepted, OpenedAfresh, Restarts, EachRestart, Completes, WhenAReplayCompletes, Asks, ALoginIsWritten, Taken, AVenueTakesIt, TheReplayCompletes, OnlySequencedInTheBook, AnswersTheLast, AskedAtEveryMoment}
-use Rattle.day_calls.specs.Matches.{deskWith, opens-answer, writes-same, restart-is, restart-afresh}
+use Rattle.day_calls.specs.CallsDay.{Given, fieldsOf, writes}
+use Rattle.day_calls.specs.Demand3Calls.{dayOf, Event, Moment, after, then, book, state, log, HoldsFirsts, AtEveryMoment, Accepted, OpenedAfresh, Restarts, EachRestart, Completes, WhenAReplayCompletes, Asks, ALoginIsWritten, Taken, AVenueTakesIt, TheReplayCompletes, OnlySequencedInTheBook, AnswersTheLast, AskedAtEveryMoment}
+use Rattle.day_calls.specs.Matches.{opens-answer, writes-same, restart-is, restart-afresh}
 use Rattle.day_calls.specs.Follows.{told, seenWith, Follows, both, both-next}
 
 -- ---- a state's own words

@@ -5,3 +5,5 @@ pub mod SessionBytesLaws
 pub mod SessionAgain
 pub mod SessionRefusals
 pub mod SessionOwn
+pub mod SessionSized
+pub mod SessionKeeps

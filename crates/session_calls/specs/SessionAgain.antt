@@ -3,13 +3,13 @@
 --     seen-again        without its outgoing number the same, where its book's are
 -- Assumes nothing.
 use mathlib.Core.Path.{_≡_, refl, sym, ap, ap₂, _∙_}
-use mathlib.Core.List.{List, [], _∷_, _++_, append-assoc}
+use mathlib.Core.List.{List, _∷_, _++_, append-assoc}
 use Prim.Native.Nat.{ℕ, _+_, _<_}
 use native.Mathlib.Nat.{zero-add}
 use native.Mathlib.Omega.{arith}
 use lib.ListN.{length, getD, drop}
 use lib.Seq.{drop-append-seam, getD-append-add}
-use Rattle.numbers.specs.Numbers.{numberAt, bytesOf, patched}
+use Rattle.numbers.specs.Numbers.{numberAt, patched}
 use Rattle.numbers.specs.NumberLaws.{number-back, number-after}
 use Rattle.orders.specs.declared.Market.{Market}
 use Rattle.orders.specs.declared.Market.the-variants.{Equities, Options}

@@ -1,15 +1,15 @@
 -- What is true of a session's state as a caller keeps it: how it is stored, part by part, and the ways of each call. Assumes nothing.
 use mathlib.Core.Path.{_≡_, refl, sym, ap, ap₂, _∙_}
 use mathlib.Core.Bool.{Bool, true, false, cond}
-use mathlib.Core.List.{List, [], _∷_, _++_, append-assoc}
-use Prim.Native.Nat.{ℕ, zero, suc, _+_, _≤_, _<_}
+use mathlib.Core.List.{List, [], _∷_, _++_}
+use Prim.Native.Nat.{ℕ, suc, _+_, _≤_, _<_}
 use native.Mathlib.Omega.{arith}
-use lib.Dec.{eqb, ltb}
-use lib.ListN.{length, getD, set, take, drop, length-append, length-set}
+use lib.Dec.{eqb}
+use lib.ListN.{length, set, take, drop, length-set}
 use lib.Seq.{set-split}
 use borrow.Author.Tests.{lt-ltb, le-ltb, eq-eqb, ne-eqb, eqb-true, eqb-false}
 use Rattle.refusals.specs.Names.{noRoom}
-use Rattle.numbers.specs.Numbers.{numberAt, bytesOf, patched, putBuffer}
+use Rattle.numbers.specs.Numbers.{bytesOf, patched, putBuffer}
 use Rattle.numbers.specs.NumberLaws.{put-stores, patched-length, patched-join}
 use Rattle.wire.specs.HeaderLaws.{Bytes}
 use Rattle.wire.specs.Header.{typeOf}
@@ -32,10 +32,10 @@ use Rattle.session.specs.declared.Phase.the-variants.{Closed}
 use Rattle.session.specs.declared.Session.{Session}
 use Rattle.session.specs.declared.Answer.{Answer}
 use Rattle.session.specs.declared.Told.the-variants.{Nothing}
-use Rattle.session.specs.Sessions.{answer, closedWith, inPhase, withBook, endedBy, nextOutgoing, pickTold, toldOf, receivedWith, receiveOf, receiveBuffer}
+use Rattle.session.specs.Sessions.{answer, closedWith, inPhase, withBook, endedBy, nextOutgoing, pickTold, toldOf, receivedWith}
 use Rattle.session.specs.Stages.{bookedAs, gateBy, gateRefusal}
 use Rattle.session.specs.SessionLaws.{read-is-good}
-use Rattle.session_calls.specs.SessionBytes.{sessionSize, outgoingAt, phaseAt, marketAt, phaseNumber, marketNumber, sessionOf, besideBytes, sessionBytes, sessionAfter, short, called, lentBack, phaseCall, toldAfter, givenCall, givenBack}
+use Rattle.session_calls.specs.SessionBytes.{sessionSize, outgoingAt, phaseNumber, marketNumber, sessionOf, besideBytes, sessionBytes, sessionAfter, short, called, lentBack, phaseCall, toldAfter, givenCall, givenBack}
 use Rattle.session_calls.specs.LoginBytes.{loginSize}
 
 -- ---- storing

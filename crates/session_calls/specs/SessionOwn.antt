@@ -4,25 +4,18 @@
 --     open-is-the-sessions, restart-is-the-sessions, login-is-the-sessions, receive-is-the-sessions, order-is-the-sessions, heartbeat-is-the-sessions,
 --     break-is-the-sessions
 -- The bytes of a state are bytes: each is under 256. Assumes nothing.
-use mathlib.Core.Path.{_≡_, refl, sym, ap, _∙_}
-use mathlib.Core.Bool.{Bool, true, false, cond}
+use mathlib.Core.Path.{_≡_, sym, ap, _∙_}
 use mathlib.Core.List.{List}
-use Prim.Native.Nat.{ℕ, _≤_, _<_}
-use native.Mathlib.Omega.{arith}
+use Prim.Native.Nat.{ℕ, _≤_}
 use lib.ListN.{length}
-use lib.Dec.{eqb}
-use borrow.Author.Tests.{eq-eqb}
-use Rattle.numbers.specs.Numbers.{patched}
 use Rattle.orders.specs.Markets.{marketOf}
 use Rattle.book.specs.Books.{openedBook, openRefusal, openBuffer}
 use Rattle.book_restart.specs.Restarts.{restartOf}
 use Rattle.book_calls.specs.BookBytes.{bookOf}
-use Rattle.session.specs.declared.Answer.{Answer}
-use Rattle.session.specs.declared.Received.{Received}
 use Rattle.session.specs.declared.Session.{Session}
 use Rattle.session.specs.Sessions.{closedWith, loginOf, loginOut, receiveAnswer, receiveBuffer, orderOf, orderOut, heartbeatOf, heartbeatOut, brokenBy, brokenBuffer}
 use Rattle.session_calls.specs.LoginBytes.{loginSize, givenRecord}
-use Rattle.session_calls.specs.SessionBytes.{sessionSize, sessionOf, sessionBytes, sessionAfter, toldNumber, openCall, openCallBuffer, openCallState, restartCall, restartCallState, loginCall, loginCallOut, loginCallState, receiveCall, receiveCallTold, receiveCallBuffer, receiveCallState, orderCall, orderCallOut, orderCallState, heartbeatCall, heartbeatCallOut, breakCall, breakCallBuffer, breakCallState}
+use Rattle.session_calls.specs.SessionBytes.{sessionSize, sessionOf, sessionAfter, toldNumber, openCall, openCallBuffer, openCallState, restartCall, restartCallState, loginCall, loginCallOut, loginCallState, receiveCall, receiveCallTold, receiveCallBuffer, receiveCallState, orderCall, orderCallOut, orderCallState, heartbeatCall, heartbeatCallOut, breakCall, breakCallBuffer, breakCallState}
 use Rattle.session_calls.specs.SessionBytesLaws.{long-called, long-back, given-is, given-back, session-stored, told-put}
 use Rattle.session_calls.specs.SessionAgain.{SizedSession, session-again}
 

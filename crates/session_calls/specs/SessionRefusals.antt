@@ -1,17 +1,16 @@
 -- A call of the session over bytes that is refused changes no byte of a state, a buffer or a number that is lent. Assumes nothing.
-use mathlib.Core.Path.{_≡_, refl, sym, ap, _∙_}
+use mathlib.Core.Path.{_≡_, refl, sym}
 use mathlib.Core.Bool.{Bool, true, false, cond}
 use mathlib.Core.List.{List}
 use Prim.Native.Nat.{ℕ}
-use native.Mathlib.Omega.{arith}
-use lib.Dec.{ltb, eqb}
+use lib.Dec.{ltb}
 use lib.ListN.{length}
 use borrow.Author.Tests.{ne-eqb}
 use Rattle.refusals.specs.Names.{noRoom}
 use Rattle.book.specs.Books.{openRefusal, openBuffer}
 use Rattle.session_messages.specs.declared.Record.{Record}
 use Rattle.session_messages.specs.Sessions as logins
-use Rattle.session.specs.Sessions.{isClosed, isOpen, loginRefusal, loginOf, loginOut, receiveRefusal, receiveOf, receiveBuffer, orderRefusal, orderOf, orderOut, heartbeatRecord, heartbeatRefusal, heartbeatOf, heartbeatOut, brokenBuffer}
+use Rattle.session.specs.Sessions.{isClosed, isOpen, loginRefusal, loginOf, loginOut, receiveRefusal, receiveOf, receiveBuffer, orderRefusal, orderOf, orderOut, heartbeatRecord, heartbeatRefusal, heartbeatOf, heartbeatOut}
 use Rattle.session.specs.declared.Session.{Session}
 use Rattle.book_calls.specs.BookBytes.{bookOf}
 use Rattle.session_calls.specs.LoginBytes.{loginSize, givenRecord}

@@ -1,13 +1,11 @@
 -- `session_calls::break_line` meets its contract. Assumes nothing.
 use mathlib.Core.Path.{refl, sym, ap, _∙_}
 use denote.Ref.{now}
-use lib.ListN.{length}
 use Rattle.session.specs.declared.Phase.{Phase}
-use Rattle.session.specs.declared.Session.{Session}
 use Rattle.session.specs.Sessions.{isClosed, inPhase}
 use Rattle.session.specs.SessionLaws.{stays-closed, breaks}
 use Rattle.numbers.specs.Numbers.{patched}
-use Rattle.session_calls.specs.SessionBytes.{sessionOf, sessionBytes, called}
+use Rattle.session_calls.specs.SessionBytes.{sessionOf, sessionBytes}
 use Rattle.session_calls.specs.SessionBytesLaws.{short-called, short-back, short-kept, long-called, long-back, broken-there}
 use borrow.Author.Needs.{needs}
 use Rattle.session_calls.proofs.break_line.Statement.{statement}

@@ -1,12 +1,11 @@
 -- `session_calls::order` meets its contract. Assumes nothing.
-use mathlib.Core.Path.{sym, ap, ap₂, _∙_}
+use mathlib.Core.Path.{sym, ap, _∙_}
 use denote.Ref.{now}
 use lib.ListN.{length}
 use native.Mathlib.Omega.{arith}
 use Prim.Native.Nat.{ℕ, _+_}
-use mathlib.Core.List.{List}
 use Rattle.orders.specs.Orders.{writeRefusal, writeBuffer}
-use Rattle.session.specs.Sessions.{numbered, nextOutgoing, orderOf}
+use Rattle.session.specs.Sessions.{numbered, orderOf}
 use Rattle.session.specs.OrderLaws.{admitted, gate-stops, writer-stops, goes-out}
 use Rattle.session_calls.specs.SessionBytes.{sessionOf}
 use Rattle.session_calls.specs.SessionBytesLaws.{short-called, short-back, short-kept, long-back, long-leaves, leaves-refused, leaves-stored, gate-is, sent-there}
