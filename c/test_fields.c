@@ -1,4 +1,5 @@
-/* Every field by name, set and got: tried with values of its own, and with every message that the stored questions read or write. */
+/* Every field by name, set and got: held to the proved named access, tried with values of its own, and with every message that the stored questions
+ * read or write. */
 #include "test_gateway.h"
 
 #include <string.h>
@@ -6,6 +7,8 @@
 enum {
     HEADER = 10,      /* the bytes of a message before its fixed part */
     MOST_TEXT = 64,   /* the longest text */
+    MOST_FIELDS = 64, /* what a message's number counts among the numbers of fields */
+    ID_COUNT = 10,    /* the ids of Purge Orders */
     UNTOUCHED = 0x5A, /* what a value holds before it is got */
     LINE = 13008,     /* the most characters of a stored line, its end among them */
     GIVEN = 6200      /* the most bytes of one of its words */
@@ -49,6 +52,7 @@ static struct field {
     bool settable;
     union setter set;
     union getter get;
+    uint32_t number;          /* in the proved named access */
     unsigned long sets, gets; /* how often it was set and got as a stored message has it */
     bool failed;
 } fields[] = {
@@ -371,8 +375,6 @@ static void put_field(struct boe_record *record, const struct field *f, const ui
     raise_to(count, f->byte);
 }
 
-/* ---- each field by itself */
-
 static struct boe_record filled_record(uint8_t type, uint8_t byte) {
     struct boe_record record;
     memset(&record, byte, sizeof record);
@@ -381,6 +383,95 @@ static struct boe_record filled_record(uint8_t type, uint8_t byte) {
 }
 
 static bool same_record(const struct boe_record *a, const struct boe_record *b) { return same_bytes(a->bytes, b->bytes, sizeof a->bytes); }
+
+/* ---- the proved named access */
+
+/* crates/named_access, which calls the proved reader and setter of a field by its number; a value has MOST_TEXT bytes. */
+uint32_t boe_named_get(uint32_t field, uint8_t id, const uint8_t *record, size_t record_len, uint8_t *value, size_t value_len);
+uint32_t boe_named_set(uint32_t field, uint8_t id, const uint8_t *value, size_t value_len, uint8_t *record, size_t record_len);
+
+/* Numbers the fields as it does: messages and fields in the order of the table, which is that of the proved sources. The ids are one field. */
+static void number_fields(void) {
+    uint32_t next = 0;
+    for (EACH(f)) {
+        if (f > fields && f->type != f[-1].type) next = (next / MOST_FIELDS + 1) * MOST_FIELDS;
+        if (f->kind == OF_none) continue;
+        f->number = f->id > 0 ? next - 1 : next++;
+    }
+}
+
+/* A field is got exactly where the proved reader answers that it is selected, and with its value. */
+static void hold_get(struct field *f, const struct boe_record *record) {
+    uint8_t value[MOST_TEXT];
+    bool selected = boe_named_get(f->number, f->id, record->bytes, sizeof record->bytes, value, sizeof value) != 0;
+    check_field(all_are(value + f->width, sizeof value - f->width, 0), f, "has another width in the proved named access");
+    check_field(selected ? gets(f, record, value) : gets_nothing(f, record), f, "is got as the proved reader answers");
+}
+
+/* A setter leaves the bytes that the proved one leaves: in a record of another type, and for an id past the tenth, those that were there. */
+static void hold_set(struct field *f, const struct boe_record *before, const uint8_t *value) {
+    struct boe_record record = *before, proved = *before;
+    bool settable = before->bytes[BOE_RECORD_TYPE_AT] == f->type && f->id < ID_COUNT;
+    if (!f->settable) return;
+    check_field(boe_named_set(f->number, f->id, value, MOST_TEXT, proved.bytes, sizeof proved.bytes) == 0, f, "is set by the proved setter");
+    check_field(settable || same_record(&proved, before), f, "is not set by the proved setter where there is none");
+    check_field(set(f, &record, value) == settable && same_record(&record, &proved), f, "is set as the proved setter sets it");
+}
+
+/* The same bytes in every run. */
+static uint8_t some_byte(void) {
+    static uint64_t state = 88172645463325252;
+    state ^= state << 13;
+    state ^= state >> 7;
+    state ^= state << 17;
+    return (uint8_t)(state >> 32);
+}
+
+/* Both, with a value of any bytes; a text ends at its first NUL. */
+static void hold_both(struct field *f, struct boe_record record) {
+    uint8_t value[MOST_TEXT];
+    for (size_t i = 0; i < sizeof value; i++) value[i] = some_byte();
+    if (f->kind == OF_text)
+        for (size_t i = 0, length = some_byte() % (f->width + 1u); i < sizeof value; i++) value[i] = i < length ? value[i] | 1 : 0;
+    hold_get(f, &record);
+    hold_set(f, &record, value);
+}
+
+/* A record of any bytes, of a type and with a count of bitfields and one of ids. */
+static struct boe_record some_record(uint8_t type, unsigned count, unsigned ids) {
+    struct boe_record record;
+    for (size_t i = 0; i < sizeof record.bytes; i++) record.bytes[i] = some_byte();
+    record.bytes[BOE_RECORD_TYPE_AT] = type;
+    if (record_len(type) == BOE_ORDER_RECORD_LEN) record.bytes[BOE_RECORD_COUNT_AT] = (uint8_t)count;
+    if (type == 0x47) record.bytes[IDS_AT] = (uint8_t)ids;
+    return record;
+}
+
+/* In blank records, in records of any bytes with every count, and in those of every type. */
+static void hold_field(struct field *f) {
+    for (unsigned count = 0; count <= BOE_RECORD_BITFIELDS_LEN; count++)
+        for (unsigned ids = 0; ids <= ID_COUNT + 1; ids++) hold_both(f, some_record(f->type, count, ids));
+    for (unsigned type = 0; type <= UINT8_MAX; type++) {
+        hold_both(f, boe_blank_record((uint8_t)type));
+        hold_both(f, some_record((uint8_t)type, some_byte() % (BOE_RECORD_BITFIELDS_LEN + 1u), some_byte()));
+    }
+}
+
+/* There are ten ids, and after the last field of a message no other. */
+static void hold_past_the_last(struct field *f) {
+    uint8_t value[MOST_TEXT];
+    struct boe_record all = filled_record(f->type, 0xFF);
+    struct field past = *f;
+    past.name = "purge_orders risk_group_id past the tenth";
+    if (f->kind == OF_id && f->id == ID_COUNT - 1)
+        for (past.id = ID_COUNT; past.id; past.id++) hold_both(&past, some_record(f->type, 2, past.id + 1u));
+    for (EACH(g))
+        if (g->type == f->type && g->number > f->number) return;
+    for (uint32_t number = f->number + 1; number % MOST_FIELDS; number++)
+        check_field(boe_named_get(number, 0, all.bytes, sizeof all.bytes, value, sizeof value) == 0, f, "is not the last field of its message");
+}
+
+/* ---- each field by itself */
 
 /* Gets a field of a record as it is, gets a value that stands there by the table, and sets the value. */
 static void try_value(struct field *f, struct boe_record record, const uint8_t *bytes) {
@@ -480,6 +571,7 @@ static void get_each(const struct boe_record *record, const uint8_t *message) {
         if (f->type != record->bytes[BOE_RECORD_TYPE_AT] || f->kind == OF_none) continue;
         size_t at = stands[f - fields];
         check_field(at ? gets(f, record, message + at) : gets_nothing(f, record), f, "is got as a stored message has it");
+        hold_both(f, *record);
         f->gets += at != 0;
     }
 }
@@ -576,8 +668,11 @@ static void refusal_names(void) {
 }
 
 void fields_by_name(FILE *questions, FILE *answers) {
+    number_fields();
     for (EACH(f)) {
         if (f->kind == OF_none) continue;
+        hold_field(f);
+        hold_past_the_last(f);
         try_values(f);
         try_other_types(f);
         try_long_text(f);
