@@ -1,10 +1,10 @@
-/* Counts the instructions of a call of the proved reader, writer, restart and append, and of the plain C ones, on messages and on books.
+/* Counts the instructions of a call of the proved reader, writer, restart, append and receive, and of the plain C ones, on messages and on books.
  *
  * usage: bench [bits | times | KIBIBYTES]
  *
  * It prints lines of WORKLOAD CALL SIDE COUNT. Before it counts it compares both sides on each message, on the three rejections and on five more
- * orders, on each with a byte changed or with bytes cut off, on a small book in the same way, and on messages that are appended; it says what
- * differs and ends with status 1.
+ * orders, on each with a byte changed or with bytes cut off, on a small book in the same way, and on messages that are appended or received; it
+ * says what differs and ends with status 1.
  * With `bits` it counts messages with more and more of their listed bits, in lines of MESSAGE BITS CALL SIDE COUNT. With `times` it counts
  * nothing and takes the calls' times (times.h). With a size it counts nothing: it makes a book of that size, restarts it once by each side, for a
  * counter outside, and prints its bytes and messages alone. */
@@ -62,23 +62,31 @@ static uint64_t count_restart(counted *restart, size_t len) {
     return instructions;
 }
 
-/* The side whose append is counted, and its instructions so far. */
-static counted *append_side;
-static uint64_t append_sum;
+/* The side that is counted as it takes messages, and its instructions so far. */
+static counted *taking_side;
+static uint64_t taking_sum;
 
-static uint32_t counted_append(const uint8_t *bytes, size_t len, uint8_t *buffer, size_t buffer_len, uint8_t *state, size_t state_len) {
-    const union words arguments = {.six = {bytes, len, buffer, buffer_len, state, state_len}};
+static uint32_t count_taking(const union words *arguments, size_t how_many) {
     uint32_t refusal;
-    append_sum += count(append_side, &arguments, 6, &refusal);
+    taking_sum += count(taking_side, arguments, how_many, &refusal);
     return refusal;
 }
 
-/* The instructions of appending the book's messages, all together. */
-static uint64_t count_append(counted *append, size_t len) {
-    append_side = append;
-    append_sum = 0;
-    append_book(counted_append, len);
-    return append_sum;
+static uint32_t counted_append(const uint8_t *bytes, size_t len, uint8_t *buffer, size_t buffer_len, uint8_t *state, size_t state_len) {
+    return count_taking(&(const union words){.six = {bytes, len, buffer, buffer_len, state, state_len}}, 6);
+}
+
+static uint32_t counted_receive(const uint8_t *bytes, size_t len, uint32_t *told, uint8_t *buffer, size_t buffer_len, uint8_t *state,
+                                size_t state_len) {
+    return count_taking(&(const union words){.seven = {bytes, len, told, buffer, buffer_len, state, state_len}}, 7);
+}
+
+/* The instructions of taking the book's messages, all together. */
+static uint64_t count_taker(const struct taker *taker, counted *side, size_t len) {
+    taking_side = side;
+    taking_sum = 0;
+    take_book(taker, taker == &receive ? (counted *)counted_receive : (counted *)counted_append, len);
+    return taking_sum;
 }
 
 static struct books tell_size(const char *name, size_t kibibytes) {
@@ -93,8 +101,10 @@ static void count_book(const char *name, size_t kibibytes) {
     ask_book("the sides differ on a counted book", DATE, b.length, STATE);
     tell(name, " restart proved ", count_restart((counted *)boe_restart, b.length));
     tell(name, " restart baseline ", count_restart((counted *)base_restart, b.length));
-    tell(name, " append proved ", count_append((counted *)boe_book_append, b.length));
-    tell(name, " append baseline ", count_append((counted *)base_append, b.length));
+    tell(name, " append proved ", count_taker(&append, append.proved, b.length));
+    tell(name, " append baseline ", count_taker(&append, append.baseline, b.length));
+    tell(name, " receive proved ", count_taker(&receive, receive.proved, b.length));
+    tell(name, " receive baseline ", count_taker(&receive, receive.baseline, b.length));
 }
 
 /* ---- the runs */
@@ -107,7 +117,7 @@ static void count_all(void) {
     }
     compare_ids();
     compare_books();
-    compare_appends();
+    compare_takers();
     count_traps();
     for (size_t i = 0; i < WORKLOADS; i++)
         count_message(&workloads[i]);

@@ -61,8 +61,7 @@ void compare_good(struct workload *w) {
         differ(w, "the baseline's writer does not write the message back");
 }
 
-/* Whether a direction has a session message of a type. */
-static int is_session(uint8_t direction, uint8_t type) {
+int is_session(uint8_t direction, uint8_t type) {
     if (direction == BOE_FROM_VENUE)
         return type == 0x24 || type == 0x08 || type == 0x09 || type == 0x13;
     return type == 0x37 || type == 0x03;

@@ -8,6 +8,9 @@
 uint32_t proved_read(uint8_t direction, const uint8_t *bytes, size_t len, uint8_t *record, size_t record_len);
 uint32_t proved_write(uint8_t direction, const uint8_t *record, size_t record_len, uint8_t *out, size_t out_len);
 
+/* Whether a direction has a session message of a type. */
+int is_session(uint8_t direction, uint8_t type);
+
 /* Says what differs, and ends. */
 void differ(const struct workload *w, const char *what);
 

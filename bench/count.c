@@ -63,6 +63,8 @@ __asm__(".text\n"
         "    push %rbx\n"
         "    mov %rdi, %rax\n"
         "    mov %rsi, %rbx\n"
+        "    sub $8, %rsp\n"
+        "    push 48(%rbx)\n" /* the seventh argument stands on the stack */
         "    pushfq\n"
         "    orq $0x100, (%rsp)\n"
         "    popfq\n"
@@ -76,6 +78,7 @@ __asm__(".text\n"
         "    pushfq\n"
         "    andq $~0x100, (%rsp)\n"
         "    popfq\n"
+        "    add $16, %rsp\n"
         "    pop %rbx\n"
         "    ret\n");
 

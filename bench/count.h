@@ -27,10 +27,22 @@ struct appending {
     uint64_t state_len;
 };
 
-/* Those of a counted call, as many as six, each a word of the processor's. */
+/* Of receiving. */
+struct receiving {
+    const uint8_t *bytes;
+    uint64_t len;
+    uint32_t *told;
+    uint8_t *buffer;
+    uint64_t buffer_len;
+    uint8_t *state;
+    uint64_t state_len;
+};
+
+/* Those of a counted call, as many as seven, each a word of the processor's. */
 union words {
     struct arguments five;
     struct appending six;
+    struct receiving seven;
 };
 
 void end(int status);
@@ -43,7 +55,7 @@ uint64_t nanoseconds(void);
 /* To be called once, before anything is counted. */
 void count_traps(void);
 
-/* The instructions of a call: its arguments, five or six, the call itself and all to the return. */
+/* The instructions of a call: its arguments, five to seven, the call itself and all to the return. */
 uint64_t count(counted *function, const union words *arguments, size_t how_many, uint32_t *refusal);
 
 #endif

@@ -8,7 +8,7 @@
 
 #include <string.h>
 
-enum { ROUNDS = 300, CALLS = 2000, BOOK = 1 << 20, ROWS = 2 * WORKLOADS + 2, SIDES = 2 };
+enum { ROUNDS = 300, CALLS = 2000, BOOK = 1 << 20, ROWS = 2 * WORKLOADS + 3, SIDES = 2 };
 
 /* Any of the timed calls, as struct arguments has its arguments. */
 typedef uint32_t timed(uint64_t first, const uint8_t *from, uint64_t from_len, uint8_t *to, uint64_t to_len);
@@ -40,35 +40,49 @@ static void add_message_rows(struct row *at, struct workload *w) {
 /* A book that has its first mark alone. */
 static uint8_t unmarked[BOOK];
 
-/* Each side's appending of the messages of such a book. */
-static uint32_t proved_all(uint64_t date, const uint8_t *bytes, uint64_t len, uint8_t *to, uint64_t to_len) {
-    (void)date;
-    return append_all(APPENDS(boe_book_append), bytes, len, to, to_len);
+/* Each side's taking of the messages of such a book; the first argument is the taker. */
+static uint32_t proved_all(uint64_t first, const uint8_t *bytes, uint64_t len, uint8_t *to, uint64_t to_len) {
+    const struct taker *taker = (const struct taker *)first;
+    (void)to_len;
+    return take_all(taker, taker->proved, bytes, len, to);
 }
 
-static uint32_t base_all(uint64_t date, const uint8_t *bytes, uint64_t len, uint8_t *to, uint64_t to_len) {
-    (void)date;
-    return append_all(base_append, bytes, len, to, to_len);
+static uint32_t base_all(uint64_t first, const uint8_t *bytes, uint64_t len, uint8_t *to, uint64_t to_len) {
+    const struct taker *taker = (const struct taker *)first;
+    (void)to_len;
+    return take_all(taker, taker->baseline, bytes, len, to);
 }
 
-/* A row of the book that stands in `book`, with the state of its restart as the answer; its bytes are read at `from`. */
-static struct row book_row(const char *call, timed *proved, timed *baseline, const struct books *b, const uint8_t *from, uint8_t *answer) {
-    static uint8_t to[STATE];
+/* What a call on a book leaves, and where. */
+struct left {
+    uint8_t to[SESSION], answer[SESSION];
+};
+
+/* The restart of the book that stands in `book`. */
+static struct row restart_row(const struct books *b, struct left *left) {
     ask_book("the sides differ on a timed book", DATE, b->length, STATE);
-    if (base_restart(DATE, book, b->length, answer, STATE) != 0)
-        books_differ("a timed book is refused");
-    return (struct row){"h", call, {DATE, from, b->length, to, STATE}, 1, b->messages, answer, {proved, baseline}, {0}};
+    taken_state(&append, b->length, left->answer);
+    return (struct row){"h", " restart", {DATE, book, b->length, left->to, STATE}, 1, b->messages, left->answer,
+                        {TIMED(boe_restart), TIMED(base_restart)}, {0}};
+}
+
+/* The taking of the messages of the unmarked book, which stands in `book` too. */
+static struct row taker_row(const char *call, const struct taker *taker, const struct books *b, struct left *left) {
+    take_book(taker, taker->proved, b->length);
+    take_book(taker, taker->baseline, b->length);
+    taken_state(taker, b->length, left->answer);
+    return (struct row){"h", call, {(uint64_t)taker, unmarked, b->length, left->to, taker->state}, 1, b->messages, left->answer,
+                        {proved_all, base_all}, {0}};
 }
 
 static void add_book_rows(struct row *at) {
-    static uint8_t states[2][STATE];
+    static struct left left[3];
     struct books b = make_book(BOOK, BOOK); /* fewer messages than bytes: no second mark */
     memcpy(unmarked, book, b.length);
-    append_book(APPENDS(boe_book_append), b.length);
-    append_book(base_append, b.length);
-    at[1] = book_row(" append", proved_all, base_all, &b, unmarked, states[1]);
+    at[1] = taker_row(" append", &append, &b, &left[1]);
+    at[2] = taker_row(" receive", &receive, &b, &left[2]);
     b = make_book(BOOK, MARK_EVERY);
-    at[0] = book_row(" restart", TIMED(boe_restart), TIMED(base_restart), &b, book, states[0]);
+    at[0] = restart_row(&b, &left[0]);
 }
 
 /* ---- the rounds */

@@ -312,7 +312,7 @@ pub fn write_order(given: &[u8], out: &mut [u8]) -> u32
     requires { ⌜ recordSize ≤ length (now given) ⌝ }
     ensures { λ n. ⌜ (n ≡ writeRefusal (recordAt (now (given .entry))) (length (now (out .entry)))) × (now (out .exit) ≡ writeBuffer (recordAt (now (given .entry))) (now (out .entry))) ⌝ }
 {
-    let number = numbers::read_u32(given, 2);
+    let number = numbers::read_u32(&given[0..6], 2);
     write_parts(
         given[0],
         given[1],

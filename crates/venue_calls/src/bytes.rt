@@ -26,6 +26,7 @@ fn thresholds_in(state: &[u8]) -> Thresholds
 
 // The venue of a state.
 pub fn load(state: &[u8]) -> Venue
+    requires { ⌜ 402 ≤ length (now state) ⌝ }
     ensures { λ r. ⌜ r ≡ venueOf (now (state .entry)) ⌝ }
 {
     let table = book_calls::books::table_in(state);

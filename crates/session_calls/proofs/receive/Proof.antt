@@ -4,10 +4,10 @@ use denote.Ref.{now}
 use lib.ListN.{length}
 use native.Mathlib.Omega.{arith}
 use Prim.Native.Nat.{ℕ}
-use Rattle.wire.specs.Header.{typeOf}
 use Rattle.wire.specs.Frame.{framed}
 use Rattle.session.specs.Sessions.{isClosed, toldOf, receiveOf}
 use Rattle.session.specs.SessionLaws.{deaf, unreadable}
+use Rattle.session_calls.specs.Judged.{type-in-bytes}
 use Rattle.session_calls.specs.SessionBytes.{sessionOf, toldNumber}
 use Rattle.session_calls.specs.SessionBytesLaws.{short-called, short-back, short-kept, long-back, long-leaves, leaves-refused, told-kept, told-put, told-is}
 use borrow.Author.Needs.{needs}
@@ -79,11 +79,8 @@ returns-4 c =
     let l = long-leaves s h (receiveOf (sessionOf s) (length xs) bs) (w .0, w .2) in
     (l .0, told-kept _ _ _ (λ z. c .if4 .taken (l .0 ∙ z)), w .1 ∙ long-back s h _ _, l .1)
 
-frame-requires : tie.Need-frame-requires
-frame-requires c κs = search needs
-
-type-of-requires : tie.Need-type-of-requires
-type-of-requires c κs = search needs
+byte-at-requires : tie.Need-byte-at-requires
+byte-at-requires c κs = search needs
 
 told-number-requires : tie.Need-told-number-requires
 told-number-requires c κs = search needs
@@ -96,15 +93,16 @@ same-length-6 c = search needs
 
 returns-5 : tie.Need-returns-5
 returns-5 c =
-    let a = c .before .before .before .before .before .before .before .before .before .before .before .before .before .before .before .before .before .before .before .before .before .args in
+    let a = c .before .before .before .before .before .before .before .before .before .before .before .before .before .before .before .before .before .before .before .before .args in
     let s = now (a .state) in
     let xs = now (a .buffer) in
     let bs = now (a .bytes) in
-    let h = c .before .before .before .before .before .before .before .before .before .before .before .before .before .before .before .before .before .if1 .left in
-    let w = c .before .before .before .before .before .before .before .before .take .ensures in
+    let h = c .before .before .before .before .before .before .before .before .before .before .before .before .before .before .before .before .if1 .left in
+    let w = c .before .before .before .before .before .before .before .take .ensures in
     let l = long-leaves s h (receiveOf (sessionOf s) (length xs) bs) (w .0, w .2) in
-    let z = c .before .before .before .if4 .left in
-    let t = c .told-number .ensures ∙ ap (λ (x : ℕ). toldNumber (toldOf x)) (c .before .type-of .ensures ∙ ap typeOf (c .before .before .frame .ensures)) ∙ ap toldNumber (told-is (receiveOf (sessionOf s) (length xs) bs) (framed bs) (sym (w .0) ∙ z)) in
+    let z = c .before .before .if4 .left in
+    let r = sym (c .before .before .before .before .before .before .before .before .before .before .before .read-refusal .ensures) ∙ c .before .before .before .before .before .before .before .before .before .before .if3 .left in
+    let t = c .told-number .ensures ∙ ap (λ (x : ℕ). toldNumber (toldOf x)) (c .before .byte-at .ensures ∙ type-in-bytes bs r) ∙ ap toldNumber (told-is (receiveOf (sessionOf s) (length xs) bs) (framed bs) (sym (w .0) ∙ z)) in
     (sym z ∙ l .0, t ∙ told-put _ _ _ (sym (l .0) ∙ z), w .1 ∙ long-back s h _ _, l .1)
 
 pub receive-spec : {M : Type 1} → statement M
@@ -123,8 +121,7 @@ receive-spec =
     same-length-3
     same-length-4
     returns-4
-    frame-requires
-    type-of-requires
+    byte-at-requires
     told-number-requires
     same-length-5
     same-length-6
