@@ -229,8 +229,8 @@ fn take(phase: Phase, bytes: &[u8], buffer: &mut [u8], state: &mut [u8]) -> u32
     0
 }
 
-// What became of a message of a type that is not refused, by its number.
-fn told_number(message: u8) -> u32
+// What becomes of a message from the venue that a session takes, by its type: 0, nothing for the desk; 1, it is booked; 2, it is handed to the desk.
+pub fn told_number(message: u8) -> u32
     ensures { λ r. ⌜ r ≡ toldNumber (toldOf message) ⌝ }
 {
     let told = session::told_of(message);
