@@ -4,14 +4,14 @@ ghost use Rattle.numbers.specs.Numbers.{patched};
 ghost use Rattle.asking.specs.Words.{words_of, word_of, is_digit, numbered, number_of, is_hex, nibble_of, all_hex, bytes_in, is_bytes, ran, run_of, run_buffer};
 
 // A number of a question.
-#[derive(Drop)]
+#[derive(Clone, Copy)]
 pub struct Number {
     pub ok: bool,
     pub value: u64,
 }
 
 // The bytes of a question, at the front of a buffer: how many.
-#[derive(Drop)]
+#[derive(Clone, Copy)]
 pub struct Run {
     pub ok: bool,
     pub count: usize,

@@ -1,4 +1,5 @@
 // Judging the optional block where it stands: a walk over the set bits that asks of each field's bytes in the message.
+#![tactic(auto)]
 ghost use Rattle.std.specs.Prelude.{◌≡◌, true, ◌+◌, ◌-◌, ◌*◌, ◌%◌, ◌≤◌, ◌<◌, eqb, length};
 ghost use Rattle.dictionary.specs.Dictionary.{entry_of};
 ghost use Rattle.block.specs.Walk.{pick, in_byte, judge_field, judge_entry, judge_here};
@@ -10,7 +11,7 @@ use kinds::Kind;
 
 // How many bytes the set bits take; which of them, counted from 1, is the first of the first field that is against its kind, and which bitfield byte,
 // counted from 1, has the first set bit that is not listed: 0 where there is none. Numbers of one size, since a struct with gaps costs copies.
-#[derive(Drop)]
+#[derive(Clone, Copy)]
 pub struct Judged {
     pub at: usize,
     pub wrong: usize,

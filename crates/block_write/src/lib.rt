@@ -1,4 +1,5 @@
 // Writing the optional block: a walk over the set bits that looks at a record's selected fields, and one that gives them to a message.
+#![tactic(auto)]
 pub mod give;
 
 ghost use Rattle.std.specs.Prelude.{◌≡◌, ◌+◌, ◌*◌, ◌-◌, ◌%◌, ◌≤◌, eqb, length};
@@ -12,7 +13,7 @@ use kinds::Kind;
 
 // The bytes of the selected fields in all; which of them, counted from 1, is the first of the first field that is against its kind, and which
 // bitfield byte, counted from 1, has the first set bit that is not listed: 0 where there is none.
-#[derive(Drop)]
+#[derive(Clone, Copy)]
 pub struct Seen {
     pub total: usize,
     pub wrong: usize,

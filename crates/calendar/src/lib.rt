@@ -1,4 +1,6 @@
 // The calendar: whether a number is a day of 1970 to 2099, written as YYYYMMDD.
+#![tactic(auto)]
+
 ghost use Rattle.std.specs.Prelude.{◌≡◌};
 ghost use Rattle.calendar.specs.Calendar.{leap, days_in, is_day, day_refusal};
 

@@ -1,5 +1,6 @@
 // The bit dictionary: what a bit of a bitfield byte selects in a message. Bytes count from 1, bits from 0, the lowest. The options New Order, which has the
 // type byte of the equities' one, is told by a number of its own, B8.
+#![tactic(auto)]
 ghost use Rattle.std.specs.Prelude.{◌≡◌};
 ghost use Rattle.dictionary.specs.Dictionary.{entry_of};
 ghost use Rattle.dictionary.specs.declared.Entry.TheVariants.{Field};
@@ -7,7 +8,7 @@ ghost use Rattle.dictionary.specs.declared.Entry.TheVariants.{Field};
 use kinds::Kind;
 
 // A bit that is not listed, or the width, the kind and the place in a record's full layout of the field that it selects.
-#[derive(Drop)]
+#[derive(Clone, Copy)]
 pub enum Entry {
     Refused,
     Field { width: u8, kind: Kind, place: u8 },

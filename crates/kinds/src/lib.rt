@@ -1,4 +1,6 @@
 // The data kinds of fields: whether a field's bytes agree with its kind.
+#![tactic(auto)]
+
 ghost use Rattle.std.specs.Prelude.{◌≡◌, cond, ◌&&◌, ◌++◌, ◌+◌, ◌≤◌, ◌<◌, eqb, length, take};
 ghost use Rattle.std.specs.Int.Bits.{bit_xor};
 ghost use Rattle.numbers.specs.Numbers.{bytes_of};
@@ -7,7 +9,7 @@ ghost use Rattle.kinds.specs.Words.{kind_of, Low, Marks};
 
 // A field's kind: document 01's A, N, T, the characters of ClOrdID and OrigClOrdID, B and P; T that is never blank, as MassCancelInst is; and a calendar
 // day, as MaturityDate is.
-#[derive(Drop)]
+#[derive(Clone, Copy)]
 pub enum Kind {
     Letters,
     Alphanumeric,
@@ -20,7 +22,7 @@ pub enum Kind {
 }
 
 // The kinds of texts whose characters are tested a word at a time: A, N and T.
-#[derive(Drop)]
+#[derive(Clone, Copy)]
 enum Plain {
     OfA,
     OfN,

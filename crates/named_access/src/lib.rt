@@ -1,6 +1,7 @@
 // The proved named access, by a field's number, for the C test: it holds the setters and getters of include/boe_fields.h to it. A field's number is
 // 64 times its message's, which is counted from 0 in the order of `order_value` and `session_value`, and its own among the fields of the message, in
 // their order. A RiskGroupID of Purge Orders has its own number, the id, beside the field's.
+#![tactic(auto)]
 mod acknowledgment;
 mod cancel_order;
 mod cancel_rejection;
@@ -21,7 +22,7 @@ mod session_values;
 const FIRST_OF_SESSION: u32 = 640;
 
 // A field's value: whether it is selected, and its bytes, the lowest of a number first, with zeros after them.
-#[derive(Drop)]
+#[derive(Clone, Copy)]
 pub struct Value {
     pub selected: bool,
     pub bytes: [u8; 64],

@@ -2,6 +2,8 @@
 //
 // Every public function takes any buffer and any place. Reading counts bytes past the end as zero; writing
 // answers 0, or 13 where the buffer is too short, and then stores nothing.
+#![tactic(auto)]
+
 pub mod prices;
 
 ghost use Rattle.std.specs.Prelude.{◌≡◌, ◌+◌, ◌<◌, get_or};

@@ -1,6 +1,7 @@
 // A record's fields by name, read and set. A getter answers whether the field is selected, and its value: 0 or zeros where it is not.
 // In a record of another type no field is selected. A module for each message; `reading` has how a field is read,
 // `values` what is read where it stands, and how one is set stands here.
+#![tactic(auto)]
 pub mod acknowledgment;
 pub mod cancel_order;
 pub mod cancel_rejection;
@@ -26,105 +27,105 @@ use dictionary::Entry;
 use orders::Record;
 
 // Where a field stands, if it is selected.
-#[derive(Drop)]
+#[derive(Clone, Copy)]
 struct Found {
     selected: bool,
     at: usize,
 }
 
 // A number of one byte.
-#[derive(Drop)]
+#[derive(Clone, Copy)]
 pub struct ByteField {
     pub selected: bool,
     pub value: u8,
 }
 
 // A number of two bytes.
-#[derive(Drop)]
+#[derive(Clone, Copy)]
 pub struct ShortField {
     pub selected: bool,
     pub value: u16,
 }
 
 // A number of four bytes.
-#[derive(Drop)]
+#[derive(Clone, Copy)]
 pub struct NumberField {
     pub selected: bool,
     pub value: u32,
 }
 
 // A number of eight bytes.
-#[derive(Drop)]
+#[derive(Clone, Copy)]
 pub struct LongField {
     pub selected: bool,
     pub value: u64,
 }
 
 // A price, in ten-thousandths.
-#[derive(Drop)]
+#[derive(Clone, Copy)]
 pub struct PriceField {
     pub selected: bool,
     pub value: i64,
 }
 
 // A text of one byte.
-#[derive(Drop)]
+#[derive(Clone, Copy)]
 pub struct Text1 {
     pub selected: bool,
     pub bytes: [u8; 1],
 }
 
 // A text of three bytes.
-#[derive(Drop)]
+#[derive(Clone, Copy)]
 pub struct Text3 {
     pub selected: bool,
     pub bytes: [u8; 3],
 }
 
 // A text of four bytes.
-#[derive(Drop)]
+#[derive(Clone, Copy)]
 pub struct Text4 {
     pub selected: bool,
     pub bytes: [u8; 4],
 }
 
 // A text of six bytes.
-#[derive(Drop)]
+#[derive(Clone, Copy)]
 pub struct Text6 {
     pub selected: bool,
     pub bytes: [u8; 6],
 }
 
 // A text of eight bytes.
-#[derive(Drop)]
+#[derive(Clone, Copy)]
 pub struct Text8 {
     pub selected: bool,
     pub bytes: [u8; 8],
 }
 
 // A text of 16 bytes.
-#[derive(Drop)]
+#[derive(Clone, Copy)]
 pub struct Text16 {
     pub selected: bool,
     pub bytes: [u8; 16],
 }
 
 // A text of 20 bytes.
-#[derive(Drop)]
+#[derive(Clone, Copy)]
 pub struct Text20 {
     pub selected: bool,
     pub bytes: [u8; 20],
 }
 
 // A text of 60 bytes.
-#[derive(Drop)]
+#[derive(Clone, Copy)]
 pub struct Text60 {
     pub selected: bool,
     pub bytes: [u8; 60],
 }
 
 // A text of 64 bytes.
-#[derive(Drop)]
+#[derive(Clone, Copy)]
 pub struct Text64 {
     pub selected: bool,
     pub bytes: [u8; 64],
@@ -299,19 +300,19 @@ fn set_fixed(r: Record, message: u8, at: usize, bytes: &[u8]) -> Record
 }
 
 // Two bytes.
-#[derive(Drop)]
+#[derive(Clone, Copy)]
 struct Bytes2 {
     bytes: [u8; 2],
 }
 
 // Four bytes.
-#[derive(Drop)]
+#[derive(Clone, Copy)]
 struct Bytes4 {
     bytes: [u8; 4],
 }
 
 // Eight bytes.
-#[derive(Drop)]
+#[derive(Clone, Copy)]
 struct Bytes8 {
     bytes: [u8; 8],
 }

@@ -1,4 +1,5 @@
 // A record as bytes, for callers that have numbers and byte buffers only: RECORD of them, every part at a place of its own.
+#![tactic(auto)]
 ghost use Rattle.std.specs.Prelude.{◌≡◌, ◌∷◌, ◌++◌, ◌+◌, ◌-◌, ◌≤◌, length};
 ghost use Rattle.numbers.specs.Numbers.{bytes_of, patched};
 ghost use Rattle.order_records.specs.Records.{record_bytes, record_at, load_of, store_refusal, store_buffer};
@@ -97,7 +98,7 @@ fn unpack(s: &[u8]) -> Record
 }
 
 // What loading answers: 0 and the record, or the refusal and the blank record.
-#[derive(Drop)]
+#[derive(Clone, Copy)]
 pub struct Loaded {
     pub refusal: u32,
     pub order: Record,

@@ -1,5 +1,6 @@
 // Messages with bitfields, as records: New Order of either market, Cancel Order, Modify Order and Purge Orders from the member; Order Acknowledgment, Order Execution, Order
 // Rejected, Cancel Rejected and User Modify Rejected from the venue.
+#![tactic(auto)]
 ghost use Rattle.std.specs.Prelude.{◌≡◌, not, ◌&&◌, ◌||◌, eqb, ◌+◌, ◌≤◌, length};
 ghost use Rattle.block.specs.Places.{selected_at};
 ghost use Rattle.block.specs.Sizes.{layout_size};
@@ -17,7 +18,7 @@ use table::Unit;
 
 // The record of such a message. `fixed` is the fixed part as on the wire, from byte 10 up to the count byte, and zero after it; `slots`
 // are the optional fields in the full layout: every listed bit has a slot of its field's width, in the order of byte and bit.
-#[derive(Drop)]
+#[derive(Clone, Copy)]
 pub struct Record {
     pub message: u8,
     pub unit: u8,
@@ -30,7 +31,7 @@ pub struct Record {
 
 // The market that a member trades in. New Order has the type 38 in both, and a dictionary of its own in each; in a record that of the options market has the
 // type B8, so that a record tells its own dictionary.
-#[derive(Drop)]
+#[derive(Clone, Copy)]
 pub enum Market {
     Equities,
     Options,

@@ -1,4 +1,6 @@
 // The pulse of a line: whether a heartbeat is due, and whether the peer is silent, on a millisecond clock of 32 bits that wraps.
+#![tactic(auto)]
+
 ghost use Rattle.std.specs.Prelude.{◌≡◌};
 ghost use Rattle.pulse.specs.Pulse.{elapsed_of, heartbeat_due, peer_silent};
 

@@ -10,7 +10,7 @@ use venue::Venue;
 pub type Room = [u8; 4096];
 
 // What stands on the bench.
-#[derive(Drop)]
+#[derive(Clone, Copy)]
 pub struct Bench {
     pub session: Session,
     pub venue: Venue,

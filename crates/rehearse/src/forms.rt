@@ -6,7 +6,7 @@ use session_logins::Choice;
 use venue::Venue;
 
 // Two venues, the messages that the first has sent, and whether the other has sent the same bytes.
-#[derive(Drop)]
+#[derive(Clone, Copy)]
 struct Pair {
     one: Venue,
     other: Venue,

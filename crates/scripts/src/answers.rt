@@ -6,14 +6,14 @@ use session::Session;
 use venue::Venue;
 
 // The states that a script keeps from line to line, beside the buffers of the book and of the log.
-#[derive(Drop)]
+#[derive(Clone, Copy)]
 pub struct Bench {
     pub session: Session,
     pub venue: Venue,
 }
 
 // Whether a line was a question, and the bench after it.
-#[derive(Drop)]
+#[derive(Clone, Copy)]
 pub struct Said {
     pub ok: bool,
     pub bench: Bench,

@@ -6,21 +6,21 @@ use session_logins::{Bitfields, Choice};
 use table::Unit;
 
 // A choice of units of a question.
-#[derive(Drop)]
+#[derive(Clone, Copy)]
 pub struct Units {
     pub ok: bool,
     pub choice: Choice,
 }
 
 // The names of a question.
-#[derive(Drop)]
+#[derive(Clone, Copy)]
 pub struct Names {
     pub ok: bool,
     pub names: [u8; 18],
 }
 
 // The bitfields of a type, of a question.
-#[derive(Drop)]
+#[derive(Clone, Copy)]
 pub struct Bits {
     pub ok: bool,
     pub fields: Bitfields,

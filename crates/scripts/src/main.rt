@@ -1,4 +1,5 @@
 // Answers the scripts on standard input, one line each, in the format that second/README.md gives: the questions that keep a state.
+#![tactic(auto)]
 mod answers;
 mod asked;
 mod members;
@@ -12,7 +13,7 @@ use asking::writing;
 const LONGEST: usize = 8000;
 
 // What is kept between two pieces of input: the length of the line begun, and the bench.
-#[derive(Drop)]
+#[derive(Clone, Copy)]
 struct Reading {
     len: usize,
     bench: Bench,

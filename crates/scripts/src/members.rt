@@ -8,7 +8,7 @@ use session_logins::{Bitfields, Choice};
 use table::{OutgoingNumber, Unit};
 
 // Whether a line was a question, and the session after it.
-#[derive(Drop)]
+#[derive(Clone, Copy)]
 pub struct Told {
     pub ok: bool,
     pub session: Session,

@@ -7,7 +7,7 @@ use table::{Entry, Place, Table, Unit, UnitNumber};
 use venue::Thresholds;
 
 // Four numbers of a state.
-#[derive(Drop)]
+#[derive(Clone, Copy)]
 pub struct Four {
     pub ok: bool,
     pub first: u32,
@@ -17,35 +17,35 @@ pub struct Four {
 }
 
 // The 32 numbers of a question, 4 bytes each.
-#[derive(Drop)]
+#[derive(Clone, Copy)]
 struct Numbers {
     ok: bool,
     bytes: [u8; 128],
 }
 
 // A table of a question.
-#[derive(Drop)]
+#[derive(Clone, Copy)]
 pub struct Given {
     pub ok: bool,
     pub table: Table,
 }
 
 // The thresholds of a question.
-#[derive(Drop)]
+#[derive(Clone, Copy)]
 pub struct Wanted {
     pub ok: bool,
     pub thresholds: Thresholds,
 }
 
 // The sums of a table's numbers and of its places.
-#[derive(Drop)]
+#[derive(Clone, Copy)]
 struct Totals {
     numbers: u64,
     places: u64,
 }
 
 // A market of a question.
-#[derive(Drop)]
+#[derive(Clone, Copy)]
 pub struct Served {
     pub ok: bool,
     pub market: Market,

@@ -5,7 +5,7 @@ use table::OutgoingNumber;
 use venue::Venue;
 
 // Whether a line was a question, and the venue after it.
-#[derive(Drop)]
+#[derive(Clone, Copy)]
 pub struct Told {
     pub ok: bool,
     pub venue: Venue,

@@ -1,4 +1,5 @@
 // The member's session: its state by value, a method for each thing that can happen, each of which answers the next state.
+#![tactic(auto)]
 pub mod phases;
 
 ghost use Rattle.std.specs.Prelude.{◌≡◌, true, false, ◌≤◌, length};
@@ -19,7 +20,7 @@ use session_logins::{Bitfields, Choice};
 use table::OutgoingNumber;
 
 // The phases: no session; a login sent and not yet answered; the venue replays; the venue has replayed.
-#[derive(Drop)]
+#[derive(Clone, Copy)]
 pub enum Phase {
     Closed,
     Asked,
@@ -28,7 +29,7 @@ pub enum Phase {
 }
 
 // The phase, the number of the last order that went out, the market that it serves, and the book with its table.
-#[derive(Drop)]
+#[derive(Clone, Copy)]
 pub struct Session {
     pub phase: Phase,
     pub outgoing: OutgoingNumber,
@@ -37,14 +38,14 @@ pub struct Session {
 }
 
 // What a call answers: 0 and the state after it, or the refusal and the state as it was.
-#[derive(Drop)]
+#[derive(Clone, Copy)]
 pub struct Answer {
     pub refusal: u32,
     pub session: Session,
 }
 
 // What became of a message: nothing for the desk, booked, or handed to the desk and neither booked nor counted.
-#[derive(Drop)]
+#[derive(Clone, Copy)]
 pub enum Told {
     Nothing,
     Booked,
@@ -52,7 +53,7 @@ pub enum Told {
 }
 
 // What receiving answers: 0, what became of the message and the state after it; or the refusal, nothing, and the state as it was.
-#[derive(Drop)]
+#[derive(Clone, Copy)]
 pub struct Received {
     pub refusal: u32,
     pub told: Told,

@@ -1,6 +1,7 @@
 // The fields of the session messages by name, read and set. A getter answers whether the record is of the getter's type, and the value:
 // 0 or zeros where it is not. A setter leaves a record of another type as it is. A module for each message; `fixed` has how texts and bytes
 // of the fixed part are read, and how pairs and groups are read and fields set stands here.
+#![tactic(auto)]
 mod fixed;
 pub mod login_request;
 pub mod login_response;
@@ -15,21 +16,21 @@ use session_messages::Record;
 use table::{OutgoingNumber, Unit, UnitNumber};
 
 // A number or flag of one byte.
-#[derive(Drop)]
+#[derive(Clone, Copy)]
 pub struct ByteField {
     pub selected: bool,
     pub value: u8,
 }
 
 // A number in the sequence of the orders that go out.
-#[derive(Drop)]
+#[derive(Clone, Copy)]
 pub struct OutgoingField {
     pub selected: bool,
     pub value: OutgoingNumber,
 }
 
 // A unit and its last number.
-#[derive(Drop)]
+#[derive(Clone, Copy)]
 pub struct PairField {
     pub there: bool,
     pub unit: Unit,
@@ -37,14 +38,14 @@ pub struct PairField {
 }
 
 // The number of a listed unit.
-#[derive(Drop)]
+#[derive(Clone, Copy)]
 pub struct ListedField {
     pub there: bool,
     pub number: UnitNumber,
 }
 
 // A group's bitfields: their count, and the bytes, zero after them.
-#[derive(Drop)]
+#[derive(Clone, Copy)]
 pub struct BitsField {
     pub there: bool,
     pub count: u8,
@@ -52,28 +53,28 @@ pub struct BitsField {
 }
 
 // A text of one byte.
-#[derive(Drop)]
+#[derive(Clone, Copy)]
 pub struct Text1 {
     pub selected: bool,
     pub bytes: [u8; 1],
 }
 
 // A text of four bytes.
-#[derive(Drop)]
+#[derive(Clone, Copy)]
 pub struct Text4 {
     pub selected: bool,
     pub bytes: [u8; 4],
 }
 
 // A text of ten bytes.
-#[derive(Drop)]
+#[derive(Clone, Copy)]
 pub struct Text10 {
     pub selected: bool,
     pub bytes: [u8; 10],
 }
 
 // A text of 60 bytes.
-#[derive(Drop)]
+#[derive(Clone, Copy)]
 pub struct Text60 {
     pub selected: bool,
     pub bytes: [u8; 60],
@@ -394,7 +395,7 @@ fn set_bytes(r: Record, message: u8, at: usize, bytes: &[u8]) -> Record
 }
 
 // Four bytes.
-#[derive(Drop)]
+#[derive(Clone, Copy)]
 struct Bytes4 {
     bytes: [u8; 4],
 }

@@ -1,4 +1,6 @@
 // Unit pairs and groups of the login-like messages: which are in order, and how many bytes they take.
+#![tactic(auto)]
+
 ghost use Rattle.std.specs.Prelude.{◌≡◌, ◌*◌, ◌≤◌, ◌<◌, length, replicate};
 ghost use Rattle.session_groups.specs.Groups.{units_from, pairs_good, bits_good, key_of, group_key, size_by, list_good, group_size, next_size, groups_end};
 
@@ -129,7 +131,7 @@ fn group_size(key: u8, s: &[u8]) -> usize
 }
 
 // What a group is, 1 to 3 or 0, and its bytes, or 0 where it is against the rules.
-#[derive(Drop)]
+#[derive(Clone, Copy)]
 struct Group {
     key: u8,
     size: usize,

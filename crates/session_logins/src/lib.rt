@@ -1,4 +1,5 @@
 // The Login Request built from the sequence table, with the choice of units as a value.
+#![tactic(auto)]
 ghost use Rattle.std.specs.Prelude.{◌≡◌, [], ◌∷◌, ◌++◌, ◌*◌, ◌≤◌, length, take};
 ghost use Rattle.numbers.specs.Numbers.{bytes_of, patched};
 ghost use Rattle.session_groups.specs.Values.{pairs_bytes};
@@ -10,7 +11,7 @@ use table::{Table, Unit};
 
 // Which units a login lists: 0 no choice given, 1 the first `count` of `units` with `flag`, any other no group of units.
 // A struct, since an enum that holds an array is not covered.
-#[derive(Drop)]
+#[derive(Clone, Copy)]
 pub struct Choice {
     pub which: u8,
     pub flag: u8,
@@ -19,7 +20,7 @@ pub struct Choice {
 }
 
 // The bitfields that a login asks for of one message type, if it does.
-#[derive(Drop)]
+#[derive(Clone, Copy)]
 pub struct Bitfields {
     pub given: bool,
     pub count: u8,

@@ -1,4 +1,5 @@
 // The session messages as records: Login Request, Login Response, Logout, Replay Complete and both heartbeats.
+#![tactic(auto)]
 ghost use Rattle.std.specs.Prelude.{◌≡◌, ◌||◌, ◌++◌, ◌+◌, ◌≤◌, length, take};
 ghost use Rattle.numbers.specs.Numbers.{patched};
 ghost use Rattle.wire.specs.Header.{header_bytes, total_of};
@@ -12,7 +13,7 @@ use kinds::Kind;
 pub const RECORD: usize = 439;
 
 // The record of such a message: `body` is what follows the ten bytes of the header, as on the wire, and zero after it.
-#[derive(Drop)]
+#[derive(Clone, Copy)]
 pub struct Record {
     pub message: u8,
     pub unit: u8,
@@ -21,7 +22,7 @@ pub struct Record {
 }
 
 // What reading answers: 0 and the record, or the refusal and the blank record.
-#[derive(Drop)]
+#[derive(Clone, Copy)]
 pub struct Reading {
     pub refusal: u32,
     pub session: Record,

@@ -9,7 +9,7 @@ use book_listing::{Asked, Listing};
 use table::{Entry, Unit};
 
 // Where a listing stands, and what is kept of the unit that is asked for.
-#[derive(Drop)]
+#[derive(Clone, Copy)]
 struct Gone {
     listing: Listing,
     asked: Asked,

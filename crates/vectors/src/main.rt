@@ -1,4 +1,5 @@
 // Answers the questions on standard input, one line each, in the format that second/README.md gives.
+#![tactic(auto)]
 mod answers;
 mod books;
 

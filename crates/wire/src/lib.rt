@@ -1,4 +1,6 @@
 // The wire: a message's header, and framing, which finds the first whole message of a buffer.
+#![tactic(auto)]
+
 pub mod header;
 
 ghost use Rattle.std.specs.Prelude.{◌≡◌, take, drop};

@@ -1,0 +1,16 @@
+-- `asking::words::is_hex` meets its contract: each return has the tests that led to it. Assumes nothing.
+use native.Mathlib.Omega.{arith}
+use borrow.Author.Tests.{le-leb, lt-leb}
+use Rattle.asking.proofs.words.is_hex.Goals as goal
+
+pub returns-then-b-lt48 : goal.returns-then-b-lt48
+returns-then-b-lt48 c = rw (lt-leb 48 _ c.if-b-lt48.true, lt-leb 65 c.args.b (omega arith))
+
+pub returns-then-b-le57 : goal.returns-then-b-le57
+returns-then-b-le57 c = rw (le-leb 48 _ c.if-b-lt48.false, le-leb _ 57 c.if-b-le57.true)
+
+pub returns-then-b-lt65 : goal.returns-then-b-lt65
+returns-then-b-lt65 c = rw (le-leb 48 _ c.if-b-lt48.false, lt-leb _ 57 c.if-b-le57.false, lt-leb 65 _ c.if-b-lt65.true)
+
+pub returns : goal.returns
+returns c = rw (le-leb 48 _ c.if-b-lt48.false, lt-leb _ 57 c.if-b-le57.false, le-leb 65 _ c.if-b-lt65.false)

@@ -1,0 +1,21 @@
+-- `numbers::put_u32` meets its contract. Assumes nothing.
+use Rattle.numbers.proofs.Tail.{no_room, stored}
+use Rattle.numbers.specs.Numbers.{bytes_of}
+use lib.ListN.{length-set}
+use native.Mathlib.Omega.{arith}
+use Rattle.numbers.proofs.put_u32.Goals as goal
+
+pub returns-then-tail-lt4 : goal.returns-then-tail-lt4
+returns-then-tail-lt4 c = no_room c.args.tail.now 0 (bytes_of 4 c.args.v) c.if-tail-lt4.true
+
+pub bounds-tail-1 : goal.bounds-tail-1
+bounds-tail-1 c = simp length-set (omega arith)
+
+pub bounds-tail-2 : goal.bounds-tail-2
+bounds-tail-2 c = simp length-set (omega arith)
+
+pub bounds-tail-3 : goal.bounds-tail-3
+bounds-tail-3 c = simp length-set (omega arith)
+
+pub returns : goal.returns
+returns c = stored (bytes_of 4 c.args.v) c.args.tail.now c.if-tail-lt4.false

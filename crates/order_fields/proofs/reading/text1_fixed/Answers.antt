@@ -1,0 +1,18 @@
+-- `order_fields::reading::text1_fixed` meets its contract. Assumes nothing.
+use Rattle.order_fields.specs.declared.Found.{Found}
+use Rattle.order_fields.specs.Named.{text1_in}
+use mathlib.Core.Path.{◌≡◌, ap, ◌∙◌}
+use lib.ListN.{length}
+use native.Mathlib.Omega.{arith}
+use borrow.Author.Rules.{rules}
+use Rattle.block.specs.Sizes.{fixed_size}
+use Rattle.order_fields.proofs.reading.text1_fixed.Goals as goal
+
+fixed-length : (c : tie.Start) → length c.args.r.fixed ≡ fixed_size
+fixed-length c = search rules
+
+pub text1_in-requires : goal.text1_in-requires
+text1_in-requires c = omega (arith, c.fixed.ensures.1, fixed-length c)
+
+pub returns : goal.returns
+returns c = c.text1_in.ensures ∙ ap (λ (f : Found). text1_in f c.args.r.fixed) c.fixed.ensures.0

@@ -1,0 +1,18 @@
+-- `order_fields::reading::text60_fixed` meets its contract. Assumes nothing.
+use Rattle.order_fields.specs.declared.Found.{Found}
+use Rattle.order_fields.specs.Named.{text60_in}
+use mathlib.Core.Path.{◌≡◌, ap, ◌∙◌}
+use lib.ListN.{length}
+use native.Mathlib.Omega.{arith}
+use borrow.Author.Rules.{rules}
+use Rattle.block.specs.Sizes.{fixed_size}
+use Rattle.order_fields.proofs.reading.text60_fixed.Goals as goal
+
+fixed-length : (c : tie.Start) → length c.args.r.fixed ≡ fixed_size
+fixed-length c = search rules
+
+pub text60_in-requires : goal.text60_in-requires
+text60_in-requires c = omega (arith, c.fixed.ensures.1, fixed-length c)
+
+pub returns : goal.returns
+returns c = c.text60_in.ensures ∙ ap (λ (f : Found). text60_in f c.args.r.fixed) c.fixed.ensures.0

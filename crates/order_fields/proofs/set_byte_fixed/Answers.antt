@@ -1,0 +1,13 @@
+-- `order_fields::set_byte_fixed` meets its contract. Assumes nothing.
+use Rattle.order_fields.specs.Named.{fixing_of}
+use Rattle.order_fields.proofs.Answers.{its_byte}
+use Prim.Native.Nat.{ℕ}
+use mathlib.Core.List.{List}
+use mathlib.Core.Path.{ap, ◌∙◌}
+use native.Mathlib.Omega.{arith}
+use Rattle.order_fields.proofs.set_byte_fixed.Goals as goal
+
+pub returns : goal.returns
+returns c =
+    let a = c.args in
+    c.set_fixed.ensures ∙ ap (λ (l : List ℕ). fixing_of a.message a.at l a.r) (its_byte a.v (omega arith))

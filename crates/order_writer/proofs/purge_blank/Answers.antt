@@ -1,0 +1,38 @@
+-- `order_writer::purge_blank` meets its contract: a good middle ends within the fixed part, and what follows it is looked at. Assumes nothing.
+use mathlib.Core.Path.{◌≡◌, refl, ap, ◌∙◌}
+use Prim.Native.Nat.{ℕ, ◌+◌, ◌≤◌}
+use native.Mathlib.Omega.{arith}
+use lib.ListN.{length, drop}
+use Rattle.numbers.proofs.Tail.{tail_is}
+use Rattle.kinds.specs.Kinds.{all_nul}
+use Rattle.orders.specs.Middle.{middle_size}
+use Rattle.orders.specs.OrderLaws.{in_purge_orders, middle-fits}
+use Rattle.order_writer.proofs.Held.{blank-after}
+use Rattle.order_writer.proofs.purge_blank.Goals as goal
+
+abbrev start_of : tie.After-middle-size → tie.Start
+start_of c = c
+
+-- the bytes of the middle
+size : (c : tie.After-middle-size) → c.middle_size-from.result ≡ middle_size 0x47 (start_of c).args.count (start_of c).args.bits.now (drop 1 (start_of c).args.fixed.now)
+size c =
+    let a = (start_of c).args in
+    c.middle_size-from.ensures.0 ∙ ap (middle_size 0x47 a.count a.bits.now) (tail_is a.fixed.now 1 (omega (arith, (start_of c).requires.0)))
+
+fits : (c : tie.After-middle-size) → 1 + c.middle_size-from.result ≤ length (start_of c).args.fixed.now
+fits c =
+    let start = start_of c in
+    let a = start.args in
+    omega (arith, size c, middle-fits 0x47 a.count a.bits.now (drop 1 a.fixed.now) start.pre.1, in_purge_orders 0x47 refl, start.pre.0)
+
+pub slice_bounds-is_blank-count : goal.slice_bounds-is_blank-count
+slice_bounds-is_blank-count c = fits c
+
+pub slice_bounds-is_blank-start : goal.slice_bounds-is_blank-start
+slice_bounds-is_blank-start c = omega (arith, fits c)
+
+pub returns : goal.returns
+returns c =
+    let sized = c in
+    let s = (start_of sized).args.fixed.now in
+    c.is_blank.ensures ∙ blank-after s 1 sized.middle_size-from.result (fits sized) ∙ ap (λ (k : ℕ). all_nul (drop k (drop 1 s))) (size sized)

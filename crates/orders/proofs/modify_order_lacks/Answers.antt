@@ -1,0 +1,9 @@
+-- `orders::modify_order_lacks` meets its contract. Assumes nothing.
+use mathlib.Core.Path.{sym, ◌∙◌}
+use Rattle.orders.proofs.modify_order_lacks.Goals as goal
+
+pub returns-then-is_selected : goal.returns-then-is_selected
+returns-then-is_selected c = rw (sym c.is_selected.ensures ∙ c.if-is_selected.true)
+
+pub returns : goal.returns
+returns c = rw (sym c.is_selected.ensures ∙ c.if-is_selected.false)

@@ -1,0 +1,52 @@
+-- `scripts::run` is safe and ends. The loop's invariant: all buffers keep their lengths. The measure is the number of turns that are left. Assumes
+-- nothing.
+use native.Mathlib.Omega.{arith}
+use Rattle.scripts.proofs.run.Goals as goal
+
+pub new_bench-requires : goal.new_bench-requires
+new_bench-requires c = tt
+
+pub loop-turns-init : goal.loop-turns-init
+loop-turns-init c = omega arith
+
+pub turn-reading-requires : goal.turn-reading-requires
+turn-reading-requires c = tt
+
+pub overflow_sub-turns : goal.overflow_sub-turns
+overflow_sub-turns c = omega arith
+
+pub loop-turns-smaller : goal.loop-turns-smaller
+loop-turns-smaller c = omega arith
+
+pub loop-turns-preserved : goal.loop-turns-preserved
+loop-turns-preserved c = omega arith
+
+pub shape_of-line-else-reading-lt18446744073709551615 : goal.shape_of-line-else-reading-lt18446744073709551615
+shape_of-line-else-reading-lt18446744073709551615 c = omega arith
+
+pub shape_of-bytes-else-reading-lt18446744073709551615 : goal.shape_of-bytes-else-reading-lt18446744073709551615
+shape_of-bytes-else-reading-lt18446744073709551615 c = omega arith
+
+pub shape_of-book-else-reading-lt18446744073709551615 : goal.shape_of-book-else-reading-lt18446744073709551615
+shape_of-book-else-reading-lt18446744073709551615 c = omega arith
+
+pub shape_of-log-else-reading-lt18446744073709551615 : goal.shape_of-log-else-reading-lt18446744073709551615
+shape_of-log-else-reading-lt18446744073709551615 c = omega arith
+
+pub returns-else-reading-lt18446744073709551615 : goal.returns-else-reading-lt18446744073709551615
+returns-else-reading-lt18446744073709551615 c = tt
+
+pub shape_of-line-after-loop-turns : goal.shape_of-line-after-loop-turns
+shape_of-line-after-loop-turns c = omega arith
+
+pub shape_of-bytes-after-loop-turns : goal.shape_of-bytes-after-loop-turns
+shape_of-bytes-after-loop-turns c = omega arith
+
+pub shape_of-book-after-loop-turns : goal.shape_of-book-after-loop-turns
+shape_of-book-after-loop-turns c = omega arith
+
+pub shape_of-log-after-loop-turns : goal.shape_of-log-after-loop-turns
+shape_of-log-after-loop-turns c = omega arith
+
+pub returns-after-loop-turns : goal.returns-after-loop-turns
+returns-after-loop-turns c = tt

@@ -1,0 +1,42 @@
+-- `session_messages::read_session` meets its contract. Assumes nothing.
+use Rattle.session_messages.proofs.Stages.{read_refused, read_accepted}
+use Rattle.session_messages.specs.Sessions.{read_refusal}
+use Rattle.session_messages.specs.SessionLaws.{good}
+use Rattle.session_messages.specs.SessionTrip.{body_small}
+use Rattle.numbers.proofs.Tail.{tail_is}
+use lib.ListN.{length}
+use Prim.Native.Nat.{◌≤◌}
+use native.Mathlib.Omega.{arith}
+use mathlib.Core.Path.{◌≡◌, sym, ap, ◌∙◌}
+use Rattle.session_messages.proofs.read_session.Goals as goal
+
+accepts : (c : tie.Else1) → read_refusal c.args.m.now ≡ 0
+accepts c = sym c.read_refusal-refusal.ensures ∙ c.if-refusal-ne0.false
+
+ten : (c : tie.Else1) → 10 ≤ length c.args.m.now
+ten c = omega (arith, (good c.args.m.now (accepts c)).there)
+
+pub returns-then-refusal-ne0 : goal.returns-then-refusal-ne0
+returns-then-refusal-ne0 c =
+    let a = c.args in
+    c.refused.ensures ∙ read_refused a.m.now c.read_refusal-refusal.result c.read_refusal-refusal.ensures c.if-refusal-ne0.true
+
+pub slice_bounds-copy-count : goal.slice_bounds-copy-count
+slice_bounds-copy-count c = ten c
+
+pub slice_bounds-copy-start : goal.slice_bounds-copy-start
+slice_bounds-copy-start c = ten c
+
+pub copy-requires : goal.copy-requires
+copy-requires c =
+    let m = c.args.m.now in
+    omega (arith, ap length (tail_is m 10 (ten c)), body_small m (accepts c))
+
+pub returns : goal.returns
+returns c =
+    let unit = c in
+    let type = unit in
+    let copy = type in
+    let test = copy in
+    let m = test.args.m.now in
+    read_accepted m (accepts test) (ten test) type.type_of.result unit.unit_of.result c.number_of_lem.result _ type.type_of.ensures unit.unit_of.ensures c.number_of_lem.ensures copy.copy.ensures
