@@ -22,7 +22,7 @@ returns c =
     let put2 = put3 in
     let put1 = put2 in
     none-listed 0x25 _ _ _ (all_places - 40) 40 _ refl
-    ∙ put4.store_next-a.ensures.0
+    ∙ put4.store_next.ensures.0
     ∙ listed-after 0x25 _ _ _ 8 (all_places - 32) 24 _ refl
     ∙ put3.store_next-c.ensures.0
     ∙ put2.store_next-b.ensures.0
