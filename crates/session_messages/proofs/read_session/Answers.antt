@@ -40,4 +40,4 @@ returns c =
     let copy = type in
     let test = copy in
     let m = test.args.m.now in
-    read_accepted m (accepts (goal.at.returns c).Else-refusal-ne0) (ten (goal.at.returns c).Else-refusal-ne0) type.type_of.result unit.unit_of.result c.number_of_lem.result _ type.type_of.ensures unit.unit_of.ensures c.number_of_lem.ensures copy.copy.ensures
+    read_accepted m (accepts (goal.at.returns c).Else-refusal-ne0) (ten (goal.at.returns c).Else-refusal-ne0) type.type_of.result unit.unit_of.result c.number_of.result _ type.type_of.ensures unit.unit_of.ensures c.number_of.ensures copy.copy.ensures

@@ -29,7 +29,7 @@ decided c =
 pub returns-then-head-ne0 : goal.returns-then-head-ne0
 returns-then-head-ne0 c =
     let a = c.args in
-    let h = c.head-refusal in
+    let h = c.head_refusal-head in
     let e = head_decides a.message a.unit a.number a.body.now (length a.out.now) h.result h.ensures c.if-head-ne0.true in
     (e, buffer_kept a.message a.unit a.number a.body.now a.out.now h.result e c.if-head-ne0.true)
 
@@ -37,7 +37,7 @@ pub returns-then-held-ne0 : goal.returns-then-held-ne0
 returns-then-held-ne0 c =
     let head = c in
     let a = head.args in
-    let x = c.held-refusal in
+    let x = c.held_refusal-held in
     let e = held_decides a.message a.unit a.number a.body.now (length a.out.now) head.head_refusal-head.result head.head_refusal-head.ensures c.if-head-ne0.false x.result x.ensures c.if-held-ne0.true in
     (e, buffer_kept a.message a.unit a.number a.body.now a.out.now x.result e c.if-held-ne0.true)
 
