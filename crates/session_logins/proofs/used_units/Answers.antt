@@ -24,12 +24,12 @@ entry-held-requires c = tt
 
 pub bounds-units-count : goal.bounds-units-count
 bounds-units-count c =
-    let l = c.loop in
+    let l = c.loop-i in
     omega (arith, c.loop-i-test.true, few_yet c.args.table l.i l.invariant.1)
 
 pub overflow_add-count : goal.overflow_add-count
 overflow_add-count c =
-    let l = c.loop in
+    let l = c.loop-i in
     omega (arith, c.loop-i-test.true, few_yet c.args.table l.i l.invariant.1)
 
 pub overflow_add-i : goal.overflow_add-i
@@ -40,7 +40,7 @@ loop-i-smaller c = omega (arith, c.loop-i-test.true)
 
 pub loop-i-preserved : goal.loop-i-preserved
 loop-i-preserved c =
-    let l = c.loop in
+    let l = c.loop-i in
     let t = c.args.table in
     let h = c.loop-i-test.true in
     let e = ap (λ (x : Entry). x.last.0) c.entry-held.ensures in (
@@ -59,5 +59,5 @@ chosen-requires c = tt
 
 pub returns : goal.returns
 returns c =
-    let l = c.loop in
+    let l = c.loop-i in
     c.chosen.ensures ∙ all_used c.args.table l.i (omega (arith, l.invariant.0, c.loop-i-test.false)) l.invariant.1
