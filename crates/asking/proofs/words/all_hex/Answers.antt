@@ -1,9 +1,7 @@
 -- `asking::words::all_hex` meets its contract. The loop's invariant: what is left has hex digits alone where the word has. The measure is what is
 -- left. Assumes nothing.
-use Prim.Native.Nat.{◌-◌}
 use mathlib.Core.Path.{refl, sym, ap, ◌∙◌}
 use native.Mathlib.Omega.{arith}
-use borrow.Author.Tests.{not-true, not-false}
 use lib.ListN.{drop_of_length-le}
 use Rattle.asking.specs.Words.{all_hex}
 use Rattle.asking.specs.WordLaws.{hex_read, no_hex, all_hex_read}
@@ -22,7 +20,7 @@ pub returns-then-not-is_hex : goal.returns-then-not-is_hex
 returns-then-not-is_hex c =
     let at = c in
     let word = at.args.word.now in
-    sym (no_hex word at.loop-i.i c.loop-i-test.true (sym c.is_hex.ensures ∙ not-true _ c.if-not-is_hex.true)) ∙ at.loop-i.invariant.1
+    sym (no_hex word at.loop-i.i c.loop-i-test.true (sym c.is_hex.ensures ∙ c.if-not-is_hex.true)) ∙ at.loop-i.invariant.1
 
 pub overflow_add-i : goal.overflow_add-i
 overflow_add-i c = omega arith
@@ -34,7 +32,7 @@ pub loop-i-preserved : goal.loop-i-preserved
 loop-i-preserved c =
     let at = c in
     let word = at.args.word.now in
-    (omega arith, sym (hex_read word at.loop-i.i c.loop-i-test.true (sym c.is_hex.ensures ∙ not-false _ c.if-not-is_hex.false)) ∙ at.loop-i.invariant.1)
+    (omega arith, sym (hex_read word at.loop-i.i c.loop-i-test.true (sym c.is_hex.ensures ∙ c.if-not-is_hex.false)) ∙ at.loop-i.invariant.1)
 
 pub returns : goal.returns
 returns c =
