@@ -4,6 +4,7 @@ use crate::{say, written};
 use asking::writing;
 use session_logins::Choice;
 use venue::Venue;
+use std::io;
 
 // Two venues, the messages that the first has sent, and whether the other has sent the same bytes.
 #[derive(Clone, Copy)]
@@ -79,7 +80,7 @@ fn length_in(bytes: &[u8]) -> u64 {
 }
 
 // Both forms are tried from one and the same state, of which nothing is kept: what the venue sends after either.
-pub fn compares(b: Bench, log: &Room) {
+pub fn compares(rt: &impl Print, b: Bench, log: &Room) -> io::Result<()> {
     let mut short = [0u8; 600];
     let mut full = [0u8; 600];
     let one = taken(b, false, &mut short);
@@ -91,25 +92,25 @@ pub fn compares(b: Bench, log: &Room) {
         same: true,
     };
     let p = all_steps(started, log);
-    say::gateway(b.clock);
-    say::count(
+    say::gateway(rt, b.clock)?;
+    say::count(rt, 
         b"compares both forms of its login: ",
         length_in(&short),
         b"",
-    );
-    say::count(
+    )?;
+    say::count(rt, 
         b" bytes with its units above 0, ",
         length_in(&full),
         b" with all 32; ",
-    );
+    )?;
     if p.same {
-        say::count(
+        say::count(rt, 
             b"after either the venue would send the same ",
             p.sent as u64,
             b" messages, byte for byte",
-        );
+        )?;
     } else {
-        writing::text(b"AFTER THE TWO THE VENUE WOULD NOT SEND THE SAME");
+        writing::text(rt, b"AFTER THE TWO THE VENUE WOULD NOT SEND THE SAME")?;
     }
-    writing::line_end();
+    writing::line_end(rt)
 }

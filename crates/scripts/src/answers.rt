@@ -4,6 +4,7 @@ use asking::{words, writing};
 use orders::Market;
 use session::Session;
 use venue::Venue;
+use std::io;
 
 // The states that a script keeps from line to line, beside the buffers of the book and of the log.
 #[derive(Clone, Copy)]
@@ -129,66 +130,67 @@ fn words_of(call: u8) -> usize {
 
 // Answers a line, if it is a question. `bytes` is room for a question's bytes.
 pub fn answered(
+    rt: &impl Print,
     line: &[u8],
     bench: Bench,
     bytes: &mut [u8],
     book: &mut [u8],
     log: &mut [u8],
-) -> Said {
+) -> io::Result<Said> {
     let call = call_of(words::word(line, 0));
     if words::count(line) != words_of(call) {
-        return Said {
+        return Ok(Said {
             ok: false,
             bench: bench,
-        };
+        });
     }
     if call == 1 {
-        return begin(book, log);
+        return begin(rt, book, log);
     }
     if call < 14 {
-        return of_member(call, line, bench, bytes, book);
+        return of_member(rt, call, line, bench, bytes, book);
     }
-    of_venue(call, line, bench, bytes, log)
+    of_venue(rt, call, line, bench, bytes, log)
 }
 
 // `new`: the bench as at the start.
-fn begin(book: &mut [u8], log: &mut [u8]) -> Said {
+fn begin(rt: &impl Print, book: &mut [u8], log: &mut [u8]) -> io::Result<Said> {
     parts::blank(book);
     parts::blank(log);
-    writing::text(b"0");
+    writing::text(rt, b"0")?;
     let bench = new_bench();
-    Said {
+    Ok(Said {
         ok: true,
         bench: bench,
-    }
+    })
 }
 
 // A question to the member.
-fn of_member(call: u8, line: &[u8], bench: Bench, bytes: &mut [u8], book: &mut [u8]) -> Said {
+fn of_member(rt: &impl Print, call: u8, line: &[u8], bench: Bench, bytes: &mut [u8], book: &mut [u8]) -> io::Result<Said> {
     let session = bench.session;
     let venue = bench.venue;
-    let told = members::answered(call, line, session, bytes, book);
+    let told = members::answered(rt, call, line, session, bytes, book)?;
     let after = told.session;
-    Said {
+    Ok(Said {
         ok: told.ok,
         bench: Bench {
             session: after,
             venue: venue,
         },
-    }
+    })
 }
 
 // A question to the venue.
-fn of_venue(call: u8, line: &[u8], bench: Bench, bytes: &mut [u8], log: &mut [u8]) -> Said {
+fn of_venue(rt: &impl Print, call: u8, line: &[u8], bench: Bench, bytes: &mut [u8], log: &mut [u8]) -> io::Result<Said> {
     let session = bench.session;
     let venue = bench.venue;
-    let told = venues::answered(call, line, venue, bytes, log);
+    let told = venues::answered(rt, call, line, venue, bytes, log)?;
     let after = told.venue;
-    Said {
+    Ok(Said {
         ok: told.ok,
         bench: Bench {
             session: session,
             venue: after,
         },
-    }
+    })
 }
