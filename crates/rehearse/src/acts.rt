@@ -4,8 +4,8 @@ use crate::{bench, forms, lasts, orders_out, outage, say, written};
 use asking::writing;
 use book::Book;
 use orders::Market;
-use table::{Table, Unit};
 use std::io;
+use table::{Table, Unit};
 
 // The day, and the day before.
 const TODAY: u32 = 20250819;
@@ -43,7 +43,14 @@ fn next_number(b: Bench, unit: u8) -> u32 {
 }
 
 // The venue acknowledges an order, in its log.
-fn acknowledges(rt: &impl Print, b: Bench, unit: u8, id: &[u8], price: i64, log: &mut Room) -> io::Result<Bench> {
+fn acknowledges(
+    rt: &impl Print,
+    b: Bench,
+    unit: u8,
+    id: &[u8],
+    price: i64,
+    log: &mut Room,
+) -> io::Result<Bench> {
     let mut bytes = [0u8; 200];
     written::acknowledgment(unit, next_number(b, unit), id, price, &mut bytes);
     bench::logs(rt, bench::later(b, 10), &bytes, log)
@@ -75,7 +82,10 @@ fn executes(
 
 // A new day: the book is opened, for the equities market, and the venue has an empty log.
 pub fn opens(rt: &impl Print, book: &mut Room) -> io::Result<Bench> {
-    say::title(rt, b"1. A new day book, a login with nothing to replay, and four orders")?;
+    say::title(
+        rt,
+        b"1. A new day book, a login with nothing to replay, and four orders",
+    )?;
     begins(rt, Market::Equities, book)
 }
 
@@ -98,7 +108,8 @@ fn begins(rt: &impl Print, market: Market, book: &mut Room) -> io::Result<Bench>
     if answer.refusal != 0 {
         say::refusal(rt, answer.refusal)?;
     } else {
-        say::count(rt, 
+        say::count(
+            rt,
             b"one mark, ",
             bench::length_of(b) as u64,
             b" bytes, no message; table: ",
@@ -141,7 +152,10 @@ pub fn while_down(rt: &impl Print, b: Bench, log: &mut Room) -> io::Result<Bench
 
 // The first replay, in which a rejection arrives between two messages, and the line breaks.
 pub fn first_replay(rt: &impl Print, b: Bench, book: &mut Room, log: &Room) -> io::Result<Bench> {
-    say::title(rt, b"3. A new line; a rejection between two messages; it breaks during the replay")?;
+    say::title(
+        rt,
+        b"3. A new line; a rejection between two messages; it breaks during the replay",
+    )?;
     let asked = bench::logs_in(rt, bench::at(b, 9, 31), false, book)?;
     let one = bench::delivers(rt, asked, log, book)?;
     let mut bytes = [0u8; 200];
@@ -155,7 +169,8 @@ pub fn first_replay(rt: &impl Print, b: Bench, book: &mut Room, log: &Room) -> i
 
 // The second replay, in which the line breaks again.
 pub fn second_replay(rt: &impl Print, b: Bench, book: &mut Room, log: &Room) -> io::Result<Bench> {
-    say::title(rt, 
+    say::title(
+        rt,
         b"4. The next line, with the full list of units by name; it breaks during the replay again",
     )?;
     let asked = bench::logs_in(rt, bench::at(b, 9, 32), true, book)?;
@@ -168,7 +183,10 @@ pub fn second_replay(rt: &impl Print, b: Bench, book: &mut Room, log: &Room) -> 
 
 // The third replay, up to the message in whose middle the power fails.
 pub fn third_replay(rt: &impl Print, b: Bench, book: &mut Room, log: &Room) -> io::Result<Bench> {
-    say::title(rt, b"5. Another line; the power fails in the middle of a message")?;
+    say::title(
+        rt,
+        b"5. Another line; the power fails in the middle of a message",
+    )?;
     let asked = bench::logs_in(rt, bench::at(b, 9, 33), false, book)?;
     let one = bench::delivers(rt, asked, log, book)?;
     bench::delivers(rt, one, log, book)
@@ -178,7 +196,10 @@ pub fn third_replay(rt: &impl Print, b: Bench, book: &mut Room, log: &Room) -> i
 pub fn restart_after_cut(rt: &impl Print, b: Bench, book: &Room) -> io::Result<Bench> {
     let n = std::num::wrapping_sub_u32(bench::length_of(b), MISSING);
     let down = outage::power_fails(rt, bench::later(b, 1), n)?;
-    say::title(rt, b"6. The restart: last night's book, by mistake, and then the day's own")?;
+    say::title(
+        rt,
+        b"6. The restart: last night's book, by mistake, and then the day's own",
+    )?;
     let refused = from_last_night(rt, bench::at(down, 9, 35))?;
     let again = bench::later(refused, 30000);
     say::gateway(rt, again.clock)?;
@@ -196,7 +217,10 @@ fn from_last_night(rt: &impl Print, b: Bench) -> io::Result<Bench> {
     say::further(rt)?;
     writing::text(rt, b"(its table: ")?;
     say::table(rt, old.table)?;
-    say::note(rt, b"; a login with it would have claimed messages of today that we never saw)")?;
+    say::note(
+        rt,
+        b"; a login with it would have claimed messages of today that we never saw)",
+    )?;
     Ok(refused)
 }
 
@@ -219,7 +243,12 @@ fn with_old(b: Book, number: u32, buffer: &mut Room) -> Book {
 }
 
 // The replay that completes; one message is logged before its login, and one after.
-pub fn full_replay(rt: &impl Print, b: Bench, book: &mut Room, log: &mut Room) -> io::Result<Bench> {
+pub fn full_replay(
+    rt: &impl Print,
+    b: Bench,
+    book: &mut Room,
+    log: &mut Room,
+) -> io::Result<Bench> {
     say::title(rt, b"7. A new line after the restart; the replay completes")?;
     let logged = executes(rt, bench::at(b, 9, 36), 3, b"GHI789", 500, GHI, 0, log)?;
     let ready = bench::later(logged, 10);
@@ -235,7 +264,8 @@ pub fn full_replay(rt: &impl Print, b: Bench, book: &mut Room, log: &mut Room) -
 // Live: what was logged meanwhile, orders whose numbers go on from the last that the venue received, a price that is changed, and a cancel that is
 // rejected.
 pub fn live(rt: &impl Print, b: Bench, book: &mut Room, log: &mut Room) -> io::Result<Bench> {
-    say::title(rt, 
+    say::title(
+        rt,
         b"8. Live: what was logged after the login follows, our orders go on, a price is changed, and a cancel is rejected",
     )?;
     let caught_up = bench::delivers(rt, b, log, book)?;
@@ -261,7 +291,10 @@ fn reprices(rt: &impl Print, b: Bench) -> io::Result<Bench> {
 
 // Messages out of order: a gap, and a repeat.
 pub fn out_of_order(rt: &impl Print, b: Bench, book: &mut Room) -> io::Result<Bench> {
-    say::title(rt, b"9. Messages out of order are refused, and nothing changes")?;
+    say::title(
+        rt,
+        b"9. Messages out of order are refused, and nothing changes",
+    )?;
     let mut bytes = [0u8; 200];
     written::execution(1, 6, b"JKL012", 100, JKL, 200, &mut bytes);
     let gap = bench::receives(rt, bench::later(b, 100), &bytes, book)?;
@@ -278,7 +311,10 @@ pub fn heartbeats(rt: &impl Print, b: Bench, book: &mut Room) -> io::Result<Benc
     written::server_heartbeat(&mut bytes);
     let heard = bench::receives(rt, bench::later(beaten, 200), &bytes, book)?;
     say::further(rt)?;
-    say::note(rt, b"(our own heartbeats of the next five seconds are left out)")?;
+    say::note(
+        rt,
+        b"(our own heartbeats of the next five seconds are left out)",
+    )?;
     let nearly = bench::later(heard, 4999);
     orders_out::listens(rt, nearly)?;
     let silent = bench::later(nearly, 1);
@@ -288,7 +324,10 @@ pub fn heartbeats(rt: &impl Print, b: Bench, book: &mut Room) -> io::Result<Benc
 
 // The last session: nothing is missing, the venue logs us out at the day's end, and the desk asks for the last message of each unit.
 pub fn end_of_day(rt: &impl Print, b: Bench, book: &mut Room, log: &Room) -> io::Result<Bench> {
-    say::title(rt, b"11. The last line: nothing to replay, and a Logout at the end of the day")?;
+    say::title(
+        rt,
+        b"11. The last line: nothing to replay, and a Logout at the end of the day",
+    )?;
     let before = bench::later(bench::at(b, 15, 59), 59000);
     let asked = bench::logs_in(rt, before, false, book)?;
     let complete = bench::delivers(rt, asked, log, book)?;
@@ -303,7 +342,10 @@ pub fn end_of_day(rt: &impl Print, b: Bench, book: &mut Room, log: &Room) -> io:
 // The options desk: a gateway of its own, with a book and a venue of its own. An order of the other market and one whose maturity is no day stay; after a
 // break the session serves its market still.
 pub fn options_desk(rt: &impl Print) -> io::Result<()> {
-    say::title(rt, b"12. The options desk, the same morning: a gateway that serves the other market")?;
+    say::title(
+        rt,
+        b"12. The options desk, the same morning: a gateway that serves the other market",
+    )?;
     let mut book = [0u8; 4096];
     let log = [0u8; 4096];
     let opened = begins(rt, Market::Options, &mut book)?;
@@ -319,16 +361,19 @@ pub fn options_desk(rt: &impl Print) -> io::Result<()> {
     let again = bench::logs_in(rt, bench::at(broken, 9, 31), false, &mut book)?;
     let back = bench::delivers(rt, again, &log, &mut book)?;
     let put = written::option(b"OPT003", written::SELL, b'0', MATURITY, PREMIUM, STRIKE);
-    orders_out::sends(rt, bench::later(back, 100), put)
+    orders_out::sends(rt, bench::later(back, 100), put)?;
+    Ok(())
 }
 
 // The book's listing.
 pub fn listing(rt: &impl Print, b: Bench, book: &Room) -> io::Result<()> {
     say::title(rt, b"13. The day book, listed")?;
-    say::note(rt, 
+    say::note(
+        rt,
         b"(mark: date, messages before it, bytes back to the mark before; message: type, unit, number, ClOrdID, Price;",
     )?;
-    say::note(rt, 
+    say::note(
+        rt,
         b"25 is an acknowledgment, 2C an execution; end: the book's good length, torn bytes)",
     )?;
     outage::lists(rt, b, book)

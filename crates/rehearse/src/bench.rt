@@ -3,9 +3,9 @@ use crate::{forms, replays, say, told, written};
 use asking::writing;
 use orders::Market;
 use session::{Session, Told};
+use std::io;
 use table::Table;
 use venue::Venue;
-use std::io;
 
 // The room of a book or a log.
 pub type Room = [u8; 4096];
@@ -221,7 +221,8 @@ fn refuses(rt: &impl Print, b: Bench, bytes: &[u8], refusal: u32) -> io::Result<
     say::refusal(rt, refusal)?;
     writing::line_end(rt)?;
     say::further(rt)?;
-    say::count(rt, 
+    say::count(
+        rt,
         b"book still ",
         length_of(b) as u64,
         b" bytes, table still: ",
@@ -244,7 +245,10 @@ fn heard_of(rt: &impl Print, b: Bench, bytes: &[u8], book: &Room) -> io::Result<
     match wire::header::type_of(bytes) {
         0x24 => begins(rt, b),
         0x13 => replays::completes(rt, b),
-        0x09 => say::note(rt, b"hears a Server Heartbeat; book and table stay as they are"),
+        0x09 => say::note(
+            rt,
+            b"hears a Server Heartbeat; book and table stay as they are",
+        ),
         _ => logs_out(rt, b, bytes, book),
     }
 }
@@ -294,7 +298,8 @@ fn ends(rt: &impl Print, b: Bench, book: &Room) -> io::Result<()> {
         say::note(rt, b", no room for a mark in the book")?;
         return Ok(());
     }
-    say::count(rt, 
+    say::count(
+        rt,
         b", mark in the book: ",
         kept.count as u64,
         b" messages so far, ",

@@ -3,8 +3,8 @@ use crate::bench::{Bench, Room};
 use crate::{say, written};
 use asking::writing;
 use session_logins::Choice;
-use venue::Venue;
 use std::io;
+use venue::Venue;
 
 // Two venues, the messages that the first has sent, and whether the other has sent the same bytes.
 #[derive(Clone, Copy)]
@@ -55,7 +55,7 @@ fn steps(p: Pair, log: &Room) -> Pair {
     let other = p.other;
     let x = one.step(log, &mut down);
     let y = other.step(log, &mut beside);
-    let alike = check::same(&down, &beside);
+    let alike = down == beside;
     let one_after = x.venue;
     let other_after = y.venue;
     Pair {
@@ -93,18 +93,21 @@ pub fn compares(rt: &impl Print, b: Bench, log: &Room) -> io::Result<()> {
     };
     let p = all_steps(started, log);
     say::gateway(rt, b.clock)?;
-    say::count(rt, 
+    say::count(
+        rt,
         b"compares both forms of its login: ",
         length_in(&short),
         b"",
     )?;
-    say::count(rt, 
+    say::count(
+        rt,
         b" bytes with its units above 0, ",
         length_in(&full),
         b" with all 32; ",
     )?;
     if p.same {
-        say::count(rt, 
+        say::count(
+            rt,
             b"after either the venue would send the same ",
             p.sent as u64,
             b" messages, byte for byte",

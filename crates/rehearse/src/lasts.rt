@@ -2,8 +2,8 @@
 use crate::bench::{Bench, Room};
 use crate::{bench, say, told};
 use asking::writing;
-use table::Unit;
 use std::io;
+use table::Unit;
 
 // The desk asks for the last message of each unit of the day, and of one that sent nothing.
 pub fn tells_all(rt: &impl Print, b: Bench, book: &Room) -> io::Result<()> {

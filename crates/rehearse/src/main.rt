@@ -1,5 +1,6 @@
 // A rehearsal of one trading day: our gateway's session against the bench venue, told row by row. Every answer is one of the proved core.
 #![tactic(auto)]
+
 mod acts;
 mod bench;
 mod forms;
@@ -16,16 +17,20 @@ use std::io;
 
 // What the rows mean.
 fn preface(rt: &impl Print) -> io::Result<()> {
-    say::note(rt, 
+    say::note(
+        rt,
         b"One trading day, rehearsed: our order gateway against the bench venue. Each step is a call of the proved core.",
     )?;
-    say::note(rt, 
+    say::note(
+        rt,
         b"A row says when, who, and what. The venue numbers its messages unit by unit: 'unit 1 at 3' says that message 3 is the",
     )?;
-    say::note(rt, 
+    say::note(
+        rt,
         b"last one held of unit 1, and units at 0 are left out. The day book holds the venue's messages, and a mark from its",
     )?;
-    say::note(rt, 
+    say::note(
+        rt,
         b"opening and from each session's end. A refusal comes with its number and what it means.",
     )
 }
@@ -53,10 +58,10 @@ fn rest_of_day(rt: &impl Print, b: Bench, book: &mut Room, log: &mut Room) -> io
 }
 
 // The book's and the log's bytes, and the day.
-fn main(rt: &impl Print) -> io::Result<()> {
+fn main(rt: HostRuntime) -> io::Result<()> {
     let mut book = [0u8; 4096];
     let mut log = [0u8; 4096];
-    preface(rt)?;
-    let b = morning(rt, &mut book, &mut log)?;
-    rest_of_day(rt, b, &mut book, &mut log)
+    preface(&rt)?;
+    let b = morning(&rt, &mut book, &mut log)?;
+    rest_of_day(&rt, b, &mut book, &mut log)
 }

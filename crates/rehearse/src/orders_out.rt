@@ -50,7 +50,8 @@ fn arrives(rt: &impl Print, b: Bench, up: &[u8]) -> io::Result<Bench> {
         say::refusal(rt, answer.refusal)?;
         writing::line_end(rt)?;
     } else {
-        say::count(rt, 
+        say::count(
+            rt,
             b"takes it; last order received ",
             after.received.0 as u64,
             b"\n",

@@ -9,12 +9,18 @@ use std::io;
 pub fn power_fails(rt: &impl Print, b: Bench, n: u32) -> io::Result<Bench> {
     let v = b.venue;
     say::gateway(rt, b.clock)?;
-    say::count(rt, 
+    say::count(
+        rt,
         b"loses power while it writes that message: ",
         n as u64,
         b" of the book's ",
     )?;
-    say::count(rt, b"", bench::length_of(b) as u64, b" bytes are on the disk\n")?;
+    say::count(
+        rt,
+        b"",
+        bench::length_of(b) as u64,
+        b" bytes are on the disk\n",
+    )?;
     say::venue(rt, b.clock)?;
     say::note(rt, b"sees the line break")?;
     let gone = session::closed_with(bench::market_of(b), book::blank_book());
@@ -33,7 +39,8 @@ pub fn restarts(rt: &impl Print, b: Bench, date: u32, book: &Room, n: u32) -> io
     let kept = answer.book;
     say::note(rt, b"accepted")?;
     say::further(rt)?;
-    say::count(rt, 
+    say::count(
+        rt,
         b"kept ",
         kept.count as u64,
         b" whole messages, good length ",
@@ -53,7 +60,7 @@ fn put(rt: &impl Print, l: Line) -> io::Result<()> {
     if n <= 96 {
         writing::text(rt, &bytes[0..n])?;
     }
-Ok(())
+    Ok(())
 }
 
 // The listing of our book.
@@ -76,5 +83,5 @@ pub fn lists(rt: &impl Print, b: Bench, book: &Room) -> io::Result<()> {
         }
         place += taken;
     }
-Ok(())
+    Ok(())
 }

@@ -2,8 +2,8 @@
 use crate::bench::Bench;
 use crate::{bench, say};
 use asking::writing;
-use table::{Table, Unit};
 use std::io;
+use table::{Table, Unit};
 
 // Replay Complete has arrived.
 pub fn completes(rt: &impl Print, b: Bench) -> io::Result<()> {
@@ -15,7 +15,10 @@ pub fn completes(rt: &impl Print, b: Bench) -> io::Result<()> {
     let same = compares(rt, b.held, bench::table_of(b))?;
     say::further(rt)?;
     if same == 32 {
-        say::note(rt, b"the 32 units agree: the book holds all that the log held at the login")
+        say::note(
+            rt,
+            b"the 32 units agree: the book holds all that the log held at the login",
+        )
     } else {
         say::note(rt, b"THE BOOK DOES NOT HOLD WHAT THE LOG HELD AT THE LOGIN")
     }
@@ -46,7 +49,8 @@ fn compared(rt: &impl Print, unit: u8, theirs: u32, our: u32) -> io::Result<()> 
     }
     say::further(rt)?;
     say::count(rt, b"unit ", unit as u64, b": the log held ")?;
-    say::count(rt, 
+    say::count(
+        rt,
         b"",
         theirs as u64,
         b" messages at the login, the book holds ",

@@ -4,8 +4,8 @@ ghost use Rattle.std.specs.Prelude.{◌≤◌, length};
 use asking::writing;
 use orders::Market;
 use session::Phase;
-use table::{Table, Unit};
 use std::io;
+use table::{Table, Unit};
 
 // A title, with an empty line before it.
 pub fn title(rt: &impl Print, words: &[u8]) -> io::Result<()> {
@@ -122,7 +122,7 @@ pub fn table(rt: &impl Print, t: Table) -> io::Result<()> {
     if !named {
         writing::text(rt, b"all units at 0")?;
     }
-Ok(())
+    Ok(())
 }
 
 // A phase of our session.

@@ -1,5 +1,6 @@
 // Answers the scripts on standard input, one line each, in the format that second/README.md gives: the questions that keep a state.
 #![tactic(auto)]
+
 mod answers;
 mod asked;
 mod members;
@@ -9,6 +10,7 @@ mod venues;
 use answers::Bench;
 use asking::writing;
 use std::io;
+use std::io::Read;
 
 // The most characters of a line.
 const LONGEST: usize = 8000;
@@ -83,7 +85,7 @@ fn feed(
 
 // One read of standard input. The length is the largest number where the input is over.
 fn turn(
-    rt: &impl Print,
+    rt: &(impl Print + Input),
     line: &mut [u8],
     from: Reading,
     bytes: &mut [u8],
@@ -91,37 +93,43 @@ fn turn(
     log: &mut [u8],
 ) -> io::Result<Reading> {
     let mut piece = [0u8; 4096];
-    let got = libc::read(0, &mut piece);
-    if got <= 0 {
+    let n = rt.reader().read(&mut piece)?;
+    if n == 0 {
         let bench = from.bench;
         return Ok(Reading {
             len: usize::MAX,
             bench: bench,
         });
     }
-    let n = io::count(got, &piece);
     feed(rt, &piece[0..n], line, from, bytes, book, log)
 }
 
-// Reads to the end of the input. A proved loop has to end, so it counts its turns down from a number that no run uses up.
-fn run(rt: &impl Print, line: &mut [u8], bytes: &mut [u8], book: &mut [u8], log: &mut [u8]) -> io::Result<()> {
-    let mut turns = u64::MAX;
+// Reads to the end of the input. A proved loop has to end, so it has as many turns as no run uses up.
+fn run(
+    rt: &(impl Print + Input),
+    line: &mut [u8],
+    bytes: &mut [u8],
+    book: &mut [u8],
+    log: &mut [u8],
+) -> io::Result<()> {
     let mut reading = Reading {
         len: 0,
         bench: answers::new_bench(),
     };
-    while turns > 0 && reading.len < usize::MAX {
+    for _ in 0..u64::MAX {
+        if reading.len == usize::MAX {
+            break;
+        }
         reading = turn(rt, line, reading, bytes, book, log)?;
-        turns -= 1;
     }
-Ok(())
+    Ok(())
 }
 
 // Room for a line, for a question's bytes, for the book and for the log, and the questions answered.
-fn main(rt: &impl Print) -> io::Result<()> {
+fn main(rt: HostRuntime) -> io::Result<()> {
     let mut line = [0u8; 8001];
     let mut bytes = [0u8; 4096];
     let mut book = [0xFFu8; 16384];
     let mut log = [0xFFu8; 16384];
-    run(rt, &mut line, &mut bytes, &mut book, &mut log)
+    run(&rt, &mut line, &mut bytes, &mut book, &mut log)
 }

@@ -5,8 +5,8 @@ use book::Book;
 use orders::Market;
 use session::{Phase, Session};
 use session_logins::{Bitfields, Choice};
-use table::{OutgoingNumber, Unit};
 use std::io;
+use table::{OutgoingNumber, Unit};
 
 // Whether a line was a question, and the session after it.
 #[derive(Clone, Copy)]
@@ -16,7 +16,14 @@ pub struct Told {
 }
 
 // Answers a line by its call.
-pub fn answered(rt: &impl Print, call: u8, line: &[u8], s: Session, bytes: &mut [u8], book: &mut [u8]) -> io::Result<Told> {
+pub fn answered(
+    rt: &impl Print,
+    call: u8,
+    line: &[u8],
+    s: Session,
+    bytes: &mut [u8],
+    book: &mut [u8],
+) -> io::Result<Told> {
     match call {
         2 | 7 | 8 => get(rt, call, line, s, bytes, book),
         3 => order(rt, line, s, bytes),
@@ -141,18 +148,21 @@ fn state(rt: &impl Print, line: &[u8], s: Session) -> io::Result<Told> {
         let p = phase_of(phase.value);
         let market = served.market;
         let table = given.table;
-        return say(rt, Session {
-            phase: p,
-            outgoing: OutgoingNumber(outgoing.value as u32),
-            market: market,
-            book: Book {
-                table: table,
-                date: four.first,
-                length: four.second,
-                last: four.third,
-                count: four.fourth,
+        return say(
+            rt,
+            Session {
+                phase: p,
+                outgoing: OutgoingNumber(outgoing.value as u32),
+                market: market,
+                book: Book {
+                    table: table,
+                    date: four.first,
+                    length: four.second,
+                    last: four.third,
+                    count: four.fourth,
+                },
             },
-        });
+        );
     }
     Ok(unknown(s))
 }
@@ -192,7 +202,14 @@ fn logged_in(
 
 // `m-get BYTES ROOM`: the refusal, what became of the message, and the member. `m-message BYTES ROOM`, `m-response BYTES ROOM`: the refusal and the
 // member.
-fn get(rt: &impl Print, call: u8, line: &[u8], s: Session, bytes: &mut [u8], book: &mut [u8]) -> io::Result<Told> {
+fn get(
+    rt: &impl Print,
+    call: u8,
+    line: &[u8],
+    s: Session,
+    bytes: &mut [u8],
+    book: &mut [u8],
+) -> io::Result<Told> {
     let run = words::read_bytes(words::word(line, 1), bytes);
     let room = words::read_number(words::word(line, 2), book.len() as u64);
     if run.ok && room.ok {

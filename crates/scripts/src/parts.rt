@@ -3,9 +3,9 @@ ghost use Rattle.std.specs.Prelude.{◌≤◌, ◌<◌};
 
 use asking::{words, writing};
 use orders::Market;
+use std::io;
 use table::{Entry, Place, Table, Unit, UnitNumber};
 use venue::Thresholds;
-use std::io;
 
 // Four numbers of a state.
 #[derive(Clone, Copy)]

@@ -1,9 +1,9 @@
 // The questions to the venue: its state, and the buffer of its log.
 use crate::parts;
 use asking::{words, writing};
+use std::io;
 use table::OutgoingNumber;
 use venue::Venue;
-use std::io;
 
 // Whether a line was a question, and the venue after it.
 #[derive(Clone, Copy)]
@@ -13,7 +13,14 @@ pub struct Told {
 }
 
 // Answers a line by its call.
-pub fn answered(rt: &impl Print, call: u8, line: &[u8], v: Venue, bytes: &mut [u8], log: &mut [u8]) -> io::Result<Told> {
+pub fn answered(
+    rt: &impl Print,
+    call: u8,
+    line: &[u8],
+    v: Venue,
+    bytes: &mut [u8],
+    log: &mut [u8],
+) -> io::Result<Told> {
     match call {
         14 => step(rt, line, v, log),
         15 => logged(rt, line, v, bytes, log),
@@ -72,22 +79,31 @@ fn state(rt: &impl Print, line: &[u8], v: Venue) -> io::Result<Told> {
     if running.ok && had.ok && four.ok && wanted.ok && given.ok {
         let thresholds = wanted.thresholds;
         let table = given.table;
-        return say(rt, Venue {
-            running: running.value == 1,
-            told: had.value == 1,
-            at: four.first,
-            upto: four.second,
-            length: four.third,
-            received: OutgoingNumber(four.fourth),
-            thresholds: thresholds,
-            table: table,
-        });
+        return say(
+            rt,
+            Venue {
+                running: running.value == 1,
+                told: had.value == 1,
+                at: four.first,
+                upto: four.second,
+                length: four.third,
+                received: OutgoingNumber(four.fourth),
+                thresholds: thresholds,
+                table: table,
+            },
+        );
     }
     Ok(unknown(v))
 }
 
 // `v-log BYTES ROOM`: the refusal and the venue.
-fn logged(rt: &impl Print, line: &[u8], v: Venue, bytes: &mut [u8], log: &mut [u8]) -> io::Result<Told> {
+fn logged(
+    rt: &impl Print,
+    line: &[u8],
+    v: Venue,
+    bytes: &mut [u8],
+    log: &mut [u8],
+) -> io::Result<Told> {
     let run = words::read_bytes(words::word(line, 1), bytes);
     let room = words::read_number(words::word(line, 2), log.len() as u64);
     if run.ok && room.ok {

@@ -8,22 +8,22 @@ use std::io;
 
 // Which call a word names, or 0.
 fn call_of(word: &[u8]) -> u8 {
-    if check::same(word, b"frame") {
+    if word == b"frame".as_slice() {
         return 1;
     }
-    if check::same(word, b"get") {
+    if word == b"get".as_slice() {
         return 2;
     }
-    if check::same(word, b"put") {
+    if word == b"put".as_slice() {
         return 3;
     }
-    if check::same(word, b"price") {
+    if word == b"price".as_slice() {
         return 4;
     }
-    if check::same(word, b"kind") {
+    if word == b"kind".as_slice() {
         return 5;
     }
-    if check::same(word, b"filled") {
+    if word == b"filled".as_slice() {
         return 6;
     }
     later_call_of(word)
@@ -31,19 +31,19 @@ fn call_of(word: &[u8]) -> u8 {
 
 // The same for the calls from `step` on.
 fn later_call_of(word: &[u8]) -> u8 {
-    if check::same(word, b"step") {
+    if word == b"step".as_slice() {
         return 7;
     }
-    if check::same(word, b"day") {
+    if word == b"day".as_slice() {
         return 8;
     }
-    if check::same(word, b"year") {
+    if word == b"year".as_slice() {
         return 9;
     }
-    if check::same(word, b"due") {
+    if word == b"due".as_slice() {
         return 10;
     }
-    if check::same(word, b"silent") {
+    if word == b"silent".as_slice() {
         return 11;
     }
     message_call_of(word)
@@ -51,16 +51,16 @@ fn later_call_of(word: &[u8]) -> u8 {
 
 // The same for the calls on messages.
 fn message_call_of(word: &[u8]) -> u8 {
-    if check::same(word, b"read") {
+    if word == b"read".as_slice() {
         return 12;
     }
-    if check::same(word, b"write") {
+    if word == b"write".as_slice() {
         return 13;
     }
-    if check::same(word, b"read-into") {
+    if word == b"read-into".as_slice() {
         return 19;
     }
-    if check::same(word, b"told") {
+    if word == b"told".as_slice() {
         return 20;
     }
     book_call_of(word)
@@ -68,19 +68,19 @@ fn message_call_of(word: &[u8]) -> u8 {
 
 // The same for the calls on the day book.
 fn book_call_of(word: &[u8]) -> u8 {
-    if check::same(word, b"open") {
+    if word == b"open".as_slice() {
         return 14;
     }
-    if check::same(word, b"restart") {
+    if word == b"restart".as_slice() {
         return 15;
     }
-    if check::same(word, b"append") {
+    if word == b"append".as_slice() {
         return 16;
     }
-    if check::same(word, b"close") {
+    if word == b"close".as_slice() {
         return 17;
     }
-    if check::same(word, b"list") {
+    if word == b"list".as_slice() {
         return 18;
     }
     last_call_of(word)
@@ -88,13 +88,13 @@ fn book_call_of(word: &[u8]) -> u8 {
 
 // The same for the questions for a unit's last message.
 fn last_call_of(word: &[u8]) -> u8 {
-    if check::same(word, b"last") {
+    if word == b"last".as_slice() {
         return 21;
     }
-    if check::same(word, b"last-state") {
+    if word == b"last-state".as_slice() {
         return 22;
     }
-    if check::same(word, b"last-line") {
+    if word == b"last-line".as_slice() {
         return 23;
     }
     0
@@ -162,7 +162,7 @@ fn framed(rt: &impl Print, s: &[u8]) -> io::Result<()> {
     if refusal == 0 {
         header(rt, wire::frame(s))?;
     }
-Ok(())
+    Ok(())
 }
 
 // A message's total, type, unit and number.
@@ -210,7 +210,13 @@ fn put(rt: &impl Print, line: &[u8], bytes: &mut [u8]) -> io::Result<bool> {
 }
 
 // The answer to `put` by its width.
-fn put_by(rt: &impl Print, width: u64, out: &mut [u8], at: usize, value: &[u8]) -> io::Result<bool> {
+fn put_by(
+    rt: &impl Print,
+    width: u64,
+    out: &mut [u8],
+    at: usize,
+    value: &[u8],
+) -> io::Result<bool> {
     match width {
         2 => put_16(rt, out, at, words::read_number(value, 65535)),
         4 => put_32(rt, out, at, words::read_number(value, 4294967295)),
@@ -382,7 +388,10 @@ fn due(rt: &impl Print, line: &[u8]) -> io::Result<bool> {
     let now = words::read_number(words::word(line, 1), 4294967295);
     let then = words::read_number(words::word(line, 2), 4294967295);
     if now.ok && then.ok {
-        writing::yes_or_no(rt, pulse::heartbeat_due(now.value as u32, then.value as u32))?;
+        writing::yes_or_no(
+            rt,
+            pulse::heartbeat_due(now.value as u32, then.value as u32),
+        )?;
         return Ok(true);
     }
     Ok(false)
@@ -433,14 +442,26 @@ fn lent(rt: &impl Print, line: &[u8], bytes: &mut [u8], reads: bool) -> io::Resu
     if direction.ok && order.ok && run.ok {
         let k = order.count;
         let n = run.count;
-        lent_by(rt, direction.value as u8, &given[0..k], &mut bytes[0..n], reads)?;
+        lent_by(
+            rt,
+            direction.value as u8,
+            &given[0..k],
+            &mut bytes[0..n],
+            reads,
+        )?;
         return Ok(true);
     }
     Ok(false)
 }
 
 // The answer to `read-into` of a message's bytes, and to `write` of a record's.
-fn lent_by(rt: &impl Print, direction: u8, given: &[u8], out: &mut [u8], reads: bool) -> io::Result<()> {
+fn lent_by(
+    rt: &impl Print,
+    direction: u8,
+    given: &[u8],
+    out: &mut [u8],
+    reads: bool,
+) -> io::Result<()> {
     if reads {
         let read = gateway::boe_read(direction, given, out);
         refused(rt, read, out)?;

@@ -6,8 +6,8 @@ use asking::{words, writing};
 use book::Book;
 use book_lines::Line;
 use book_listing::{Asked, Listing};
-use table::{Entry, Unit};
 use std::io;
+use table::{Entry, Unit};
 
 // Where a listing stands, and what is kept of the unit that is asked for.
 #[derive(Clone, Copy)]
@@ -57,7 +57,7 @@ fn restarted(rt: &impl Print, date: u32, s: &[u8]) -> io::Result<()> {
         table_of(rt, answer.book, false)?;
         table_of(rt, answer.book, true)?;
     }
-Ok(())
+    Ok(())
 }
 
 // A book's table, after a space: its numbers, or its places.
@@ -117,7 +117,13 @@ pub fn append(rt: &impl Print, line: &[u8], bytes: &mut [u8]) -> io::Result<bool
 }
 
 // The answer to `append` to the book in the first n bytes of a buffer.
-fn appended(rt: &impl Print, date: u32, n: usize, message: &[u8], buffer: &mut [u8]) -> io::Result<()>
+fn appended(
+    rt: &impl Print,
+    date: u32,
+    n: usize,
+    message: &[u8],
+    buffer: &mut [u8],
+) -> io::Result<()>
     requires { n ≤ length buffer.old }
 {
     let from = book_restart::restart(date, &buffer[0..n]);
@@ -130,7 +136,7 @@ fn appended(rt: &impl Print, date: u32, n: usize, message: &[u8], buffer: &mut [
         writing::text(rt, b" ")?;
         whole(rt, buffer)?;
     }
-Ok(())
+    Ok(())
 }
 
 // `close DATE BOOK ROOM`: restart's refusal, or 0, the length and the buffer after the call.
@@ -163,7 +169,7 @@ fn closed(rt: &impl Print, date: u32, n: usize, buffer: &mut [u8]) -> io::Result
         writing::text(rt, b" ")?;
         whole(rt, buffer)?;
     }
-Ok(())
+    Ok(())
 }
 
 // `list BYTES`: the lines of the book's listing, with | between them.
@@ -251,7 +257,7 @@ fn last_of(rt: &impl Print, date: u32, unit: Unit, s: &[u8]) -> io::Result<()> {
         writing::text(rt, b" ")?;
         writing::hex(rt, message)?;
     }
-Ok(())
+    Ok(())
 }
 
 // An entry's place; 0 where the question is refused.

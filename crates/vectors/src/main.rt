@@ -1,10 +1,12 @@
 // Answers the questions on standard input, one line each, in the format that second/README.md gives.
 #![tactic(auto)]
+
 mod answers;
 mod books;
 
 use asking::writing;
 use std::io;
+use std::io::Read;
 
 // The most characters of a line.
 const LONGEST: usize = 8000;
@@ -32,7 +34,13 @@ fn longer(line: &mut [u8], len: usize, b: u8) -> usize {
 }
 
 // The characters of a piece of input: each line end has the line before it answered. Answers the length of the line begun.
-fn feed(rt: &impl Print, piece: &[u8], line: &mut [u8], len: usize, bytes: &mut [u8]) -> io::Result<usize> {
+fn feed(
+    rt: &impl Print,
+    piece: &[u8],
+    line: &mut [u8],
+    len: usize,
+    bytes: &mut [u8],
+) -> io::Result<usize> {
     let mut n = len;
     let mut i: usize = 0;
     while i < piece.len() {
@@ -52,30 +60,35 @@ fn fed(rt: &impl Print, b: u8, line: &mut [u8], len: usize, bytes: &mut [u8]) ->
 }
 
 // One read of standard input. Answers the length of the line begun, or the largest number where the input is over.
-fn turn(rt: &impl Print, line: &mut [u8], len: usize, bytes: &mut [u8]) -> io::Result<usize> {
+fn turn(
+    rt: &(impl Print + Input),
+    line: &mut [u8],
+    len: usize,
+    bytes: &mut [u8],
+) -> io::Result<usize> {
     let mut piece = [0u8; 4096];
-    let got = libc::read(0, &mut piece);
-    if got <= 0 {
+    let n = rt.reader().read(&mut piece)?;
+    if n == 0 {
         return Ok(usize::MAX);
     }
-    let n = io::count(got, &piece);
     feed(rt, &piece[0..n], line, len, bytes)
 }
 
-// Reads to the end of the input. A proved loop has to end, so it counts its turns down from a number that no run uses up.
-fn run(rt: &impl Print, line: &mut [u8], bytes: &mut [u8]) -> io::Result<()> {
-    let mut turns = u64::MAX;
+// Reads to the end of the input. A proved loop has to end, so it has as many turns as no run uses up.
+fn run(rt: &(impl Print + Input), line: &mut [u8], bytes: &mut [u8]) -> io::Result<()> {
     let mut len: usize = 0;
-    while turns > 0 && len < usize::MAX {
+    for _ in 0..u64::MAX {
+        if len == usize::MAX {
+            break;
+        }
         len = turn(rt, line, len, bytes)?;
-        turns -= 1;
     }
-Ok(())
+    Ok(())
 }
 
 // Room for a line and for a question's bytes, and the questions answered.
-fn main(rt: &impl Print) -> io::Result<()> {
+fn main(rt: HostRuntime) -> io::Result<()> {
     let mut line = [0u8; 8001];
     let mut bytes = [0u8; 4096];
-    run(rt, &mut line, &mut bytes)
+    run(&rt, &mut line, &mut bytes)
 }
