@@ -24,7 +24,7 @@ pub told-requires : goal.told-requires
 told-requires c =
     let at = c in
     let start = at in
-    (omega arith, omega (arith, at.count_at-at.ensures, (count_bounds start.args.message).high, start.pre.2))
+    (omega arith, omega (arith, at.count_at-at.ensures, (count_bounds start.args.message).high, start.requires.2))
 
 pub returns-then-t-ne0 : goal.returns-then-t-ne0
 unfolding judged_of
@@ -69,7 +69,7 @@ value_refusal-requires c =
     let start = else in
     let a = start.args in
     let e = fixed.fixed_wrong.ensures ∙ ap (fixed_wrong a.message) (tail_is a.m.now 10 (long (goal.at.value_refusal-requires c).Start)) in
-    (omega (arith, e, fixed-within a.message (drop 10 a.m.now), (count_bounds a.message).high), start.pre.4, start.pre.5 else.if-size-t.false)
+    (omega (arith, e, fixed-within a.message (drop 10 a.m.now), (count_bounds a.message).high), start.requires.4, start.requires.5 else.if-size-t.false)
 
 pub returns : goal.returns
 unfolding judged_of

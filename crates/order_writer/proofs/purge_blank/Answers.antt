@@ -21,7 +21,7 @@ fits : (c : After-middle_size-from) → 1 + c.middle_size-from.result ≤ length
 fits c =
     let start = c in
     let a = start.args in
-    omega (arith, size c, middle-fits 0x47 a.count a.bits.now (drop 1 a.fixed.now) start.pre.1, in_purge_orders 0x47 refl, start.pre.0)
+    omega (arith, (let a = c.args in c.middle_size-from.ensures.0 ∙ ap (middle_size 0x47 a.count a.bits.now) (tail_is a.fixed.now 1 (omega (arith, c.requires.0)))), middle-fits 0x47 a.count a.bits.now (drop 1 a.fixed.now) start.requires.1, in_purge_orders 0x47 refl, start.requires.0)
 
 pub slice_bounds-is_blank-count : goal.slice_bounds-is_blank-count
 slice_bounds-is_blank-count c = fits (goal.at.slice_bounds-is_blank-count c).After-middle_size-from

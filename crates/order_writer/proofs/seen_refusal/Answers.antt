@@ -20,16 +20,13 @@ use Rattle.order_writer.proofs.seen_refusal.Goals as goal
 near : (k : After-struct_known-1) → k.count_at-at.result ≤ fixed_end
 near k = omega (arith, k.count_at-at.ensures, (count_bounds k.args.message).high)
 
-abbrev value_of : Start → ℕ
-value_of c = let a = c.args in value_refusal a.message a.count a.fixed.now a.bits.now (drop (count_at a.message - 10) a.fixed.now) a.s.wrong
-
-value : (c : After-value_refusal-value) → c.value_refusal-value.result ≡ value_of c
+value : (c : After-value_refusal-value) → c.value_refusal-value.result ≡ (let a = c.args in value_refusal a.message a.count a.fixed.now a.bits.now (drop (count_at a.message - 10) a.fixed.now) a.s.wrong)
 value c =
     let k = c in
     let start = k in
     let a = start.args in
     c.value_refusal-value.ensures
-    ∙ ap (λ (l : List ℕ). value_refusal a.message a.count a.fixed.now a.bits.now l a.s.wrong) (held_is_lem a.message a.fixed.now start.pre.0 k.count_at-at.ensures)
+    ∙ ap (λ (l : List ℕ). value_refusal a.message a.count a.fixed.now a.bits.now l a.s.wrong) (held_is_lem a.message a.fixed.now start.requires.0 k.count_at-at.ensures)
 
 pub overflow_add-at : goal.overflow_add-at
 overflow_add-at c =
@@ -71,19 +68,19 @@ pub overflow_sub-n : goal.overflow_sub-n
 overflow_sub-n c =
     let k = c in
     let start = k in
-    held_low start.args.message start.args.fixed.now start.pre.0 k.count_at-at.ensures
+    held_low start.args.message start.args.fixed.now start.requires.0 k.count_at-at.ensures
 
 pub slice_bounds-value_refusal-count : goal.slice_bounds-value_refusal-count
 slice_bounds-value_refusal-count c =
     let k = c in
     let start = k in
-    held-there start.args.message start.args.fixed.now start.pre.0 k.count_at-at.ensures
+    held-there start.args.message start.args.fixed.now start.requires.0 k.count_at-at.ensures
 
 pub slice_bounds-value_refusal-start : goal.slice_bounds-value_refusal-start
 slice_bounds-value_refusal-start c =
     let k = c in
     let start = k in
-    omega (arith, held-there start.args.message start.args.fixed.now start.pre.0 k.count_at-at.ensures)
+    omega (arith, held-there start.args.message start.args.fixed.now start.requires.0 k.count_at-at.ensures)
 
 pub returns-then-value-ne0 : goal.returns-then-value-ne0
 unfolding seen_refusal
@@ -97,7 +94,7 @@ pub end_refusal-requires : goal.end_refusal-requires
 end_refusal-requires c =
     let start = c in
     let a = start.args in
-    let p = start.pre in
+    let p = start.requires in
     (p.0, p.1, p.2, p.5, p.6, middle_good_lem a.message a.count a.fixed.now a.bits.now _ a.s.wrong (sym (value (goal.at.end_refusal-requires c).After-value_refusal-value) ∙ c.if-value-ne0.false))
 
 pub returns : goal.returns

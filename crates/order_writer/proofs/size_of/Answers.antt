@@ -16,17 +16,17 @@ near c = omega (arith, c.count_at-at.ensures, (count_bounds c.args.message).high
 pub overflow_sub-n : goal.overflow_sub-n
 overflow_sub-n c =
     let start = c in
-    held_low start.args.message start.args.fixed.now start.pre.0 c.count_at-at.ensures
+    held_low start.args.message start.args.fixed.now start.requires.0 c.count_at-at.ensures
 
 pub slice_bounds-middle_size-count : goal.slice_bounds-middle_size-count
 slice_bounds-middle_size-count c =
     let start = c in
-    held-there start.args.message start.args.fixed.now start.pre.0 c.count_at-at.ensures
+    held-there start.args.message start.args.fixed.now start.requires.0 c.count_at-at.ensures
 
 pub slice_bounds-middle_size-start : goal.slice_bounds-middle_size-start
 slice_bounds-middle_size-start c =
     let start = c in
-    omega (arith, held-there start.args.message start.args.fixed.now start.pre.0 c.count_at-at.ensures)
+    omega (arith, held-there start.args.message start.args.fixed.now start.requires.0 c.count_at-at.ensures)
 
 pub overflow_add-result : goal.overflow_add-result
 overflow_add-result c = omega (arith, near (goal.at.overflow_add-result c).After-count_at-at)
@@ -37,12 +37,12 @@ overflow_add-result-2 c = omega (arith, near (goal.at.overflow_add-result-2 c).A
 pub overflow_add-result-4 : goal.overflow_add-result-4
 overflow_add-result-4 c =
     let start = c in
-    omega (arith, near (goal.at.overflow_add-result-4 c).After-count_at-at, start.fits.count, start.pre.1, c.middle_size-middle.ensures.1)
+    omega (arith, near (goal.at.overflow_add-result-4 c).After-count_at-at, start.ranges.count, start.requires.1, c.middle_size-middle.ensures.1)
 
 pub returns : goal.returns
 returns c =
     let at = c in
     let start = at in
     let a = start.args in
-    let e = c.middle_size-middle.ensures.0 ∙ ap (middle_size a.message a.count a.bits.now) (held_is_lem a.message a.fixed.now start.pre.0 at.count_at-at.ensures) in
+    let e = c.middle_size-middle.ensures.0 ∙ ap (middle_size a.message a.count a.bits.now) (held_is_lem a.message a.fixed.now start.requires.0 at.count_at-at.ensures) in
     ap₂ (λ (n k : ℕ). n + 1 + a.count + (k + a.total)) at.count_at-at.ensures e

@@ -16,7 +16,7 @@ use Rattle.order_writer.proofs.value_refusal.Goals as goal
 near : (c : After-count_at) → (c.count_at.result ≤ fixed_end) × (c.args.count ≤ 255)
 near c =
     let start = c in
-    (omega (arith, c.count_at.ensures, (count_bounds start.args.message).high), omega (arith, start.fits.count))
+    (omega (arith, c.count_at.ensures, (count_bounds start.args.message).high), omega (arith, start.ranges.count))
 
 pub fixed_wrong-fixed_at-requires : goal.fixed_wrong-fixed_at-requires
 fixed_wrong-fixed_at-requires c =

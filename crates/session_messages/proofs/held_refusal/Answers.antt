@@ -27,7 +27,7 @@ inside c =
     let two = c in
     let a = two.args in
     let e = c.body_end-end.ensures in
-    let w = held_of a.message a.b.now (long c.before.before.before.before) (λ q. c.if-end-eq0.false (e ∙ q)) in
+    let w = held_of a.message a.b.now (omega (arith, two.fixed_size.ensures, two.if-b-fixed_size.false)) (λ q. c.if-end-eq0.false (e ∙ q)) in
     omega (arith, e, w.inside)
 
 pub returns-then-b-fixed_size : goal.returns-then-b-fixed_size

@@ -43,4 +43,4 @@ returns-in-36 c =
     ⊎_elim (λ (e : m ≡ 0x13). rw e) (λ (e : m ≡ 0x24). rw e) c.in-36.is
 
 pub returns-in-36-2 : goal.returns-in-36-2
-returns-in-36-2 c = ?
+returns-in-36-2 c = between c.args.message (omega arith) (omega arith)

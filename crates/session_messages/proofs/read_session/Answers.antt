@@ -15,7 +15,7 @@ accepts : (c : Else-refusal-ne0) → read_refusal c.args.m.now ≡ 0
 accepts c = sym c.read_refusal-refusal.ensures ∙ c.if-refusal-ne0.false
 
 ten : (c : Else-refusal-ne0) → 10 ≤ length c.args.m.now
-ten c = omega (arith, (good c.args.m.now (accepts c)).there)
+ten c = omega (arith, (good c.args.m.now (sym c.read_refusal-refusal.ensures ∙ c.if-refusal-ne0.false)).there)
 
 pub returns-then-refusal-ne0 : goal.returns-then-refusal-ne0
 returns-then-refusal-ne0 c =

@@ -13,12 +13,11 @@ use Rattle.session_messages.proofs.write_body.Goals.{Else-held-ne0}
 use Rattle.session_messages.proofs.write_body.Goals as goal
 
 -- past the body's refusals
+-- the room decides
 holds : (c : Else-held-ne0) → Held c.args.message c.args.body.now
 holds c =
     let a = c.args in
     held a.message a.body.now (sym c.held_refusal-held.ensures ∙ c.if-held-ne0.false)
-
--- the room decides
 
 decided : (c : Else-held-ne0) → write_refusal c.args.message c.args.unit c.args.number c.args.body.now (length c.args.out.now) ≡ cond (ltb (length c.args.out.now) (10 + size_of c.args.message c.args.body.now)) no_room 0
 decided c =
