@@ -2,6 +2,7 @@
 // 64 times its message's, which is counted from 0 in the order of `order_value` and `session_value`, and its own among the fields of the message, in
 // their order. A RiskGroupID of Purge Orders has its own number, the id, beside the field's.
 #![tactic(auto)]
+
 mod acknowledgment;
 mod cancel_order;
 mod cancel_rejection;
