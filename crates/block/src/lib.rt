@@ -1,5 +1,6 @@
 // The optional block over any dictionary: its definitions and laws (specs/), and the moves of bytes that it needs.
 #![tactic(auto)]
+
 ghost use Rattle.std.specs.Prelude.{◌≡◌, ◌||◌, ◌+◌, ◌-◌, ◌≤◌, ◌<◌, ltb, length, take, get_or};
 ghost use Rattle.numbers.specs.Numbers.{patched};
 ghost use Rattle.block.specs.Places.{selected_at, new_order_has, modify_order_has, has_required};

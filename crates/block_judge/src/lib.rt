@@ -1,5 +1,6 @@
 // Judging the optional block where it stands: a walk over the set bits that asks of each field's bytes in the message.
 #![tactic(auto)]
+
 ghost use Rattle.std.specs.Prelude.{◌≡◌, true, ◌+◌, ◌-◌, ◌*◌, ◌%◌, ◌≤◌, ◌<◌, eqb, length};
 ghost use Rattle.dictionary.specs.Dictionary.{entry_of};
 ghost use Rattle.block.specs.Walk.{pick, in_byte, judge_field, judge_entry, judge_here};

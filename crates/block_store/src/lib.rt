@@ -1,5 +1,6 @@
 // Reading the optional block: a walk over the set bits that stores each field of a message in a record's full layout.
 #![tactic(auto)]
+
 ghost use Rattle.std.specs.Prelude.{◌≡◌, ◌+◌, ◌*◌, ◌-◌, ◌%◌, ◌≤◌, eqb, length, take};
 ghost use Rattle.numbers.specs.Numbers.{patched};
 ghost use Rattle.dictionary.specs.Dictionary.{entry_of};

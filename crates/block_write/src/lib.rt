@@ -1,5 +1,6 @@
 // Writing the optional block: a walk over the set bits that looks at a record's selected fields, and one that gives them to a message.
 #![tactic(auto)]
+
 pub mod give;
 
 ghost use Rattle.std.specs.Prelude.{◌≡◌, ◌+◌, ◌*◌, ◌-◌, ◌%◌, ◌≤◌, eqb, length};

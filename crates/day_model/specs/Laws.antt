@@ -44,12 +44,14 @@ pub record Prefix (a b : List Msg) : Type 0 where
   pub is : a ++ rest ≡ b
 
 above-first : (k : ℕ) (l : List Msg) (m : Msg) → NumberedFrom k l → Memᴰ m l → suc k ≤ m.num
+above-first k [] m h x'' = elim x'' [ ]
 above-first k (x ∷ l) m h (Memᴰ.head e) = let f : m.num ≡ x.num = ap (λ (y : Msg). y.num) e in omega arith
 above-first k (x ∷ l) m h (Memᴰ.tail d) = let f = above-first (suc k) l m h.1 d in omega arith
 
 -- the message with the next number is the next message
 pub next_is : (k : ℕ) (a r : List Msg) (m : Msg) → NumberedFrom k (a ++ r) → Memᴰ m (a ++ r) → m.num ≡ suc (k + length a)
     → Prefix (a ++ m ∷ []) (a ++ r)
+next_is k [] [] m h x6 q = elim x6 [ ]
 next_is k [] (x ∷ r) m h (Memᴰ.head e) q = record { rest = r; is = ap (λ (y : Msg). y ∷ r) e }
 next_is k [] (x ∷ r) m h (Memᴰ.tail d) q = let f = above-first (suc k) r m h.1 d in absurd (omega arith)
 next_is k (x ∷ a) r m h (Memᴰ.head e) q = let f : m.num ≡ x.num = ap (λ (y : Msg). y.num) e in absurd (omega arith)
@@ -59,6 +61,7 @@ next_is k (x ∷ a) r m h (Memᴰ.tail d) q =
 
 -- a message of the log is among those of its unit
 pub mem_unit : (l : List Msg) (m : Msg) → Memᴰ m l → Memᴰ m (of_unit m.unit l)
+mem_unit [] m x' = elim x' [ ]
 mem_unit (x ∷ l) m (Memᴰ.head e) =
     rw (eq-eqb m.unit x.unit (ap (λ (y : Msg). y.unit) e)) (Memᴰ.head e)
 mem_unit (x ∷ l) m (Memᴰ.tail d) = go (eqb m.unit x.unit) (mem_unit l m d)

@@ -1,7 +1,6 @@
 -- What an arm of a message's `match` on byte and bit answers is what the message's list says: a law for each kind of arm, over any message.
 -- At a listed bit the list is computed with the arm's own numbers; in an arm of all other numbers the list has no such line, by induction on it.
--- A message's proof says `free` for each call and `search arms` for each arm, a line for a byte: the search finds the law, and its facts among
--- what the arm is told. Assumes nothing.
+-- A message's proof says `search arms` for each arm: the search finds the law, and its facts among what the arm is told. Assumes nothing.
 use Prim.Native.Nat.{ℕ, ◌+◌}
 use mathlib.Core.Bool.{Bool, true, false, cond, ◌&&◌}
 use mathlib.Core.List.{List, [], ◌∷◌, ◌++◌}

@@ -1,6 +1,7 @@
 // The bit dictionary: what a bit of a bitfield byte selects in a message. Bytes count from 1, bits from 0, the lowest. The options New Order, which has the
 // type byte of the equities' one, is told by a number of its own, B8.
 #![tactic(auto)]
+
 ghost use Rattle.std.specs.Prelude.{◌≡◌};
 ghost use Rattle.dictionary.specs.Dictionary.{entry_of};
 ghost use Rattle.dictionary.specs.declared.Entry.TheVariants.{Field};

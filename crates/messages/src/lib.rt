@@ -2,6 +2,7 @@
 // 2 from the member of an options market. New Order has the type 38 in both markets; the record of the options' one has the type B8.
 // A record is the first bytes of a lent buffer, as many as its type's record has: session_messages::RECORD of a session message, block::RECORD of an order.
 #![tactic(auto)]
+
 ghost use Rattle.std.specs.Prelude.{◌≡◌, ◌++◌, ◌||◌, ◌-◌, ◌≤◌, length};
 ghost use Rattle.numbers.specs.Numbers.{patched};
 ghost use Rattle.block.specs.Slots.{zeros};

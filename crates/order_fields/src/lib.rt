@@ -2,6 +2,7 @@
 // In a record of another type no field is selected. A module for each message; `reading` has how a field is read,
 // `values` what is read where it stands, and how one is set stands here.
 #![tactic(auto)]
+
 pub mod acknowledgment;
 pub mod cancel_order;
 pub mod cancel_rejection;

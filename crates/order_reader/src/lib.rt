@@ -1,5 +1,6 @@
 // The reader of a message with bitfields: from a whole message to its record, or the refusal and its place.
 #![tactic(auto)]
+
 ghost use Rattle.std.specs.Prelude.{◌≡◌, true, cond, ◌∷◌, ◌++◌, ◌+◌, ◌-◌, ◌≤◌, ltb, length, get_or, take, drop};
 ghost use Rattle.numbers.specs.Numbers.{patched};
 ghost use Rattle.wire.specs.Header.{total_of};

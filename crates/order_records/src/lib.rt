@@ -1,5 +1,6 @@
 // A record as bytes, for callers that have numbers and byte buffers only: RECORD of them, every part at a place of its own.
 #![tactic(auto)]
+
 ghost use Rattle.std.specs.Prelude.{◌≡◌, ◌∷◌, ◌++◌, ◌+◌, ◌-◌, ◌≤◌, length};
 ghost use Rattle.numbers.specs.Numbers.{bytes_of, patched};
 ghost use Rattle.order_records.specs.Records.{record_bytes, record_at, load_of, store_refusal, store_buffer};

@@ -1,5 +1,6 @@
 // The writer of a message with bitfields: from a record to the message's bytes in a lent buffer, or the refusal and its place.
 #![tactic(auto)]
+
 ghost use Rattle.std.specs.Prelude.{◌≡◌, true, ◌&&◌, ◌∷◌, ◌++◌, ◌+◌, ◌-◌, ◌≤◌, ◌<◌, length, take, drop};
 ghost use Rattle.kinds.specs.Kinds.{all_nul};
 ghost use Rattle.numbers.specs.Numbers.{patched};

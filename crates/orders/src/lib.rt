@@ -1,6 +1,7 @@
 // Messages with bitfields, as records: New Order of either market, Cancel Order, Modify Order and Purge Orders from the member; Order Acknowledgment, Order Execution, Order
 // Rejected, Cancel Rejected and User Modify Rejected from the venue.
 #![tactic(auto)]
+
 ghost use Rattle.std.specs.Prelude.{◌≡◌, not, ◌&&◌, ◌||◌, eqb, ◌+◌, ◌≤◌, length};
 ghost use Rattle.block.specs.Places.{selected_at};
 ghost use Rattle.block.specs.Sizes.{layout_size};

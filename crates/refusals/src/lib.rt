@@ -1,6 +1,7 @@
 // The numbers of refusal, each with its name: document 01's table, in its order, and after it document 02's. 0 is no refusal. And a refusal with the byte place that it is about,
 // which document 02's third request asks of 6 to 10.
 #![tactic(auto)]
+
 ghost use Rattle.std.specs.Prelude.{◌≡◌, ◌<◌};
 ghost use Rattle.refusals.specs.Told.{told, number_in, place_in};
 

@@ -1,5 +1,6 @@
 // The member's session: its state by value, a method for each thing that can happen, each of which answers the next state.
 #![tactic(auto)]
+
 pub mod phases;
 
 ghost use Rattle.std.specs.Prelude.{◌≡◌, true, false, ◌≤◌, length};

@@ -1,6 +1,7 @@
 // The member's session as a caller keeps it, in 278 bytes, and its calls over them: each does what the session's own does, where the bytes stand, and a
 // refused call changes no byte.
 #![tactic(auto)]
+
 pub mod beside;
 mod given;
 mod judging;

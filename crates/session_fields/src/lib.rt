@@ -2,6 +2,7 @@
 // 0 or zeros where it is not. A setter leaves a record of another type as it is. A module for each message; `fixed` has how texts and bytes
 // of the fixed part are read, and how pairs and groups are read and fields set stands here.
 #![tactic(auto)]
+
 mod fixed;
 pub mod login_request;
 pub mod login_response;

@@ -1,5 +1,6 @@
 // The Login Request built from the sequence table, with the choice of units as a value.
 #![tactic(auto)]
+
 ghost use Rattle.std.specs.Prelude.{◌≡◌, [], ◌∷◌, ◌++◌, ◌*◌, ◌≤◌, length, take};
 ghost use Rattle.numbers.specs.Numbers.{bytes_of, patched};
 ghost use Rattle.session_groups.specs.Values.{pairs_bytes};

@@ -1,5 +1,6 @@
 // The session messages as records: Login Request, Login Response, Logout, Replay Complete and both heartbeats.
 #![tactic(auto)]
+
 ghost use Rattle.std.specs.Prelude.{◌≡◌, ◌||◌, ◌++◌, ◌+◌, ◌≤◌, length, take};
 ghost use Rattle.numbers.specs.Numbers.{patched};
 ghost use Rattle.wire.specs.Header.{header_bytes, total_of};

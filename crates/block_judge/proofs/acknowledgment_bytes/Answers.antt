@@ -21,7 +21,7 @@ returns c =
     let start = c1 in
     let a = start.args in
     bytes-clear (judge_entry a.msg.now) 0x25 a.count a.bits.now 5 _ start.requires.2
-    ∙ c.judge_next-a.ensures.0
+    ∙ c.judge_next.ensures.0
     ∙ c4.judge_next-d.ensures.0
     ∙ c3.judge_next-c.ensures.0
     ∙ c2.judge_next-b.ensures.0

@@ -11,6 +11,6 @@ returns c =
     let start = c1 in
     let a = start.args in
     bytes-clear (judge_entry a.msg.now) 0x2C a.count a.bits.now 3 _ start.requires.2
-    ∙ c.judge_next-a.ensures.0
+    ∙ c.judge_next.ensures.0
     ∙ c2.judge_next-b.ensures.0
     ∙ c1.judge_next-a.ensures.0

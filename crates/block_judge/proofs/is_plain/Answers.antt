@@ -18,5 +18,5 @@ returns-in-44 c = let a = c.args in c.is_blank_after-in-44.ensures ∙ in_execut
 pub returns-in_default : goal.returns-in_default
 returns-in_default c =
     let a = c.args in
-    let r = c.in_default.rest in
+    let r = c.in_default.in_default-own.rest in
     in_others a.message a.count a.bits.now r.0.0.0.1 r.0.0.1 r.0.1 r.1

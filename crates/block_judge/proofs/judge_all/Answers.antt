@@ -5,7 +5,6 @@ use Rattle.block.specs.Loops.{bytes_end}
 use Rattle.block.specs.Walk.{judge_entry}
 use Rattle.block.specs.Sizes.{all_places}
 use native.Mathlib.Omega.{arith}
-use borrow.Author.Tests.{not-false}
 use Prim.Native.Nat.{ℕ}
 use mathlib.Core.Path.{refl, sym, ap, ◌∙◌}
 use Rattle.block_judge.proofs.judge_all.Goals as goal
@@ -20,7 +19,7 @@ judge_new_order-requires c =
     let asked = c in
     let start = asked in
     let a = start.args in
-    let p = sym asked.is_plain.ensures ∙ not-false _ c.if-not-is_plain.false in
+    let p = sym asked.is_plain.ensures ∙ c.if-not-is_plain.false in
     (omega arith, start.requires.1, in_new_order a.message a.count a.bits.now c.in-56.is ∙ p, refl)
 
 pub cancel_order_bytes-requires : goal.cancel_order_bytes-requires
@@ -28,7 +27,7 @@ cancel_order_bytes-requires c =
     let asked = c in
     let start = asked in
     let a = start.args in
-    let p = sym asked.is_plain.ensures ∙ not-false _ c.if-not-is_plain.false in
+    let p = sym asked.is_plain.ensures ∙ c.if-not-is_plain.false in
     (omega arith, start.requires.1, in_cancel_order a.message a.count a.bits.now c.in-57.is ∙ p, refl)
 
 pub judge_acknowledgment-requires : goal.judge_acknowledgment-requires
@@ -36,7 +35,7 @@ judge_acknowledgment-requires c =
     let asked = c in
     let start = asked in
     let a = start.args in
-    let p = sym asked.is_plain.ensures ∙ not-false _ c.if-not-is_plain.false in
+    let p = sym asked.is_plain.ensures ∙ c.if-not-is_plain.false in
     (omega arith, start.requires.1, in_acknowledgment a.message a.count a.bits.now c.in-37.is ∙ p, refl)
 
 pub judge_execution-requires : goal.judge_execution-requires
@@ -44,8 +43,8 @@ judge_execution-requires c =
     let asked = c in
     let start = asked in
     let a = start.args in
-    let p = sym asked.is_plain.ensures ∙ not-false _ c.if-not-is_plain.false in
-    let r = c.in_default.rest in
+    let p = sym asked.is_plain.ensures ∙ c.if-not-is_plain.false in
+    let r = c.in_default.in_default-own.rest in
     (omega arith, start.requires.1, in_execution a.message a.count a.bits.now (only_execution a.message a.count a.bits.now r.0.0.1 r.0.1 r.1 p) ∙ p, refl)
 
 pub returns-in-56 : goal.returns-in-56
@@ -74,5 +73,5 @@ returns-in_default c =
     let arm = c in
     let asked = arm in
     let a = asked.args in
-    let r = arm.in_default.rest in
-    c.judge_execution.ensures ∙ ap (λ (n : ℕ). judge_walk n a.count a.bits.now a.msg.now all_places 0 begun) (sym (only_execution a.message a.count a.bits.now r.0.0.1 r.0.1 r.1 (sym asked.is_plain.ensures ∙ not-false _ arm.if-not-is_plain.false)))
+    let r = arm.in_default.in_default-own.rest in
+    c.judge_execution.ensures ∙ ap (λ (n : ℕ). judge_walk n a.count a.bits.now a.msg.now all_places 0 begun) (sym (only_execution a.message a.count a.bits.now r.0.0.1 r.0.1 r.1 (sym asked.is_plain.ensures ∙ arm.if-not-is_plain.false)))

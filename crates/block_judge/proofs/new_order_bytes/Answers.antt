@@ -39,7 +39,7 @@ returns c =
     let start = c1 in
     let a = start.args in
     bytes-clear (judge_entry a.msg.now) 0x38 a.count a.bits.now 10 _ start.requires.2
-    ∙ c.judge_next-a.ensures.0
+    ∙ c.judge_next.ensures.0
     ∙ c9.judge_next-i.ensures.0
     ∙ c8.judge_next-h.ensures.0
     ∙ c7.judge_next-g.ensures.0

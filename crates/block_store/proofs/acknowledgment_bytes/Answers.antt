@@ -12,7 +12,7 @@ use Rattle.block.specs.Sizes.{all_places}
 use Rattle.block_store.proofs.acknowledgment_bytes.Goals as goal
 
 pub store_next-requires : goal.store_next-requires
-store_next-requires c = let put = c.store-next3 in omega (arith, fits_after 0x25 _ _ 8 (all_places - 32) 24 put.result put.ensures.1)
+store_next-requires c = let put = c.store_next-c in omega (arith, fits_after 0x25 _ _ 8 (all_places - 32) 24 put.result put.ensures.1)
 
 pub returns : goal.returns
 unfolding unlisted entry_at entry_of
@@ -22,7 +22,7 @@ returns c =
     let put2 = put3 in
     let put1 = put2 in
     none-listed 0x25 _ _ _ (all_places - 40) 40 _ refl
-    ∙ put4.store_next-a.ensures.0
+    ∙ put4.store_next.ensures.0
     ∙ listed-after 0x25 _ _ _ 8 (all_places - 32) 24 _ refl
     ∙ put3.store_next-c.ensures.0
     ∙ put2.store_next-b.ensures.0

@@ -16,6 +16,6 @@ returns c =
     let put2 = put3 in
     let put1 = put2 in
     none-listed 0x2C _ _ _ (all_places - 24) 24 _ refl
-    ∙ put3.store_next-a.ensures.0
+    ∙ put3.store_next.ensures.0
     ∙ put2.store_next-b.ensures.0
     ∙ put1.store_next-a.ensures.0

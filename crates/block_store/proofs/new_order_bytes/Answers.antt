@@ -12,7 +12,7 @@ use Rattle.block.specs.Sizes.{all_places}
 use Rattle.block_store.proofs.new_order_bytes.Goals as goal
 
 pub store_next-d-requires : goal.store_next-d-requires
-store_next-d-requires c = let put = c.store-next3 in omega (arith, fits_after 0x38 _ _ 16 (all_places - 40) 24 put.result put.ensures.1)
+store_next-d-requires c = let put = c.store_next-c in omega (arith, fits_after 0x38 _ _ 16 (all_places - 40) 24 put.result put.ensures.1)
 
 pub store_next-requires : goal.store_next-requires
 store_next-requires c =
@@ -32,7 +32,7 @@ returns c =
     let put2 = put3 in
     let put1 = put2 in
     none-listed 0x38 _ _ _ (all_places - 80) 80 _ refl
-    ∙ put5.store_next-a.ensures.0
+    ∙ put5.store_next.ensures.0
     ∙ listed-after 0x38 _ _ _ 24 (all_places - 72) 48 _ refl
     ∙ put4.store_next-d.ensures.0
     ∙ listed-after 0x38 _ _ _ 16 (all_places - 40) 24 _ refl

@@ -22,9 +22,9 @@ pub returns-in_default : goal.returns-in_default
 unfolding days_in
 returns-in_default c =
     let month = c.args.month in
-    let none = c.in_default-own.rest.1 in
+    let none = c.in_default.in_default-own.rest.1 in
     simp (
-      ne_eqb month 2 c.in_default-own.rest.0.1,
+      ne_eqb month 2 c.in_default.in_default-own.rest.0.1,
       ne_eqb month 4 (λ e. none (inl e)),
       ne_eqb month 6 (λ e. none (inr (inl e))),
       ne_eqb month 9 (λ e. none (inr (inr (inl e)))),

@@ -4,7 +4,6 @@ use mathlib.Core.Path.{◌≡◌, refl, sym, ap, ap₂, ◌∙◌}
 use mathlib.Core.Bool.{◌&&◌, true, false}
 use Prim.Native.Nat.{◌+◌, ◌-◌}
 use native.Mathlib.Omega.{arith}
-use borrow.Author.Tests.{not-true, not-false}
 use lib.ListN.{drop, length-take, length-drop}
 use Rattle.kinds.specs.Kinds.{all_nul, agrees_text}
 use Rattle.kinds.specs.Words.{kind_of}
@@ -66,7 +65,7 @@ returns-then-not-word_agrees c =
     let i = at-loop.loop-i.i in
     let k = kind_of a.plain in
     let w = at-word.word-x.result in
-    let bad : agrees_text k (bytes_of 8 w) ≡ false = sym c.word_agrees-in-loop-i.ensures ∙ not-true _ c.if-not-word_agrees.true in
+    let bad : agrees_text k (bytes_of 8 w) ≡ false = sym c.word_agrees-in-loop-i.ensures ∙ c.if-not-word_agrees.true in
     sym (ap (agrees_text k) (front_is s i w (omega arith) at-word.word-x.ensures)
     ∙ word_goes_on k w (drop (i + 8) s) c.if-x-lt72057594037927936.false (omega arith)
     ∙ ap (λ t. t && agrees_text k (drop (i + 8) s)) bad)
@@ -84,7 +83,7 @@ loop-i-preserved c =
     let i = at-loop.loop-i.i in
     let k = kind_of a.plain in
     let w = at-word.word-x.result in
-    let good : agrees_text k (bytes_of 8 w) ≡ true = sym c.word_agrees-in-loop-i.ensures ∙ not-false _ c.if-not-word_agrees.false in (
+    let good : agrees_text k (bytes_of 8 w) ≡ true = sym c.word_agrees-in-loop-i.ensures ∙ c.if-not-word_agrees.false in (
       omega arith,
       sym (ap (agrees_text k) (front_is s i w (omega arith) at-word.word-x.ensures)
           ∙ word_goes_on k w (drop (i + 8) s) c.if-x-lt72057594037927936.false (omega arith)

@@ -31,5 +31,5 @@ returns c =
     let front = end in
     let s = front.args.s.now in
     c.both.ensures
-    ∙ ap₂ ◌&&◌ front.is_name-front.ensures (end.is_name-front.ensures ∙ ap (agrees_text Identifier) (take_all 16 (drop 4 s) (simp length-drop (omega arith))))
+    ∙ ap₂ ◌&&◌ front.is_name-front.ensures (end.is_name.ensures ∙ ap (agrees_text Identifier) (take_all 16 (drop 4 s) (simp length-drop (omega arith))))
     ∙ sym (two_windows Identifier s 4 12 (omega arith) (omega arith))

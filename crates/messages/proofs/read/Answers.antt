@@ -10,7 +10,6 @@ use Rattle.messages.specs.Stages.{placed_refusal, placed_record}
 use Rattle.orders.specs.Markets.{typed}
 use Rattle.messages.specs.Heard.{long_enough, as_typed, heard_type, named, session_heard}
 use Rattle.messages.specs.MessageLaws.{frame_stops, type_stops, session_reads, order_reads}
-use borrow.Author.Tests.{not-true, not-false}
 use mathlib.Core.List.{List}
 use lib.ListN.{length}
 use Prim.Native.Nat.{ℕ}
@@ -32,7 +31,7 @@ returns-then-not-carries c =
     let a = told.args in
     let z = sym told.frame_refusal-refusal.ensures ∙ frame.if-refusal-ne0.false in
     let t = named a.direction a.bytes.now z frame.frame-m.ensures type.type_of.ensures type.type_in-message.ensures in
-    type_stops a.direction a.bytes.now a.buffer.now z (ap (carries a.direction) (sym t) ∙ sym carried.carries.ensures ∙ not-true _ c.if-not-carries.true)
+    type_stops a.direction a.bytes.now a.buffer.now z (ap (carries a.direction) (sym t) ∙ sym carried.carries.ensures ∙ c.if-not-carries.true)
 
 pub returns-then-is_session : goal.returns-then-is_session
 returns-then-is_session c =
@@ -48,7 +47,7 @@ returns-then-is_session c =
     let t = named a.direction a.bytes.now z frame.frame-m.ensures type.type_of.ensures type.type_in-message.ensures in
     let session = ap is_session (sym t) ∙ sym kind.is_session.ensures ∙ then.if-is_session.true in
     let it = frame.frame-m.ensures ∙ sym (session_heard a.direction a.bytes.now z session) in
-    session_reads a.direction a.bytes.now a.buffer.now z (ap (carries a.direction) (sym t) ∙ sym carried.carries.ensures ∙ not-false _ kind.if-not-carries.false) session (
+    session_reads a.direction a.bytes.now a.buffer.now z (ap (carries a.direction) (sym t) ∙ sym carried.carries.ensures ∙ kind.if-not-carries.false) session (
       read.read_session.ensures.0 ∙ ap (λ (m : List ℕ). placed_refusal (sessions.read_refusal m) session_record_size (length a.buffer.now)) it,
       read.read_session.ensures.1 ∙ ap (λ (m : List ℕ). placed_record (sessions.read_refusal m) session_record_size (session_record_bytes (sessions.record_of m)) a.buffer.now) it,
     )
@@ -76,7 +75,7 @@ returns c =
     let z = sym told.frame_refusal-refusal.ensures ∙ frame.if-refusal-ne0.false in
     let t = named a.direction s z frame.frame-m.ensures type.type_of.ensures type.type_in-message.ensures in
     let it = ap₂ typed (t ∙ heard_type a.direction s z) frame.frame-m.ensures ∙ as_typed a.direction s z in
-    order_reads a.direction s a.buffer.now z (ap (carries a.direction) (sym t) ∙ sym carried.carries.ensures ∙ not-false _ kind.if-not-carries.false)
+    order_reads a.direction s a.buffer.now z (ap (carries a.direction) (sym t) ∙ sym carried.carries.ensures ∙ kind.if-not-carries.false)
     (ap is_session (sym t) ∙ sym kind.is_session.ensures ∙ else.if-is_session.false) (
       read.read_order.ensures.0 ∙ ap (λ (m : List ℕ). placed_refusal (orders.read_refusal m) record_size (length a.buffer.now)) it,
       read.read_order.ensures.1 ∙ ap (λ (m : List ℕ). placed_record (orders.read_refusal m) record_size (record_bytes (orders.record_of m)) a.buffer.now) it,

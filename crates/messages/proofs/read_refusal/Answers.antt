@@ -2,7 +2,6 @@
 use mathlib.Core.Path.{sym, ap, ap₂, ◌∙◌}
 use native.Mathlib.Omega.{arith}
 use lib.ListN.{length}
-use borrow.Author.Tests.{not-true, not-false}
 use Rattle.orders.specs.Orders as orders
 use Rattle.orders.specs.Markets.{typed}
 use Rattle.session_messages.specs.Sessions as sessions
@@ -25,7 +24,7 @@ returns-then-not-carries c =
     let a = told.args in
     let z = sym told.frame_refusal-refusal.ensures ∙ frame.if-refusal-ne0.false in
     let t = named a.direction a.bytes.now z frame.frame-m.ensures type.type_of.ensures type.type_in-message.ensures in
-    type_refuses a.direction a.bytes.now z (ap (carries a.direction) (sym t) ∙ sym carried.carries.ensures ∙ not-true _ c.if-not-carries.true)
+    type_refuses a.direction a.bytes.now z (ap (carries a.direction) (sym t) ∙ sym carried.carries.ensures ∙ c.if-not-carries.true)
 
 pub returns-then-is_session : goal.returns-then-is_session
 returns-then-is_session c =
@@ -41,7 +40,7 @@ returns-then-is_session c =
     let session = ap is_session (sym t) ∙ sym kind.is_session.ensures ∙ c.if-is_session.true in
     c.read_refusal.ensures
     ∙ ap sessions.read_refusal (frame.frame-m.ensures ∙ sym (session_heard a.direction s z session))
-    ∙ session_refuses a.direction s z (ap (carries a.direction) (sym t) ∙ sym carried.carries.ensures ∙ not-false _ kind.if-not-carries.false) session
+    ∙ session_refuses a.direction s z (ap (carries a.direction) (sym t) ∙ sym carried.carries.ensures ∙ kind.if-not-carries.false) session
 
 pub refusal_as-requires : goal.refusal_as-requires
 refusal_as-requires c =
@@ -63,5 +62,5 @@ returns c =
     let t = named a.direction s z frame.frame-m.ensures type.type_of.ensures type.type_in-message.ensures in
     c.refusal_as.ensures
     ∙ ap orders.read_refusal (ap₂ typed (t ∙ heard_type a.direction s z) frame.frame-m.ensures ∙ as_typed a.direction s z)
-    ∙ order_refuses a.direction s z (ap (carries a.direction) (sym t) ∙ sym carried.carries.ensures ∙ not-false _ kind.if-not-carries.false)
+    ∙ order_refuses a.direction s z (ap (carries a.direction) (sym t) ∙ sym carried.carries.ensures ∙ kind.if-not-carries.false)
     (ap is_session (sym t) ∙ sym kind.is_session.ensures ∙ c.if-is_session.false)

@@ -8,7 +8,7 @@ use Rattle.messages.proofs.read_session.Goals as goal
 
 pub returns-then-refusal-ne0 : goal.returns-then-refusal-ne0
 returns-then-refusal-ne0 c =
-    let told = c.read-refusal in
+    let told = c.read_refusal-refusal in
     judged_stops _ _ _ c.args.buffer.now told.ensures c.if-refusal-ne0.true
 
 pub returns-then-buffer-lt-RECORD : goal.returns-then-buffer-lt-RECORD

@@ -1,6 +1,5 @@
 -- `messages::write` meets its contract. Assumes nothing.
 use Rattle.messages.specs.MessageLaws.{write_empty, write_stops, session_writes, order_writes}
-use borrow.Author.Tests.{not-true, not-false}
 use mathlib.Core.Path.{sym, ◌∙◌}
 use Rattle.messages.proofs.write.Goals as goal
 
@@ -14,7 +13,7 @@ returns-then-not-carries c =
     let carried = c in
     let else = carried in
     let a = else.args in
-    write_stops a.direction a.given.now a.out.now else.if-given-eq0.false (sym carried.carries.ensures ∙ not-true _ c.if-not-carries.true)
+    write_stops a.direction a.given.now a.out.now else.if-given-eq0.false (sym carried.carries.ensures ∙ c.if-not-carries.true)
 
 pub returns-then-is_session : goal.returns-then-is_session
 returns-then-is_session c =
@@ -24,7 +23,7 @@ returns-then-is_session c =
     let carried = kind in
     let else = carried in
     let a = else.args in
-    session_writes a.direction a.given.now a.out.now else.if-given-eq0.false (sym carried.carries.ensures ∙ not-false _ kind.if-not-carries.false)
+    session_writes a.direction a.given.now a.out.now else.if-given-eq0.false (sym carried.carries.ensures ∙ kind.if-not-carries.false)
     (sym kind.is_session.ensures ∙ then.if-is_session.true) wrote.write_session.ensures
 
 pub returns : goal.returns
@@ -35,5 +34,5 @@ returns c =
     let carried = kind in
     let else = carried in
     let a = else.args in
-    order_writes a.direction a.given.now a.out.now else.if-given-eq0.false (sym carried.carries.ensures ∙ not-false _ kind.if-not-carries.false)
+    order_writes a.direction a.given.now a.out.now else.if-given-eq0.false (sym carried.carries.ensures ∙ kind.if-not-carries.false)
     (sym kind.is_session.ensures ∙ last.if-is_session.false) wrote.write_order.ensures

@@ -68,6 +68,6 @@ returns-in-184 c =
 pub returns-in_default : goal.returns-in_default
 returns-in_default c =
     let start = c in
-    let o = c.in_default.rest in
+    let o = c.in_default.in_default-own.rest in
     let n = o.0.0.0 in
     unknown_under start.args.m.now start.args.message start.requires n.0.0.0.0.0.0.1 n.0.0.0.0.0.1 n.0.0.0.0.1 n.0.0.0.1 n.0.0.1 n.0.1 n.1 o.0.0.1 o.0.1 o.1

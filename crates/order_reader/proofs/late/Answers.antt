@@ -45,4 +45,4 @@ returns-in-71 c =
     c.purge_late.ensures ∙ ap (λ (m : ℕ). late_refusal m a.count a.bits.now (layout_of m a.count a.bits.now a.optional.now)) (sym e)
 
 pub returns-in_default : goal.returns-in_default
-returns-in_default c = never_late _ _ _ _ c.in_default.rest.0.1 c.in_default.rest.1
+returns-in_default c = never_late _ _ _ _ c.in_default.in_default-own.rest.0.1 c.in_default.in_default-own.rest.1

@@ -9,7 +9,7 @@ use Rattle.order_reader.proofs.parts_refusal.Goals as goal
 
 pub judged-refusal-requires : goal.judged-refusal-requires
 judged-refusal-requires c =
-    let all = c.judge-all in
+    let all = c.judge_all-t in
     let start = c in
     let a = start.args in
     let k = judged_all a.message a.count a.bits.now a.optional.now all.result all.ensures in
@@ -18,7 +18,7 @@ judged-refusal-requires c =
 pub returns-then-refusal-ne0 : goal.returns-then-refusal-ne0
 returns-then-refusal-ne0 c =
     let judged = c in
-    let all = judged.judge-all in
+    let all = judged.judge_all-t in
     let start = judged in
     let a = start.args in
     let k = judged_all a.message a.count a.bits.now a.optional.now all.result all.ensures in
@@ -27,7 +27,7 @@ returns-then-refusal-ne0 c =
 pub late-requires : goal.late-requires
 late-requires c =
     let judged = c in
-    let all = judged.judge-all in
+    let all = judged.judge_all-t in
     let start = judged in
     let a = start.args in
     let k = judged_all a.message a.count a.bits.now a.optional.now all.result all.ensures in
@@ -36,7 +36,7 @@ late-requires c =
 pub returns : goal.returns
 returns c =
     let judged = c in
-    let all = judged.judge-all in
+    let all = judged.judge_all-t in
     let start = judged in
     let a = start.args in
     let k = judged_all a.message a.count a.bits.now a.optional.now all.result all.ensures in

@@ -30,7 +30,7 @@ put_up_to-requires-in-71 c = (omega (arith, c.requires.0, in_purge_orders _ c.in
 
 pub put_up_to-requires-in_default : goal.put_up_to-requires-in_default
 put_up_to-requires-in_default c =
-    let r = c.in_default.rest in
+    let r = c.in_default.in_default-own.rest in
     (omega (arith, c.requires.0, in_others _ r.0.0.0.0.0.1 r.0.0.0.0.1 r.0.0.0.1 r.0.0.1 r.0.1 r.1), omega arith, omega arith, c.requires.1)
 
 pub returns-in-56 : goal.returns-in-56
@@ -73,5 +73,5 @@ pub returns-in_default : goal.returns-in_default
 returns-in_default c =
     let arm = c in
     let a = arm.args in
-    let r = arm.in_default.rest in
+    let r = arm.in_default.in_default-own.rest in
     c.put_up_to-in_default.ensures ∙ ap (λ (n : ℕ). patched a.tail.now 0 (take (n - 10) (drop 10 a.m.now) ++ zeros (fixed_end - n))) (sym (in_others _ r.0.0.0.0.0.1 r.0.0.0.0.1 r.0.0.0.1 r.0.0.1 r.0.1 r.1))

@@ -23,5 +23,5 @@ returns c =
     let a = start.args in
     let n = body_long a.m.now a.message a.count a.bits.now a.rest.now start.requires.0 start.requires.2 start.requires.3 start.requires.1 in
     let body = kept_bytes a.m.now a.message a.count a.bits.now a.rest.now ++ (a.count ∷ (a.bits.now ++ zeros (most_bitfields - length a.bits.now))) in
-    puts_then a.buffer.now _ (a.message ∷ united.unit_of-unit.result ∷ bytes_of 4 numbered.number_of_lem.result) body 6 refl (omega (arith, n, start.requires.4)) headed.put_head.ensures put.put_body.ensures
-    ∙ ap₂ (λ (u i : ℕ). patched a.buffer.now 0 ((a.message ∷ u ∷ bytes_of 4 i) ++ body)) united.unit_of-unit.ensures numbered.number_of_lem.ensures
+    puts_then a.buffer.now _ (a.message ∷ united.unit_of-unit.result ∷ bytes_of 4 numbered.number_of-number.result) body 6 refl (omega (arith, n, start.requires.4)) headed.put_head.ensures put.put_body.ensures
+    ∙ ap₂ (λ (u i : ℕ). patched a.buffer.now 0 ((a.message ∷ u ∷ bytes_of 4 i) ++ body)) united.unit_of-unit.ensures numbered.number_of-number.ensures

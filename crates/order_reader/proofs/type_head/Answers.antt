@@ -1,6 +1,7 @@
 -- `order_reader::type_head` meets its contract: 5, or the refusal of the count. Assumes nothing.
 use Rattle.order_reader.proofs.Heads.{bad_unit_lem, good_unit}
-use mathlib.Core.Path.{◌∙◌}
+use mathlib.Core.Bool.{not}
+use mathlib.Core.Path.{ap, ◌∙◌}
 use Rattle.order_reader.proofs.type_head.Goals as goal
 
 pub returns-then-not-unit_good : goal.returns-then-not-unit_good
@@ -9,7 +10,7 @@ returns-then-not-unit_good c =
     let number = good in
     let unit = number in
     let a = unit.args in
-    bad_unit_lem a.m.now a.message unit.unit_of-unit.result number.number_of_lem.result a.at a.most unit.unit_of-unit.ensures number.number_of_lem.ensures good.unit_good.result good.unit_good.ensures c.if-not-unit_good.true
+    bad_unit_lem a.m.now a.message unit.unit_of-unit.result number.number_of-number.result a.at a.most unit.unit_of-unit.ensures number.number_of-number.ensures good.unit_good.result good.unit_good.ensures (ap not c.if-not-unit_good.true)
 
 pub returns : goal.returns
 returns c =
@@ -18,4 +19,4 @@ returns c =
     let unit = number in
     let a = unit.args in
     c.count_refusal.ensures
-    ∙ good_unit a.m.now a.message unit.unit_of-unit.result number.number_of_lem.result a.at a.most unit.unit_of-unit.ensures number.number_of_lem.ensures good.unit_good.result good.unit_good.ensures c.if-not-unit_good.false
+    ∙ good_unit a.m.now a.message unit.unit_of-unit.result number.number_of-number.result a.at a.most unit.unit_of-unit.ensures number.number_of-number.ensures good.unit_good.result good.unit_good.ensures (ap not c.if-not-unit_good.false)

@@ -3,7 +3,7 @@ use Rattle.refusals.specs.Names.{bad_value}
 use Rattle.refusals.specs.Told.{told}
 use Rattle.orders.specs.OrderLaws.{count_bounds}
 use Rattle.order_reader.specs.Stages.{value_refusal}
-use borrow.Author.Tests.{eq-eqb, ne_eqb, not-true, not-false}
+use borrow.Author.Tests.{eq-eqb, ne_eqb}
 use native.Mathlib.Omega.{arith}
 use Prim.Native.Nat.{ℕ, ◌+◌}
 use mathlib.Core.Path.{ap, ◌∙◌}
@@ -33,7 +33,7 @@ returns-then-not-good c =
     let a = at.args in
     c.told-then-not-good.ensures
     ∙ ap (λ (n : ℕ). told bad_value (n + a.count + 1)) at.count_at.ensures
-    ∙ rw (eq-eqb _ _ at.if-fixed-ne0.false, not-true a.good c.if-not-good.true)
+    ∙ rw (eq-eqb _ _ at.if-fixed-ne0.false, c.if-not-good.true)
 
 pub overflow_add-last-then-wrong-ne0 : goal.overflow_add-last-then-wrong-ne0
 overflow_add-last-then-wrong-ne0 c =
@@ -57,10 +57,10 @@ returns-then-wrong-ne0 c =
     let a = at.args in
     c.told-then-wrong-ne0.ensures
     ∙ ap (λ (n : ℕ). told bad_value (n + a.count + a.size + a.wrong)) at.count_at.ensures
-    ∙ rw (eq-eqb _ _ at.if-fixed-ne0.false, not-false a.good c.if-not-good.false, ne_eqb _ _ c.if-wrong-ne0.true)
+    ∙ rw (eq-eqb _ _ at.if-fixed-ne0.false, c.if-not-good.false, ne_eqb _ _ c.if-wrong-ne0.true)
 
 pub returns : goal.returns
 unfolding value_refusal
 returns c =
     let past = c in
-    rw (eq-eqb _ _ past.if-fixed-ne0.false, not-false past.args.good c.if-not-good.false, eq-eqb _ _ c.if-wrong-ne0.false)
+    rw (eq-eqb _ _ past.if-fixed-ne0.false, c.if-not-good.false, eq-eqb _ _ c.if-wrong-ne0.false)

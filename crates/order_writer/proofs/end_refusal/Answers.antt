@@ -1,5 +1,5 @@
 -- `order_writer::end_refusal` meets its contract. Assumes nothing.
-use borrow.Author.Tests.{eq-eqb, ne_eqb, not-true, not-false}
+use borrow.Author.Tests.{eq-eqb, ne_eqb}
 use mathlib.Core.Path.{sym, ◌∙◌}
 use Rattle.order_writer.specs.Stages.{end_refusal}
 use Rattle.order_writer.proofs.end_refusal.Goals as goal
@@ -15,11 +15,11 @@ unfolding end_refusal
 returns-then-not-unused_zero c =
     let zero = c in
     let late = zero in
-    rw (eq-eqb _ 0 (sym late.late_refusal-late.ensures ∙ late.if-late-ne0.false), sym zero.unused_zero.ensures ∙ not-true _ c.if-not-unused_zero.true)
+    rw (eq-eqb _ 0 (sym late.late_refusal-late.ensures ∙ late.if-late-ne0.false), sym zero.unused_zero.ensures ∙ c.if-not-unused_zero.true)
 
 pub returns : goal.returns
 unfolding end_refusal
 returns c =
     let zero = c in
     let late = zero in
-    rw (eq-eqb _ 0 (sym late.late_refusal-late.ensures ∙ late.if-late-ne0.false), sym zero.unused_zero.ensures ∙ not-false _ c.if-not-unused_zero.false)
+    rw (eq-eqb _ 0 (sym late.late_refusal-late.ensures ∙ late.if-late-ne0.false), sym zero.unused_zero.ensures ∙ c.if-not-unused_zero.false)

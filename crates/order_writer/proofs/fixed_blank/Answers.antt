@@ -61,5 +61,5 @@ pub returns-in_default : goal.returns-in_default
 returns-in_default c =
     let start = c in
     let a = start.args in
-    let r = c.in_default.rest in
+    let r = c.in_default.in_default-own.rest in
     sym (unused_is _ a.count a.fixed.now a.bits.now r.1 (in_others _ r.0.0.0.0.0.1 r.0.0.0.0.1 r.0.0.0.1 r.0.0.1 r.0.1 r.1) ∙ ap all_nul (drop_of_length-le a.fixed.now {i = fixed_size} (omega (arith, start.requires.0))))

@@ -36,5 +36,5 @@ put_part-requires-in-71 c =
 pub put_part-requires-in_default : goal.put_part-requires-in_default
 put_part-requires-in_default c =
     let start = c in
-    let other = c.in_default.rest in
+    let other = c.in_default.in_default-own.rest in
     (omega (arith, in_others _ other.0.0.0.0.0.1 other.0.0.0.0.1 other.0.0.0.1 other.0.0.1 other.0.1 other.1), start.requires.0, start.requires.1)

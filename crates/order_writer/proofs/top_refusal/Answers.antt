@@ -1,5 +1,5 @@
 -- `order_writer::top_refusal` meets its contract. Assumes nothing.
-use borrow.Author.Tests.{lt-ltb, le-ltb, not-true, not-false}
+use borrow.Author.Tests.{lt-ltb, le-ltb}
 use mathlib.Core.Path.{◌≡◌, sym, ap, ◌∙◌}
 use Rattle.refusals.specs.Names.{too_many_bitfields}
 use Rattle.refusals.specs.Told.{told}
@@ -11,11 +11,11 @@ use Rattle.order_writer.proofs.top_refusal.Goals as goal
 
 pub returns-then-not-is_known : goal.returns-then-not-is_known
 unfolding top_refusal
-returns-then-not-is_known c = rw (sym c.is_known.ensures ∙ not-true _ c.if-not-is_known.true)
+returns-then-not-is_known c = rw (sym c.is_known.ensures ∙ c.if-not-is_known.true)
 
 pub returns-then-not-unit_good : goal.returns-then-not-unit_good
 unfolding top_refusal
-returns-then-not-unit_good c = rw (sym c.is_known.ensures ∙ not-false _ c.if-not-is_known.false, sym c.unit_good.ensures ∙ not-true _ c.if-not-unit_good.true)
+returns-then-not-unit_good c = rw (sym c.is_known.ensures ∙ c.if-not-is_known.false, sym c.unit_good.ensures ∙ c.if-not-unit_good.true)
 
 pub told-requires : goal.told-requires
 told-requires c =
@@ -32,11 +32,11 @@ returns-then-most_of-count c =
     let n : _ ≡ most_of a.message = most.most_of.ensures in
     c.told.ensures
     ∙ ap (told too_many_bitfields) c.count_at.ensures
-    ∙ rw (sym known.is_known.ensures ∙ not-false _ good.if-not-is_known.false, sym good.unit_good.ensures ∙ not-false _ most.if-not-unit_good.false, lt-ltb (most_of a.message) a.count (omega (arith, n, c.if-most_of-count.true)))
+    ∙ rw (sym known.is_known.ensures ∙ good.if-not-is_known.false, sym good.unit_good.ensures ∙ most.if-not-unit_good.false, lt-ltb (most_of a.message) a.count (omega (arith, n, c.if-most_of-count.true)))
 
 pub returns : goal.returns
 unfolding top_refusal
 returns c =
     let a = c.args in
     let n : _ ≡ most_of a.message = c.most_of.ensures in
-    rw (sym c.is_known.ensures ∙ not-false _ c.if-not-is_known.false, sym c.unit_good.ensures ∙ not-false _ c.if-not-unit_good.false, le-ltb (most_of a.message) a.count (omega arith))
+    rw (sym c.is_known.ensures ∙ c.if-not-is_known.false, sym c.unit_good.ensures ∙ c.if-not-unit_good.false, le-ltb (most_of a.message) a.count (omega arith))

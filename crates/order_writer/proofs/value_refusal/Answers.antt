@@ -1,6 +1,6 @@
 -- `order_writer::value_refusal` meets its contract: each return is the branch of the definition that its tests choose, and the place is near. Assumes
 -- nothing.
-use borrow.Author.Tests.{eq-eqb, ne_eqb, not-true, not-false}
+use borrow.Author.Tests.{eq-eqb, ne_eqb}
 use mathlib.Core.Path.{sym, ap, ap₂, ◌∙◌}
 use Prim.Native.Nat.{ℕ, ◌+◌, ◌≤◌}
 use native.Mathlib.Omega.{arith}
@@ -10,18 +10,13 @@ use Rattle.refusals.specs.Told.{told}
 use Rattle.orders.specs.OrderLaws.{count_bounds}
 use Rattle.orders.specs.FixedFieldLaws.{fixed-within}
 use Rattle.order_writer.specs.Stages.{value_refusal}
+use Rattle.order_writer.proofs.value_refusal.Goals.{After-count_at}
 use Rattle.order_writer.proofs.value_refusal.Goals as goal
 
--- where the function starts
-abbrev start_of : tie.After-fixed-wrong → tie.Start
-start_of k = k
-
--- how far the last bitfield stands
-
-near : (c : tie.After-count-at) → (c.count_at.result ≤ fixed_end) × ((start_of c).args.count ≤ 255)
+near : (c : After-count_at) → (c.count_at.result ≤ fixed_end) × (c.args.count ≤ 255)
 near c =
-    let start = start_of c in
-    (omega (arith, c.count_at.ensures, (count_bounds start.args.message).high), omega (arith, start.fits.count))
+    let start = c in
+    (omega (arith, c.count_at.ensures, (count_bounds start.args.message).high), omega (arith, start.ranges.count))
 
 pub fixed_wrong-fixed_at-requires : goal.fixed_wrong-fixed_at-requires
 fixed_wrong-fixed_at-requires c =
@@ -31,7 +26,7 @@ fixed_wrong-fixed_at-requires c =
 pub told-requires : goal.told-requires
 told-requires c =
     let fixed = c in
-    let a = (start_of fixed).args in
+    let a = fixed.args in
     (omega arith, omega (arith, fixed.fixed_wrong-fixed_at.ensures, fixed-within a.message a.fixed.now, (count_bounds a.message).high))
 
 pub returns-then-fixed_at-ne0 : goal.returns-then-fixed_at-ne0
@@ -41,17 +36,17 @@ returns-then-fixed_at-ne0 c =
     c.told.ensures ∙ ap (told bad_value) wrong ∙ rw (ne_eqb _ 0 (λ z. c.if-fixed_at-ne0.true (wrong ∙ z)))
 
 pub overflow_add-last : goal.overflow_add-last
-overflow_add-last c = omega (arith, (near c).0, (near c).1)
+overflow_add-last c = omega (arith, (near (goal.at.overflow_add-last c).After-count_at).0, (near (goal.at.overflow_add-last c).After-count_at).1)
 
 pub overflow_add-last-then-not-middle_good : goal.overflow_add-last-then-not-middle_good
 overflow_add-last-then-not-middle_good c =
     let at = c in
-    omega (arith, (near at).0, (near at).1)
+    omega (arith, (near (goal.at.overflow_add-last-then-not-middle_good c).After-count_at).0, (near (goal.at.overflow_add-last-then-not-middle_good c).After-count_at).1)
 
 pub told-requires-then-not-middle_good : goal.told-requires-then-not-middle_good
 told-requires-then-not-middle_good c =
     let at = c in
-    (omega arith, omega (arith, (near at).0, (near at).1))
+    (omega arith, omega (arith, (near (goal.at.told-requires-then-not-middle_good c).After-count_at).0, (near (goal.at.told-requires-then-not-middle_good c).After-count_at).1))
 
 pub returns-then-not-middle_good : goal.returns-then-not-middle_good
 unfolding value_refusal
@@ -60,23 +55,23 @@ returns-then-not-middle_good c =
     let at = good in
     let fixed = at in
     c.told-then-not-middle_good.ensures
-    ∙ ap (λ (n : ℕ). told bad_value (n + (start_of fixed).args.count + 1)) at.count_at.ensures
-    ∙ rw (eq-eqb _ 0 (sym fixed.fixed_wrong-fixed_at.ensures ∙ at.if-fixed_at-ne0.false), sym good.middle_good.ensures ∙ not-true _ c.if-not-middle_good.true)
+    ∙ ap (λ (n : ℕ). told bad_value (n + fixed.args.count + 1)) at.count_at.ensures
+    ∙ rw (eq-eqb _ 0 (sym fixed.fixed_wrong-fixed_at.ensures ∙ at.if-fixed_at-ne0.false), sym good.middle_good.ensures ∙ c.if-not-middle_good.true)
 
 pub overflow_add-last-then-wrong-ne0 : goal.overflow_add-last-then-wrong-ne0
 overflow_add-last-then-wrong-ne0 c =
     let at = c in
-    omega (arith, (near at).0, (near at).1, c.middle_size-size.ensures.1)
+    omega (arith, (near (goal.at.overflow_add-last-then-wrong-ne0 c).After-count_at).0, (near (goal.at.overflow_add-last-then-wrong-ne0 c).After-count_at).1, c.middle_size-size.ensures.1)
 
 pub overflow_add-last-then-wrong-ne0-2 : goal.overflow_add-last-then-wrong-ne0-2
 overflow_add-last-then-wrong-ne0-2 c =
     let at = c in
-    omega (arith, (near at).0, (near at).1, c.middle_size-size.ensures.1, (start_of at).requires.1)
+    omega (arith, (near (goal.at.overflow_add-last-then-wrong-ne0-2 c).After-count_at).0, (near (goal.at.overflow_add-last-then-wrong-ne0-2 c).After-count_at).1, c.middle_size-size.ensures.1, at.requires.1)
 
 pub told-requires-then-wrong-ne0 : goal.told-requires-then-wrong-ne0
 told-requires-then-wrong-ne0 c =
     let at = c in
-    (omega arith, omega (arith, (near at).0, (near at).1, c.middle_size-size.ensures.1, (start_of at).requires.1))
+    (omega arith, omega (arith, (near (goal.at.told-requires-then-wrong-ne0 c).After-count_at).0, (near (goal.at.told-requires-then-wrong-ne0 c).After-count_at).1, c.middle_size-size.ensures.1, at.requires.1))
 
 pub returns-then-wrong-ne0 : goal.returns-then-wrong-ne0
 unfolding value_refusal
@@ -85,10 +80,10 @@ returns-then-wrong-ne0 c =
     let else = size in
     let at = else in
     let fixed = at in
-    let a = (start_of fixed).args in
+    let a = fixed.args in
     c.told-then-wrong-ne0.ensures
     ∙ ap₂ (λ (n k : ℕ). told bad_value (n + a.count + k + a.wrong)) at.count_at.ensures size.middle_size-size.ensures.0
-    ∙ rw (eq-eqb _ 0 (sym fixed.fixed_wrong-fixed_at.ensures ∙ at.if-fixed_at-ne0.false), sym else.middle_good.ensures ∙ not-false _ else.if-not-middle_good.false, ne_eqb _ 0 size.if-wrong-ne0.true)
+    ∙ rw (eq-eqb _ 0 (sym fixed.fixed_wrong-fixed_at.ensures ∙ at.if-fixed_at-ne0.false), sym else.middle_good.ensures ∙ else.if-not-middle_good.false, ne_eqb _ 0 size.if-wrong-ne0.true)
 
 pub returns : goal.returns
 unfolding value_refusal
@@ -96,4 +91,4 @@ returns c =
     let else = c in
     let at = else in
     let fixed = at in
-    rw (eq-eqb _ 0 (sym fixed.fixed_wrong-fixed_at.ensures ∙ at.if-fixed_at-ne0.false), sym else.middle_good.ensures ∙ not-false _ else.if-not-middle_good.false, eq-eqb _ 0 c.if-wrong-ne0.false)
+    rw (eq-eqb _ 0 (sym fixed.fixed_wrong-fixed_at.ensures ∙ at.if-fixed_at-ne0.false), sym else.middle_good.ensures ∙ else.if-not-middle_good.false, eq-eqb _ 0 c.if-wrong-ne0.false)

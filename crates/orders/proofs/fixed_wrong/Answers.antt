@@ -14,7 +14,7 @@ use Prim.Native.Nat.{ℕ, ◌+◌, ◌-◌, ◌≤◌}
 use native.Mathlib.Omega.{arith}
 use lib.Dec.{eqb}
 use lib.ListN.{take, drop}
-use borrow.Author.Tests.{ne_eqb, eqb-true, not-true, not-false}
+use borrow.Author.Tests.{ne_eqb, eqb-true}
 use Rattle.orders.specs.OrderLaws.{in_new_order, in_execution, in_modify_order, in_others}
 use Rattle.orders.proofs.fixed_wrong.Goals as goal
 
@@ -96,7 +96,7 @@ returns-then-not-identifies c =
     let named = c in
     let other = named in
     let a = other.args in
-    let whole = once_named a.message _ a.f.now _ false other.if-message-eq71.false named.name_at-at.ensures named.identifies.ensures (not-true _ c.if-not-identifies.true) in
+    let whole = once_named a.message _ a.f.now _ false other.if-message-eq71.false named.name_at-at.ensures named.identifies.ensures c.if-not-identifies.true in
     ap (λ (i : ℕ). 10 + i) named.name_at-at.ensures ∙ sym whole
 
 pub new_order_rest-requires : goal.new_order_rest-requires
@@ -111,7 +111,7 @@ modify_order_rest-requires c = omega (arith, c.requires, in_modify_order _ c.in-
 pub rejection_rest-requires : goal.rejection_rest-requires
 rejection_rest-requires c =
     let start = c in
-    let r = c.in_default.rest in
+    let r = c.in_default.in_default-own.rest in
     omega (arith, start.requires, in_others _ r.0.0.0.0.1 r.0.0.0.1 r.0.0.1 r.0.1 r.1 start.if-message-eq71.false)
 
 pub returns-in-56 : goal.returns-in-56
@@ -120,7 +120,7 @@ returns-in-56 c =
     let named = c in
     let other = named in
     let a = other.args in
-    let whole = once_named a.message _ a.f.now _ true other.if-message-eq71.false named.name_at-at.ensures named.identifies.ensures (not-false _ c.if-not-identifies.false) in
+    let whole = once_named a.message _ a.f.now _ true other.if-message-eq71.false named.name_at-at.ensures named.identifies.ensures c.if-not-identifies.false in
     c.new_order_rest.ensures ∙ sym (whole ∙ rw (a-new_order _ c.in-56.is))
 
 pub returns-in-57 : goal.returns-in-57
@@ -129,7 +129,7 @@ returns-in-57 c =
     let named = c in
     let other = named in
     let a = other.args in
-    let whole = once_named a.message _ a.f.now _ true other.if-message-eq71.false named.name_at-at.ensures named.identifies.ensures (not-false _ c.if-not-identifies.false) in
+    let whole = once_named a.message _ a.f.now _ true other.if-message-eq71.false named.name_at-at.ensures named.identifies.ensures c.if-not-identifies.false in
     sym (whole ∙ rw c.in-57.is)
 
 pub returns-in-37 : goal.returns-in-37
@@ -138,7 +138,7 @@ returns-in-37 c =
     let named = c in
     let other = named in
     let a = other.args in
-    let whole = once_named a.message _ a.f.now _ true other.if-message-eq71.false named.name_at-at.ensures named.identifies.ensures (not-false _ c.if-not-identifies.false) in
+    let whole = once_named a.message _ a.f.now _ true other.if-message-eq71.false named.name_at-at.ensures named.identifies.ensures c.if-not-identifies.false in
     sym (whole ∙ rw c.in-37.is)
 
 pub returns-in-44 : goal.returns-in-44
@@ -147,7 +147,7 @@ returns-in-44 c =
     let named = c in
     let other = named in
     let a = other.args in
-    let whole = once_named a.message _ a.f.now _ true other.if-message-eq71.false named.name_at-at.ensures named.identifies.ensures (not-false _ c.if-not-identifies.false) in
+    let whole = once_named a.message _ a.f.now _ true other.if-message-eq71.false named.name_at-at.ensures named.identifies.ensures c.if-not-identifies.false in
     c.execution_rest.ensures ∙ sym (whole ∙ rw c.in-44.is)
 
 pub returns-in-58 : goal.returns-in-58
@@ -156,7 +156,7 @@ returns-in-58 c =
     let named = c in
     let other = named in
     let a = other.args in
-    let whole = once_named a.message _ a.f.now _ true other.if-message-eq71.false named.name_at-at.ensures named.identifies.ensures (not-false _ c.if-not-identifies.false) in
+    let whole = once_named a.message _ a.f.now _ true other.if-message-eq71.false named.name_at-at.ensures named.identifies.ensures c.if-not-identifies.false in
     c.modify_order_rest.ensures ∙ sym (whole ∙ rw c.in-58.is)
 
 pub returns-in_default : goal.returns-in_default
@@ -165,6 +165,6 @@ returns-in_default c =
     let named = c in
     let other = named in
     let a = other.args in
-    let whole = once_named a.message _ a.f.now _ true other.if-message-eq71.false named.name_at-at.ensures named.identifies.ensures (not-false _ c.if-not-identifies.false) in
-    let r = c.in_default.rest in
+    let whole = once_named a.message _ a.f.now _ true other.if-message-eq71.false named.name_at-at.ensures named.identifies.ensures c.if-not-identifies.false in
+    let r = c.in_default.in_default-own.rest in
     c.rejection_rest.ensures ∙ sym (whole ∙ simp (ne_eqb _ _ r.1, ne_eqb _ _ r.0.1, ne_eqb _ _ r.0.0.1, ne_eqb _ _ r.0.0.0.1, no_new_order _ r.0.0.0.0.1))

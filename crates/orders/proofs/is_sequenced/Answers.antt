@@ -12,4 +12,4 @@ returns-in-37 c =
 pub returns-in_default : goal.returns-in_default
 returns-in_default c =
     let m = c.args.message in
-    simp (ne_eqb m 0x25 (λ e. c.in_default.rest.1 (inl e)), ne_eqb m 0x2C (λ e. c.in_default.rest.1 (inr e)))
+    simp (ne_eqb m 0x25 (λ e. c.in_default.in_default-own.rest.1 (inl e)), ne_eqb m 0x2C (λ e. c.in_default.in_default-own.rest.1 (inr e)))

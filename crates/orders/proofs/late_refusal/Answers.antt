@@ -14,4 +14,4 @@ returns-in-71 c =
     rw start.in-71.is (c.purge_late.ensures ∙ sym (purge_late_is _ _ _))
 
 pub returns-in_default : goal.returns-in_default
-returns-in_default c = never_late _ _ _ _ c.in_default.rest.0.1 c.in_default.rest.1
+returns-in_default c = never_late _ _ _ _ c.in_default.in_default-own.rest.0.1 c.in_default.in_default-own.rest.1

@@ -30,4 +30,4 @@ returns-in-71 c = rw c.in-71.is
 
 pub returns-in_default : goal.returns-in_default
 unfolding most_of
-returns-in_default c = simp (ne_eqb _ _ c.in_default.rest.1, ne_eqb _ _ c.in_default.rest.0.1, ne_eqb _ _ c.in_default.rest.0.0.1, ne_eqb _ _ c.in_default.rest.0.0.0.1, ne_eqb _ _ c.in_default.rest.0.0.0.0.1, no_new_order _ c.in_default.rest.0.0.0.0.0.1)
+returns-in_default c = simp (ne_eqb _ _ c.in_default.in_default-own.rest.1, ne_eqb _ _ c.in_default.in_default-own.rest.0.1, ne_eqb _ _ c.in_default.in_default-own.rest.0.0.1, ne_eqb _ _ c.in_default.in_default-own.rest.0.0.0.1, ne_eqb _ _ c.in_default.in_default-own.rest.0.0.0.0.1, no_new_order _ c.in_default.in_default-own.rest.0.0.0.0.0.1)

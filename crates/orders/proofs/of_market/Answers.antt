@@ -24,4 +24,4 @@ returns-in-71 c =
 pub returns-in_default : goal.returns-in_default
 returns-in_default c =
     let other = ne_eqb _ _ (λ e. c.if-message-new_order_of.false (e ∙ sym c.new_order_of.ensures)) in
-    rw (other, ne_eqb _ _ c.in_default.rest.1, ne_eqb _ _ c.in_default.rest.0.1, ne_eqb _ _ c.in_default.rest.0.0.1)
+    rw (other, ne_eqb _ _ c.in_default.in_default-own.rest.1, ne_eqb _ _ c.in_default.in_default-own.rest.0.1, ne_eqb _ _ c.in_default.in_default-own.rest.0.0.1)

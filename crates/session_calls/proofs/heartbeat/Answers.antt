@@ -1,6 +1,5 @@
 -- `session_calls::heartbeat` meets its contract. Assumes nothing.
 use mathlib.Core.Path.{sym, ap, ◌∙◌}
-use borrow.Author.Tests.{not-true, not-false}
 use Rattle.session.specs.declared.Answer.{Answer}
 use Rattle.session.specs.Sessions.{is_open}
 use Rattle.session.specs.SessionLaws.{beats, no_beat}
@@ -19,7 +18,7 @@ returns-then-not-is_open c =
     let a = c.args in
     let s = a.state.now in
     let h = c.if-state-lt278.false in
-    let e = sym (ap is_open c.phase_in-phase.ensures) ∙ sym c.is_open.ensures ∙ not-true _ c.if-not-is_open.true in
+    let e = sym (ap is_open c.phase_in-phase.ensures) ∙ sym c.is_open.ensures ∙ c.if-not-is_open.true in
     let b = no_beat (session_of s) a.out.now e in
     (ap (λ (x : Answer). x.refusal) b.0 ∙ long_called s h _, b.1 ∙ long_back s h _ _)
 
@@ -28,6 +27,6 @@ returns c =
     let a = c.args in
     let s = a.state.now in
     let h = c.if-state-lt278.false in
-    let e = sym (ap is_open c.phase_in-phase.ensures) ∙ sym c.is_open.ensures ∙ not-false _ c.if-not-is_open.false in
+    let e = sym (ap is_open c.phase_in-phase.ensures) ∙ sym c.is_open.ensures ∙ c.if-not-is_open.false in
     let b = beats (session_of s) a.out.now e c.write_body.ensures in
     (ap (λ (x : Answer). x.refusal) b.0 ∙ long_called s h _, b.1 ∙ long_back s h _ _)

@@ -2,7 +2,6 @@
 use mathlib.Core.Path.{refl, sym, ap, ◌∙◌}
 use lib.ListN.{length}
 use native.Mathlib.Omega.{arith}
-use borrow.Author.Tests.{not-true, not-false}
 use Rattle.book_calls.specs.BookBytes.{book_of}
 use Rattle.session.specs.declared.Phase.TheVariants.{Asked}
 use Rattle.session.specs.Sessions.{is_closed, in_phase, login_of}
@@ -33,7 +32,7 @@ returns-then-not-is_closed c =
     let h = c.if-state-lt278.false in
     let k = c.if-given-lt87.false in
     let r = given_record (book_of s).table g in
-    let b = no_login (session_of s) r a.out.now (sym (ap is_closed c.phase_in-phase.ensures) ∙ sym c.is_closed.ensures ∙ not-true _ c.if-not-is_closed.true) in
+    let b = no_login (session_of s) r a.out.now (sym (ap is_closed c.phase_in-phase.ensures) ∙ sym c.is_closed.ensures ∙ c.if-not-is_closed.true) in
     let l = given_leaves g s h k (login_of (session_of s) r (length a.out.now)) (leaves_refused s (session_of s) (λ z. omega (arith, z)) b.0) in
     (l.0, b.1 ∙ given_back_lem g s h k _ _, l.1)
 
@@ -45,7 +44,7 @@ returns-then-refusal-ne0 c =
     let h = c.if-state-lt278.false in
     let k = c.if-given-lt87.false in
     let r = given_record (book_of s).table g in
-    let e = sym (ap is_closed c.phase_in-phase.ensures) ∙ sym c.is_closed.ensures ∙ not-false _ c.if-not-is_closed.false in
+    let e = sym (ap is_closed c.phase_in-phase.ensures) ∙ sym c.is_closed.ensures ∙ c.if-not-is_closed.false in
     let b = login-refused (session_of s) r a.out.now e c.write_given-refusal.ensures c.if-refusal-ne0.true in
     let l = given_leaves g s h k (login_of (session_of s) r (length a.out.now)) (leaves_refused s (session_of s) c.if-refusal-ne0.true b.0) in
     (l.0, b.1 ∙ given_back_lem g s h k _ _, l.1)
@@ -58,7 +57,7 @@ returns c =
     let h = c.if-state-lt278.false in
     let k = c.if-given-lt87.false in
     let r = given_record (book_of s).table g in
-    let e = sym (ap is_closed c.phase_in-phase.ensures) ∙ sym c.is_closed.ensures ∙ not-false _ c.if-not-is_closed.false in
+    let e = sym (ap is_closed c.phase_in-phase.ensures) ∙ sym c.is_closed.ensures ∙ c.if-not-is_closed.false in
     let b = logs_in_lem (session_of s) r a.out.now e c.write_given-refusal.ensures c.if-refusal-ne0.false refl in
     let l = given_leaves g s h k (login_of (session_of s) r (length a.out.now)) (leaves_stored s (in_phase Asked (session_of s)) c.set_phase.ensures b.0) in
     (l.0, b.1 ∙ given_back_lem g s h k _ _, l.1)

@@ -12,5 +12,5 @@ pub returns : goal.returns
 returns c =
     let a = c.args in
     let opened = c.open-refusal.ensures in
-    let closed = c.Closed-after.ensures in
+    let closed = c.closed_after.ensures in
     opened-there a.date a.market a.buffer.now a.state.now c.if-state-lt278.false opened.0 opened.1 opened.2 closed.0 closed.1

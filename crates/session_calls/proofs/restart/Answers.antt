@@ -12,5 +12,5 @@ pub returns : goal.returns
 returns c =
     let a = c.args in
     let restarted = c.restart-refusal.ensures in
-    let closed = c.Closed-after.ensures in
+    let closed = c.closed_after.ensures in
     restarted-there a.date a.market a.bytes.now a.state.now c.if-state-lt278.false restarted.0 restarted.1 closed.0 closed.1

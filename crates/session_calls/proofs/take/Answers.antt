@@ -3,7 +3,6 @@ use mathlib.Core.Path.{refl, sym, ap, ◌∙◌}
 use lib.ListN.{length}
 use native.Mathlib.Omega.{arith}
 use Rattle.wire.specs.Frame.{framed}
-use borrow.Author.Tests.{not-true, not-false}
 use Rattle.numbers.specs.Numbers.{patched}
 use Rattle.wire.specs.Header.{type_of}
 use Rattle.orders.specs.Shapes.{sequenced}
@@ -29,7 +28,7 @@ returns-then-not-passes c =
     let p = start.requires.1 in
     let runs = ap is_closed (sym p) ∙ start.requires.2 in
     let z = start.requires.3 in
-    let e = ap (λ (q : Phase). passes q (type_of (framed bs))) (sym p) ∙ ap (passes a.phase) (sym t) ∙ sym c.passes.ensures ∙ not-true _ c.if-not-passes.true in
+    let e = ap (λ (q : Phase). passes q (type_of (framed bs))) (sym p) ∙ ap (passes a.phase) (sym t) ∙ sym c.passes.ensures ∙ c.if-not-passes.true in
     let w = untimely (session_of s) xs bs runs z e in
     let l = leaves_refused s (session_of s) (λ k. omega (arith, k)) w.0 in
     (l.0, w.1, l.1)
@@ -46,7 +45,7 @@ returns-then-is_sequenced c =
     let p = start.requires.1 in
     let runs = ap is_closed (sym p) ∙ start.requires.2 in
     let z = start.requires.3 in
-    let e = ap (λ (q : Phase). passes q (type_of (framed bs))) (sym p) ∙ ap (passes a.phase) (sym t) ∙ sym c.passes.ensures ∙ not-false _ c.if-not-passes.false in
+    let e = ap (λ (q : Phase). passes q (type_of (framed bs))) (sym p) ∙ ap (passes a.phase) (sym t) ∙ sym c.passes.ensures ∙ c.if-not-passes.false in
     let v = ap sequenced (sym t) ∙ sym c.is_sequenced.ensures ∙ c.if-is_sequenced.true in
     let booked = c.book_message.ensures in
     let w = by_message (session_of s) xs bs runs z e v (refl, good_buffer_lem s xs bs z v start.requires.0 f booked.1) in
@@ -65,7 +64,7 @@ returns c =
     let p = start.requires.1 in
     let runs = ap is_closed (sym p) ∙ start.requires.2 in
     let z = start.requires.3 in
-    let e = ap (λ (q : Phase). passes q (type_of (framed bs))) (sym p) ∙ ap (passes a.phase) (sym t) ∙ sym c.passes.ensures ∙ not-false _ c.if-not-passes.false in
+    let e = ap (λ (q : Phase). passes q (type_of (framed bs))) (sym p) ∙ ap (passes a.phase) (sym t) ∙ sym c.passes.ensures ∙ c.if-not-passes.false in
     let v = ap sequenced (sym t) ∙ sym c.is_sequenced.ensures ∙ c.if-is_sequenced.false in
     let heard = c.hear.ensures in
     let w = by_session (session_of s) xs bs runs z e v (refl, heard.0 ∙ ap (heard_buffer (session_of s) xs) f) in

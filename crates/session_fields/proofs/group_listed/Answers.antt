@@ -8,4 +8,4 @@ pub returns : goal.returns
 unfolding group_listed
 returns c =
     let a = c.args in
-    c.Listed-in.ensures ∙ ap (λ (k : ℕ). listed_in a.p k a.r.body) c.listed_at-k.ensures
+    c.listed_in.ensures ∙ ap (λ (k : ℕ). listed_in a.p k a.r.body) c.listed_at-k.ensures

@@ -8,20 +8,18 @@ use native.Mathlib.Omega.{arith}
 use Prim.Native.Nat.{ℕ, ◌-◌}
 use mathlib.Core.Path.{◌≡◌, sym, ap, ◌∙◌}
 use Rattle.session_groups.proofs.groups_end.Goals as goal
+use Rattle.session_groups.proofs.groups_end.Goals.{After-next_group-g}
 
 -- what `next_group` answers, in the definition's terms
-size_is : (c : tie.After-next-group invariant-loop decreases-loop) → c.next_group-g.result.size ≡ next_size c.loop-i.marks (drop c.loop-i.at c.args.s.now)
+size_is : (c : After-next_group-g) → c.next_group-g.result.size ≡ next_size c.loop-i.marks (drop c.loop-i.at c.args.s.now)
 size_is c =
     let l = c in
     c.next_group-g.ensures.0 ∙ ap (next_size l.loop-i.marks) (tail_is l.args.s.now l.loop-i.at l.loop-i.invariant.inside)
 
-key_is : (c : tie.After-next-group invariant-loop decreases-loop) → c.next_group-g.result.key ≡ group_key (drop c.loop-i.at c.args.s.now)
+key_is : (c : After-next_group-g) → c.next_group-g.result.key ≡ group_key (drop c.loop-i.at c.args.s.now)
 key_is c =
     let l = c in
     c.next_group-g.ensures.1 ∙ ap group_key (tail_is l.args.s.now l.loop-i.at l.loop-i.invariant.inside)
-
-pub wide-n-requires : goal.wide-n-requires
-wide-n-requires c = tt
 
 pub loop-i-init : goal.loop-i-init
 loop-i-init c = going_first c.wide-n.result c.args.s.now
@@ -32,9 +30,6 @@ slice_bounds-next_group-count c = c.loop-i.invariant.inside
 pub slice_bounds-next_group-start : goal.slice_bounds-next_group-start
 slice_bounds-next_group-start c = c.loop-i.invariant.inside
 
-pub slice_bounds-next_group-end : goal.slice_bounds-next_group-end
-slice_bounds-next_group-end c = omega arith
-
 pub next_group-g-requires : goal.next_group-g-requires
 next_group-g-requires c = c.loop-i.invariant.places
 
@@ -42,36 +37,21 @@ pub returns-then-g-eq0 : goal.returns-then-g-eq0
 returns-then-g-eq0 c =
     let l = c in
     let g = c in
-    going_stop l.wide-n.result l.args.s.now l.loop-i.marks l.loop-i.at l.loop-i.i l.loop-i.invariant (omega arith) g.next_group-g.result.size g.next_group-g.result.key (size_is g) (key_is g) c.if-g-eq0.true
+    going_stop l.wide-n.result l.args.s.now l.loop-i.marks l.loop-i.at l.loop-i.i l.loop-i.invariant (omega arith) g.next_group-g.result.size g.next_group-g.result.key (size_is (goal.at.returns-then-g-eq0 c).After-next_group-g) (key_is (goal.at.returns-then-g-eq0 c).After-next_group-g) c.if-g-eq0.true
     ∙ ap (λ (m : ℕ). groups_from m 0 l.args.s.now (replicate 4 0)) l.wide-n.ensures.0
-
-pub wide-k-requires : goal.wide-k-requires
-wide-k-requires c = tt
-
-pub bounds-marks-k : goal.bounds-marks-k
-bounds-marks-k c = omega arith
 
 pub overflow_add-at : goal.overflow_add-at
 overflow_add-at c =
     let l = c in
     let g = c in
-    let f = going_fits l.wide-n.result l.args.s.now l.loop-i.marks l.loop-i.at l.loop-i.i l.loop-i.invariant (omega arith) g.next_group-g.result.size g.next_group-g.result.key (size_is g) (key_is g) c.if-g-eq0.false in
+    let f = going_fits l.wide-n.result l.args.s.now l.loop-i.marks l.loop-i.at l.loop-i.i l.loop-i.invariant (omega arith) g.next_group-g.result.size g.next_group-g.result.key (size_is (goal.at.overflow_add-at c).After-next_group-g) (key_is (goal.at.overflow_add-at c).After-next_group-g) c.if-g-eq0.false in
     omega (arith, f.1, l.loop-i.invariant.near, l.loop-i.invariant.turns, l.wide-n.ensures.1)
-
-pub overflow_add-i : goal.overflow_add-i
-overflow_add-i c = omega arith
-
-pub loop-i-smaller : goal.loop-i-smaller
-loop-i-smaller c = omega arith
 
 pub loop-i-preserved : goal.loop-i-preserved
 loop-i-preserved c =
     let l = c in
     let g = c in
-    going_on l.wide-n.result l.args.s.now l.loop-i.marks l.loop-i.at l.loop-i.i l.loop-i.invariant (omega arith) g.next_group-g.result.size c.wide-k.result (size_is g) (c.wide-k.ensures.0 ∙ key_is g) c.if-g-eq0.false
-
-pub overflow_add-result : goal.overflow_add-result
-overflow_add-result c = omega arith
+    going_on l.wide-n.result l.args.s.now l.loop-i.marks l.loop-i.at l.loop-i.i l.loop-i.invariant (omega arith) g.next_group-g.result.size c.wide-k.result (size_is (goal.at.loop-i-preserved c).After-next_group-g) (c.wide-k.ensures.0 ∙ key_is (goal.at.loop-i-preserved c).After-next_group-g) c.if-g-eq0.false
 
 pub returns : goal.returns
 returns c =

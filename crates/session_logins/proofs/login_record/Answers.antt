@@ -11,5 +11,5 @@ pub returns : goal.returns
 unfolding login_record
 returns c =
     let a = c.args in
-    let p = c.put_body.ensures ∙ padded_is (said_of a.table c.choice_of-resolved.result a.t3 a.acknowledgments a.executions) ∙ ap (λ (x : Choice). padded (said_of a.table x a.t3 a.acknowledgments a.executions)) c.choice_of-resolved.ensures in
+    let p = c.put_body.ensures ∙ padded_is (said_of a.table c.choice_of-resolved.result a.names a.acknowledgments a.executions) ∙ ap (λ (x : Choice). padded (said_of a.table x a.names a.acknowledgments a.executions)) c.choice_of-resolved.ensures in
     ap (λ (l : List ℕ). record { message = 0x37; unit = 0; number = 0; body = l }) p

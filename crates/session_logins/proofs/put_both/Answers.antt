@@ -32,4 +32,4 @@ returns c =
     let start = c in
     let a = start.args in
     let n = c.put_bits-n.ensures.0 in
-    puts_then a.tail.now _ (bits_part 0x25 a.acknowledgments) (bits_part 0x2C a.executions) _ (sym n) (omega (arith, n, bits_most 0x25 a.acknowledgments, bits_most 0x2C a.executions, start.requires)) c.put_bits-n.ensures.1 c.put_bits-n.ensures.1
+    puts_then a.tail.now _ (bits_part 0x25 a.acknowledgments) (bits_part 0x2C a.executions) _ (sym n) (omega (arith, n, bits_most 0x25 a.acknowledgments, bits_most 0x2C a.executions, start.requires)) c.put_bits-n.ensures.1 c.put_bits.ensures.1

@@ -53,7 +53,7 @@ loop-i-preserved c =
     let start = at-loop in
     let a = start.args in
     let d : Unit = record { 0 = 0 } in
-    let us = a.t2.units in
+    let us = a.choice.units in
     let i = at-loop.loop-i.i in
     let inv = at-loop.loop-i.invariant in
     let taken = c.loop-i-test.true in
@@ -76,4 +76,4 @@ returns c =
     let at-loop = c in
     let a = at-loop.args in
     let e : at-loop.loop-i.i ≡ a.n = omega (arith, at-loop.loop-i.invariant.0, c.loop-i-test.false) in
-    at-loop.loop-i.invariant.2 ∙ ap (λ (k : ℕ). patched a.tail.now 0 (pairs_bytes (pairs_for a.table (take k (numbers_of a.t2.units))))) e
+    at-loop.loop-i.invariant.2 ∙ ap (λ (k : ℕ). patched a.tail.now 0 (pairs_bytes (pairs_for a.table (take k (numbers_of a.choice.units))))) e

@@ -8,6 +8,7 @@ use Rattle.session_logins.proofs.Used.{none_yet, few_yet, kept_more, left_out, a
 use Rattle.session_logins.proofs.used_units.Reads as reads
 use Rattle.session_logins.proofs.used_units.Lts as lts
 use Rattle.table.proofs.Table.entry.Reads as entry_reads
+use Rattle.session_logins.proofs.used_units.Goals.{then-held-gt0, else-held-gt0}
 use Rattle.session_logins.proofs.used_units.Goals as goal
 
 pub loop-i-init : goal.loop-i-init
@@ -24,12 +25,12 @@ entry-held-requires c = tt
 
 pub bounds-units-count : goal.bounds-units-count
 bounds-units-count c =
-    let l = c.loop in
+    let l = c.loop-i in
     omega (arith, c.loop-i-test.true, few_yet c.args.table l.i l.invariant.1)
 
 pub overflow_add-count : goal.overflow_add-count
 overflow_add-count c =
-    let l = c.loop in
+    let l = c.loop-i in
     omega (arith, c.loop-i-test.true, few_yet c.args.table l.i l.invariant.1)
 
 pub overflow_add-i : goal.overflow_add-i
@@ -40,15 +41,15 @@ loop-i-smaller c = omega (arith, c.loop-i-test.true)
 
 pub loop-i-preserved : goal.loop-i-preserved
 loop-i-preserved c =
-    let l = c.loop in
+    let l = c.loop-i in
     let t = c.args.table in
     let h = c.loop-i-test.true in
     let e = ap (λ (x : Entry). x.last.0) c.entry-held.ensures in (
       omega (arith, h),
-      ⊎_elim
-          (λ w. let r = kept_more t l.i h l.invariant.1 e w.0.taken in record { many = w.2 ∙ r.many; are = w.1 ∙ r.are })
-          (λ w. let r = left_out t l.i h l.invariant.1 e w.0.left in record { many = w.2 ∙ r.many; are = w.1 ∙ r.are })
-          c.if-held-gt0.branch,
+      elim c.if-held-gt0.branch [
+        | then-held-gt0 w ↦ let r = kept_more t l.i h l.invariant.1 e w.if-held-gt0.true in record { many = w.count-is ∙ r.many; are = w.units-is ∙ r.are }
+        | else-held-gt0 w ↦ let r = left_out t l.i h l.invariant.1 e w.if-held-gt0.false in record { many = w.count-is ∙ r.many; are = w.units-is ∙ r.are }
+      ],
     )
 
 pub overflow_cast-count : goal.overflow_cast-count
@@ -59,5 +60,5 @@ chosen-requires c = tt
 
 pub returns : goal.returns
 returns c =
-    let l = c.loop in
+    let l = c.loop-i in
     c.chosen.ensures ∙ all_used c.args.table l.i (omega (arith, l.invariant.0, c.loop-i-test.false)) l.invariant.1

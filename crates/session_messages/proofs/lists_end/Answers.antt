@@ -13,4 +13,4 @@ returns-in-36 c = rw c.in-36.is c.response_end.ensures
 
 pub returns-in_default : goal.returns-in_default
 unfolding lists_end
-returns-in_default c = simp (ne_eqb _ _ c.in_default.rest.1, ne_eqb _ _ c.in_default.rest.0.1) c.pairs_end.ensures
+returns-in_default c = simp (ne_eqb _ _ c.in_default.in_default-own.rest.1, ne_eqb _ _ c.in_default.in_default-own.rest.0.1) c.pairs_end.ensures

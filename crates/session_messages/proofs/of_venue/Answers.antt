@@ -28,13 +28,13 @@ between m a b = by (eqb m 8) refl
 pub returns-in_default : goal.returns-in_default
 returns-in_default c =
     let m = c.args.message in
-    let rest = c.in_default-1.rest.1 in
+    let rest = c.in_default.in_default-own.rest.1 in
     neither m (λ e. rest (inr e)) (λ e. rest (inl e)) (λ e. omega (arith, e)) (λ e. omega (arith, e))
 
 pub returns-in_default-2 : goal.returns-in_default-2
 returns-in_default-2 c =
     let m = c.args.message in
-    let rest = c.in_default-1.rest.1 in
+    let rest = c.in_default.in_default-own.rest.1 in
     neither m (λ e. rest (inr e)) (λ e. rest (inl e)) (λ e. omega (arith, e)) (λ e. omega (arith, e))
 
 pub returns-in-36 : goal.returns-in-36
@@ -43,4 +43,4 @@ returns-in-36 c =
     ⊎_elim (λ (e : m ≡ 0x13). rw e) (λ (e : m ≡ 0x24). rw e) c.in-36.is
 
 pub returns-in-36-2 : goal.returns-in-36-2
-returns-in-36-2 c = between c.args.message c.if-message-lt8.false c.if-message-lt10.true
+returns-in-36-2 c = between c.args.message (omega arith) (omega arith)

@@ -13,7 +13,7 @@ pub returns : goal.returns
 returns c =
     let start = c in
     let a = start.args in
-    let head = c.write-header in
+    let head = c.write_header in
     let n = length-take-le a.size a.b.now start.requires.1 in
     let header = header_bytes (8 + a.size) a.message a.unit a.number in
     puts_then a.out.now _ header (take a.size a.b.now) 10 refl (omega (arith, n, start.requires.2))

@@ -12,7 +12,7 @@ returns-then-head-ne0 c =
     let unit = number in
     let type = unit in
     let start = type in
-    head_stops start.args.m.now type.type_of-message.result unit.unit_of.result number.number_of_lem.result type.type_of-message.ensures unit.unit_of.ensures number.number_of_lem.ensures head.head_refusal-head.result head.head_refusal-head.ensures c.if-head-ne0.true
+    head_stops start.args.m.now type.type_of-message.result unit.unit_of.result number.number_of.result type.type_of-message.ensures unit.unit_of.ensures number.number_of.ensures head.head_refusal-head.result head.head_refusal-head.ensures c.if-head-ne0.true
 
 pub overflow_add-fixed_size : goal.overflow_add-fixed_size
 overflow_add-fixed_size c = omega (arith, c.fixed_size.ensures, fixed_small c.type_of-message.result)
@@ -25,7 +25,7 @@ returns-then-m-fixed_size c =
     let type = unit in
     let start = type in
     c.wrong_total.ensures
-    ∙ too_short start.args.m.now type.type_of-message.result unit.unit_of.result number.number_of_lem.result type.type_of-message.ensures unit.unit_of.ensures number.number_of_lem.ensures head.head_refusal-head.result head.head_refusal-head.ensures c.if-head-ne0.false (omega (arith, c.fixed_size.ensures, c.if-m-fixed_size.true))
+    ∙ too_short start.args.m.now type.type_of-message.result unit.unit_of.result number.number_of.result type.type_of-message.ensures unit.unit_of.ensures number.number_of.ensures head.head_refusal-head.result head.head_refusal-head.ensures c.if-head-ne0.false (omega (arith, c.fixed_size.ensures, c.if-m-fixed_size.true))
 
 pub returns : goal.returns
 returns c =
@@ -34,4 +34,4 @@ returns c =
     let unit = number in
     let type = unit in
     let start = type in
-    by_body start.args.m.now type.type_of-message.result unit.unit_of.result number.number_of_lem.result type.type_of-message.ensures unit.unit_of.ensures number.number_of_lem.ensures head.head_refusal-head.result head.head_refusal-head.ensures c.if-head-ne0.false (omega (arith, c.fixed_size.ensures, c.if-m-fixed_size.false)) c.body_refusal.result c.body_refusal.ensures
+    by_body start.args.m.now type.type_of-message.result unit.unit_of.result number.number_of.result type.type_of-message.ensures unit.unit_of.ensures number.number_of.ensures head.head_refusal-head.result head.head_refusal-head.ensures c.if-head-ne0.false (omega (arith, c.fixed_size.ensures, c.if-m-fixed_size.false)) c.body_refusal.result c.body_refusal.ensures

@@ -8,13 +8,14 @@ use lib.ListN.{length}
 use Prim.Native.Nat.{◌≤◌}
 use native.Mathlib.Omega.{arith}
 use mathlib.Core.Path.{◌≡◌, sym, ap, ◌∙◌}
+use Rattle.session_messages.proofs.read_session.Goals.{Else-refusal-ne0}
 use Rattle.session_messages.proofs.read_session.Goals as goal
 
-accepts : (c : tie.Else1) → read_refusal c.args.m.now ≡ 0
+accepts : (c : Else-refusal-ne0) → read_refusal c.args.m.now ≡ 0
 accepts c = sym c.read_refusal-refusal.ensures ∙ c.if-refusal-ne0.false
 
-ten : (c : tie.Else1) → 10 ≤ length c.args.m.now
-ten c = omega (arith, (good c.args.m.now (accepts c)).there)
+ten : (c : Else-refusal-ne0) → 10 ≤ length c.args.m.now
+ten c = omega (arith, (good c.args.m.now (sym c.read_refusal-refusal.ensures ∙ c.if-refusal-ne0.false)).there)
 
 pub returns-then-refusal-ne0 : goal.returns-then-refusal-ne0
 returns-then-refusal-ne0 c =
@@ -22,15 +23,15 @@ returns-then-refusal-ne0 c =
     c.refused.ensures ∙ read_refused a.m.now c.read_refusal-refusal.result c.read_refusal-refusal.ensures c.if-refusal-ne0.true
 
 pub slice_bounds-copy-count : goal.slice_bounds-copy-count
-slice_bounds-copy-count c = ten c
+slice_bounds-copy-count c = ten (goal.at.slice_bounds-copy-count c).Else-refusal-ne0
 
 pub slice_bounds-copy-start : goal.slice_bounds-copy-start
-slice_bounds-copy-start c = ten c
+slice_bounds-copy-start c = ten (goal.at.slice_bounds-copy-start c).Else-refusal-ne0
 
 pub copy-requires : goal.copy-requires
 copy-requires c =
     let m = c.args.m.now in
-    omega (arith, ap length (tail_is m 10 (ten c)), body_small m (accepts c))
+    omega (arith, ap length (tail_is m 10 (ten (goal.at.copy-requires c).Else-refusal-ne0)), body_small m (accepts (goal.at.copy-requires c).Else-refusal-ne0))
 
 pub returns : goal.returns
 returns c =
@@ -39,4 +40,4 @@ returns c =
     let copy = type in
     let test = copy in
     let m = test.args.m.now in
-    read_accepted m (accepts test) (ten test) type.type_of.result unit.unit_of.result c.number_of_lem.result _ type.type_of.ensures unit.unit_of.ensures c.number_of_lem.ensures copy.copy.ensures
+    read_accepted m (accepts (goal.at.returns c).Else-refusal-ne0) (ten (goal.at.returns c).Else-refusal-ne0) type.type_of.result unit.unit_of.result c.number_of.result _ type.type_of.ensures unit.unit_of.ensures c.number_of.ensures copy.copy.ensures

@@ -16,24 +16,24 @@ returns-then-from-eq0 c =
 pub returns-then-s-from : goal.returns-then-s-from
 returns-then-s-from c =
     let a = c.args in
-    let p = c.pairs-end in
+    let p = c.pairs_end-from in
     no_count a.n p.result a.s.now p.ensures c.if-from-eq0.false c.if-s-from.true
 
 pub returns-then-end-eq0 : goal.returns-then-end-eq0
 returns-then-end-eq0 c =
     let tests = c in
-    let p = tests.pairs-end in
+    let p = tests.pairs_end-from in
     let a = tests.args in
-    let g = c.groups-end in
+    let g = c.groups_end-end in
     after_none p.result g.result c.if-end-eq0.true
     ∙ by_groups a.n p.result a.s.now p.ensures tests.if-from-eq0.false tests.if-s-from.false g.result g.ensures
 
 pub overflow_add-result : goal.overflow_add-result
 overflow_add-result c =
     let tests = c in
-    let p = tests.pairs-end in
+    let p = tests.pairs_end-from in
     let a = tests.args in
-    let g = c.groups-end in
+    let g = c.groups_end-end in
     let x = steady_small 160 (pairs_end a.n) (pairs_steady a.n) a.s.now p.result p.ensures in
     let y = steady_small 205 (groups_end _) (groups_steady _) _ g.result g.ensures in
     omega (arith, x, y)
@@ -41,8 +41,8 @@ overflow_add-result c =
 pub returns : goal.returns
 returns c =
     let tests = c in
-    let p = tests.pairs-end in
+    let p = tests.pairs_end-from in
     let a = tests.args in
-    let g = c.groups-end in
+    let g = c.groups_end-end in
     after_more p.result g.result c.if-end-eq0.false
     ∙ by_groups a.n p.result a.s.now p.ensures tests.if-from-eq0.false tests.if-s-from.false g.result g.ensures

@@ -33,4 +33,4 @@ returns-in-8 c = rw c.in-8.is c.reason_wrong.ensures
 
 pub returns-in_default : goal.returns-in_default
 unfolding value_fields values_wrong
-returns-in_default c = simp (ne_eqb _ _ c.in_default.rest.1, ne_eqb _ _ c.in_default.rest.0.1, ne_eqb _ _ c.in_default.rest.0.0.1)
+returns-in_default c = simp (ne_eqb _ _ c.in_default.in_default-own.rest.1, ne_eqb _ _ c.in_default.in_default-own.rest.0.1, ne_eqb _ _ c.in_default.in_default-own.rest.0.0.1)

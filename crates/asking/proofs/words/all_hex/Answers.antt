@@ -22,7 +22,7 @@ pub returns-then-not-is_hex : goal.returns-then-not-is_hex
 returns-then-not-is_hex c =
     let at = c in
     let word = at.args.word.now in
-    sym (no_hex word at.loop-i.i c.loop-i-test.true (sym c.is_hex.ensures ∙ not-true _ c.if-not-is_hex.true)) ∙ at.loop-i.invariant.1
+    sym (no_hex word at.loop-i.i c.loop-i-test.true (sym c.is_hex.ensures ∙ c.if-not-is_hex.true)) ∙ at.loop-i.invariant.1
 
 pub overflow_add-i : goal.overflow_add-i
 overflow_add-i c = omega arith
@@ -34,7 +34,7 @@ pub loop-i-preserved : goal.loop-i-preserved
 loop-i-preserved c =
     let at = c in
     let word = at.args.word.now in
-    (omega arith, sym (hex_read word at.loop-i.i c.loop-i-test.true (sym c.is_hex.ensures ∙ not-false _ c.if-not-is_hex.false)) ∙ at.loop-i.invariant.1)
+    (omega arith, sym (hex_read word at.loop-i.i c.loop-i-test.true (sym c.is_hex.ensures ∙ c.if-not-is_hex.false)) ∙ at.loop-i.invariant.1)
 
 pub returns : goal.returns
 returns c =

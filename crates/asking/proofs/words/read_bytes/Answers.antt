@@ -13,7 +13,7 @@ no_run-requires c = tt
 pub returns-then-not-is_bytes : goal.returns-then-not-is_bytes
 returns-then-not-is_bytes c =
     let a = c.args in
-    let e = sym c.is_bytes.ensures ∙ not-true _ c.if-not-is_bytes.true in
+    let e = sym c.is_bytes.ensures ∙ c.if-not-is_bytes.true in
     refused-bytes a.word.now a.out.now c.no_run.ensures (not-bytes a.word.now _ e)
 
 pub no_run-requires-then-out-n : goal.no_run-requires-then-out-n
@@ -32,7 +32,7 @@ returns c =
     let put = c in
     let a = put.args in
     let judged = put in
-    let e = sym judged.is_bytes.ensures ∙ not-false _ judged.if-not-is_bytes.false in
+    let e = sym judged.is_bytes.ensures ∙ judged.if-not-is_bytes.false in
     let room = put.if-out-n.false in
     let b = bytes-taken a.word.now a.out.now e room put.put_bytes.ensures in
     (b.0, b.1, room)

@@ -44,7 +44,7 @@ returns-then-not-is_digit c =
     let digit = c in
     let at = digit in
     let a = at.args in
-    let e = sym digit.is_digit.ensures ∙ not-true _ c.if-not-is_digit.true in
+    let e = sym digit.is_digit.ensures ∙ c.if-not-is_digit.true in
     refused_number a.word.now a.most c.no_number-then-not-is_digit.ensures
     (sym at.loop-i.invariant.2 ∙ no_digit a.most at.loop-i.value a.word.now at.loop-i.i digit.loop-i-test.true e)
 
@@ -52,7 +52,7 @@ pub overflow_sub-d : goal.overflow_sub-d
 overflow_sub-d c =
     let digit = c in
     let at = digit in
-    omega (arith, digit_from (get_or at.args.word.now at.loop-i.i 0) (sym digit.is_digit.ensures ∙ not-false _ c.if-not-is_digit.false))
+    omega (arith, digit_from (get_or at.args.word.now at.loop-i.i 0) (sym digit.is_digit.ensures ∙ c.if-not-is_digit.false))
 
 pub overflow_cast-d : goal.overflow_cast-d
 overflow_cast-d c = omega (arith, c.shared_slice_known-in-loop-i-1.given c.loop-i.i)
@@ -72,7 +72,7 @@ returns-then-d-value c =
     let d = get_or w at.loop-i.i 0 - 48 in
     let small = digit.shared_slice_known-in-loop-i-1.given at.loop-i.i in
     let fits = at.ranges.most in
-    let e = sym digit.is_digit.ensures ∙ not-false _ c.if-not-is_digit.false in
+    let e = sym digit.is_digit.ensures ∙ c.if-not-is_digit.false in
     let big : a.most < at.loop-i.value * 10 + d = omega (arith, c.if-d-value.true, small, fits) in
     refused_number w a.most c.no_number-then-d-value.ensures
     (sym at.loop-i.invariant.2
@@ -97,7 +97,7 @@ loop-i-preserved c =
     let at = digit in
     let a = at.args in
     let small = digit.shared_slice_known-in-loop-i-1.given at.loop-i.i in
-    let e = sym digit.is_digit.ensures ∙ not-false _ c.if-not-is_digit.false in
+    let e = sym digit.is_digit.ensures ∙ c.if-not-is_digit.false in
     (omega arith, omega (arith, small), sym (digit_read a.most at.loop-i.value a.word.now at.loop-i.i digit.loop-i-test.true e) ∙ at.loop-i.invariant.2)
 
 pub no_number-requires-then-most-value : goal.no_number-requires-then-most-value

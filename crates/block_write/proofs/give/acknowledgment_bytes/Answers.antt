@@ -27,7 +27,7 @@ returns c =
     let first = second in
     let a = first.args in
     ended 0x25 a.count a.bits.now a.layout.now (all_places - 40) 40 refl _
-    ∙ fourth.give_next-a.ensures.0
+    ∙ fourth.give_next.ensures.0
     ∙ passed 0x25 a.count a.bits.now a.layout.now 8 24 refl (all_places - 32) _
     ∙ third.give_next-c.ensures.0
     ∙ second.give_next-b.ensures.0

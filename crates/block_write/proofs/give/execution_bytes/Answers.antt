@@ -17,6 +17,6 @@ returns c =
     let first = second in
     let a = first.args in
     ended 0x2C a.count a.bits.now a.layout.now (all_places - 24) 24 refl _
-    ∙ third.give_next-a.ensures.0
+    ∙ third.give_next.ensures.0
     ∙ second.give_next-b.ensures.0
     ∙ first.give_next-a.ensures.0

@@ -37,7 +37,7 @@ returns c =
     let first = second in
     let a = first.args in
     ended 0x38 a.count a.bits.now a.layout.now (all_places - 80) 80 refl _
-    ∙ fifth.give_next-a.ensures.0
+    ∙ fifth.give_next.ensures.0
     ∙ passed 0x38 a.count a.bits.now a.layout.now 24 48 refl (all_places - 72) _
     ∙ fourth.give_next-d.ensures.0
     ∙ passed 0x38 a.count a.bits.now a.layout.now 16 24 refl (all_places - 40) _

@@ -6,13 +6,14 @@ use lib.ListN.{length}
 use native.Mathlib.Omega.{arith}
 use borrow.Author.Rules.{rules}
 use Rattle.block.specs.Sizes.{fixed_size}
+use Rattle.order_fields.proofs.reading.text1_fixed.Goals.{Start}
 use Rattle.order_fields.proofs.reading.text1_fixed.Goals as goal
 
-fixed-length : (c : tie.Start) → length c.args.r.fixed ≡ fixed_size
+fixed-length : (c : Start) → length c.args.r.fixed ≡ fixed_size
 fixed-length c = search rules
 
 pub text1_in-requires : goal.text1_in-requires
-text1_in-requires c = omega (arith, c.fixed.ensures.1, fixed-length c)
+text1_in-requires c = omega (arith, c.fixed.ensures.1, fixed-length (goal.at.text1_in-requires c).Start)
 
 pub returns : goal.returns
 returns c = c.text1_in.ensures ∙ ap (λ (f : Found). text1_in f c.args.r.fixed) c.fixed.ensures.0

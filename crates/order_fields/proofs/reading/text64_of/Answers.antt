@@ -6,13 +6,14 @@ use lib.ListN.{length}
 use native.Mathlib.Omega.{arith}
 use borrow.Author.Rules.{rules}
 use Rattle.block.specs.Sizes.{layout_size}
+use Rattle.order_fields.proofs.reading.text64_of.Goals.{Start}
 use Rattle.order_fields.proofs.reading.text64_of.Goals as goal
 
-slots_length : (c : tie.Start) → length c.args.r.slots ≡ layout_size
+slots_length : (c : Start) → length c.args.r.slots ≡ layout_size
 slots_length c = search rules
 
 pub text64_in-requires : goal.text64_in-requires
-text64_in-requires c = omega (arith, c.optional.ensures.1, slots_length c)
+text64_in-requires c = omega (arith, c.optional.ensures.1, slots_length (goal.at.text64_in-requires c).Start)
 
 pub returns : goal.returns
 returns c = c.text64_in.ensures ∙ ap (λ (f : Found). text64_in f c.args.r.slots) c.optional.ensures.0

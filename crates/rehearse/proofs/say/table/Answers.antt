@@ -1,10 +1,6 @@
 -- `rehearse::say::table` is safe and ends: `unit` runs from 1 to 33, and the measure is what is left of it. Assumes nothing.
-use Rattle.std.proofs.Common.{◌-◌, arith, rules}
+use Rattle.std.proofs.Common.{◌-◌, arith}
 use Rattle.rehearse.proofs.say.table.Goals as goal
-
--- LEFT
--- slice-aggregate-text : tie.Need-slice-aggregate-text invariant-loop decreases-loop
--- slice-aggregate-text c = search rules
 
 pub loop-unit-init : goal.loop-unit-init
 loop-unit-init c = omega arith

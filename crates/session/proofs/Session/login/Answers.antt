@@ -9,14 +9,14 @@ returns-then-refusal-ne0 c =
     let wrote = c in
     let then = wrote in
     let a = then.args in
-    login-refused a.self (login_record a.self.book-1.table a.choice a.names a.acknowledgments a.executions) a.out.now (sym then.is_closed.ensures ∙ then.if-is_closed.true) wrote.write_login-refusal.ensures c.if-refusal-ne0.true
+    login-refused a.self (login_record a.self.book.table a.choice a.names a.acknowledgments a.executions) a.out.now (sym then.is_closed.ensures ∙ then.if-is_closed.true) wrote.write_login-refusal.ensures c.if-refusal-ne0.true
 
 pub returns-then-is_closed : goal.returns-then-is_closed
 returns-then-is_closed c =
     let wrote = c in
     let then = wrote in
     let a = then.args in
-    logs_in_lem a.self (login_record a.self.book-1.table a.choice a.names a.acknowledgments a.executions) a.out.now (sym then.is_closed.ensures ∙ then.if-is_closed.true) wrote.write_login-refusal.ensures c.if-refusal-ne0.false c.in_phase-s.ensures
+    logs_in_lem a.self (login_record a.self.book.table a.choice a.names a.acknowledgments a.executions) a.out.now (sym then.is_closed.ensures ∙ then.if-is_closed.true) wrote.write_login-refusal.ensures c.if-refusal-ne0.false c.in_phase-s.ensures
 
 pub returns : goal.returns
 returns c =

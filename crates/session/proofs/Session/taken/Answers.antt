@@ -6,7 +6,6 @@ use Rattle.session.specs.Sessions.{passes}
 use Rattle.session.specs.SessionLaws.{untimely, by_message, by_session}
 use mathlib.Core.Path.{sym, ap, ◌∙◌}
 use lib.ListN.{length}
-use borrow.Author.Tests.{not-true, not-false}
 use Rattle.session.proofs.Session.taken.Goals as goal
 
 pub returns-then-not-passes : goal.returns-then-not-passes
@@ -17,7 +16,7 @@ returns-then-not-passes c =
     let start = framed in
     let a = start.args in
     let t = typed.type_of-message.ensures ∙ ap type_of framed.frame-m.ensures in
-    untimely a.self a.buffer.now a.bytes.now start.requires.0 start.requires.1 (ap (passes a.self.phase) (sym t) ∙ sym passed.passes.ensures ∙ not-true _ c.if-not-passes.true)
+    untimely a.self a.buffer.now a.bytes.now start.requires.0 start.requires.1 (ap (passes a.self.phase) (sym t) ∙ sym passed.passes.ensures ∙ c.if-not-passes.true)
 
 pub append_read-requires : goal.append_read-requires
 append_read-requires c =
@@ -42,7 +41,7 @@ returns-then-is_sequenced c =
     let start = framed in
     let a = start.args in
     let t = typed.type_of-message.ensures ∙ ap type_of framed.frame-m.ensures in
-    by_message a.self a.buffer.now a.bytes.now start.requires.0 start.requires.1 (ap (passes a.self.phase) (sym t) ∙ sym passed.passes.ensures ∙ not-false _ other.if-not-passes.false)
+    by_message a.self a.buffer.now a.bytes.now start.requires.0 start.requires.1 (ap (passes a.self.phase) (sym t) ∙ sym passed.passes.ensures ∙ other.if-not-passes.false)
     (ap sequenced (sym t) ∙ sym then.is_sequenced.ensures ∙ then.if-is_sequenced.true) told.append_read.ensures
 
 pub returns : goal.returns
@@ -56,6 +55,6 @@ returns c =
     let start = framed in
     let a = start.args in
     let t = typed.type_of-message.ensures ∙ ap type_of framed.frame-m.ensures in
-    by_session a.self a.buffer.now a.bytes.now start.requires.0 start.requires.1 (ap (passes a.self.phase) (sym t) ∙ sym passed.passes.ensures ∙ not-false _ other.if-not-passes.false)
+    by_session a.self a.buffer.now a.bytes.now start.requires.0 start.requires.1 (ap (passes a.self.phase) (sym t) ∙ sym passed.passes.ensures ∙ other.if-not-passes.false)
     (ap sequenced (sym t) ∙ sym else.is_sequenced.ensures ∙ else.if-is_sequenced.false)
     (told.heard-s.ensures.0 ∙ ap (heard_by a.self (length a.buffer.now)) framed.frame-m.ensures, told.heard-s.ensures.1 ∙ ap (heard_buffer a.self a.buffer.now) framed.frame-m.ensures)

@@ -24,7 +24,7 @@ loop-i-smaller c = omega (arith, c.loop-i-test.true)
 
 pub loop-i-preserved : goal.loop-i-preserved
 loop-i-preserved c =
-    let l = c.loop in
+    let l = c.loop-i in
     (omega (arith, c.loop-i-test.true), choose-more _ l.units l.i c.loop-i-test.true l.invariant.1 c.byte_at.ensures)
 
 pub byte_at-requires-2 : goal.byte_at-requires-2
@@ -39,5 +39,5 @@ byte_at-requires-4 c = tt
 pub returns : goal.returns
 returns c =
     let ended = c in
-    let l = ended.loop in
+    let l = ended.loop-i in
     choice_is c.args.given.now l.units l.i ended.loop-i-test.false l.invariant.1 c.byte_at-2.ensures c.byte_at-3.ensures c.byte_at-4.ensures

@@ -10,9 +10,10 @@ use Rattle.block.specs.Slots.{zeros}
 use Rattle.session_fields.proofs.Lifts.{lift_there}
 use Rattle.session_fields.specs.SessionFields.{text1_of}
 use borrow.Author.Rules.{rules}
+use Rattle.session_fields.proofs.fixed.text1_of.Goals.{Start}
 use Rattle.session_fields.proofs.fixed.text1_of.Goals as goal
 
-body-length : (c : tie.Start) → length c.args.r.body ≡ 433
+body-length : (c : Start) → length c.args.r.body ≡ 433
 body-length c = search rules
 
 pub returns-then-r-message : goal.returns-then-r-message
@@ -21,7 +22,7 @@ returns-then-r-message c =
     let start = c in
     let a = start.args in
     rw (eq-eqb _ _ c.if-r-message.true)
-    (ap (λ (b : List ℕ). record { selected = true; bytes = b }) (c.lift.ensures ∙ lift_there a.at a.r.body (zeros 1) (omega (arith, start.ranges.at, body-length start))))
+    (ap (λ (b : List ℕ). record { selected = true; bytes = b }) (c.lift.ensures ∙ lift_there a.at a.r.body (zeros 1) (omega (arith, start.ranges.at, body-length (goal.at.returns-then-r-message c).Start))))
 
 pub returns : goal.returns
 unfolding text1_of

@@ -1,12 +1,7 @@
 -- `venue::answers::put_status` meets its contract. Assumes nothing.
 use mathlib.Core.Path.{ap, ◌∙◌}
 use Rattle.numbers.specs.Numbers.{patched}
-use borrow.Author.Rules.{rules}
 use Rattle.venue.proofs.answers.put_status.Goals as goal
-
--- LEFT
--- slice-aggregate-copy-3 : tie.Need-slice-aggregate-copy-3
--- slice-aggregate-copy-3 c = search rules
 
 pub returns : goal.returns
 unfolding patched

@@ -34,7 +34,7 @@ loop-i-smaller c = omega (arith, c.loop-i-test.true)
 
 pub loop-i-preserved : goal.loop-i-preserved
 loop-i-preserved c =
-    let l = c.loop in
+    let l = c.loop-i in
     (omega (arith, c.loop-i-test.true), fill_more (asked_above c.args.r) l.i c.loop-i-test.true l.invariant.1 c.threshold-number.ensures)
 
 pub returns : goal.returns

@@ -7,7 +7,7 @@ use Rattle.venue_calls.proofs.bytes.store_thresholds.Goals as goal
 
 pub loop-i-init : goal.loop-i-init
 loop-i-init c =
-    (omega arith, refl, wants-start c.args.state.now c.args.t1.numbers c.requires)
+    (omega arith, refl, wants-start c.args.state.now c.args.t.numbers c.requires)
 
 pub offset_bounds-t-i : goal.offset_bounds-t-i
 offset_bounds-t-i c = omega arith
@@ -30,11 +30,11 @@ loop-i-smaller c = omega arith
 pub loop-i-preserved : goal.loop-i-preserved
 loop-i-preserved c =
     let start = c in
-    let l = c.loop in
-    let w = c.write-u32 in (
+    let l = c.loop-i in
+    let w = c.write_u32 in (
       omega arith,
       w.auto.0 ∙ l.invariant.1,
-      w.ensures.1 ∙ wants_go_on start.args.state.now start.args.t1.numbers start.requires l.i (omega arith) (omega arith) l.invariant.2,
+      w.ensures.1 ∙ wants_go_on start.args.state.now start.args.t.numbers start.requires l.i (omega arith) (omega arith) l.invariant.2,
     )
 
 pub shape_of-state : goal.shape_of-state
@@ -42,6 +42,6 @@ shape_of-state c = c.loop-i.invariant.1
 
 pub returns : goal.returns
 returns c =
-    let l = c.loop in
+    let l = c.loop-i in
     let start = c in
-    wants_end start.args.state.now start.args.t1.numbers start.requires l.i l.invariant.0 c.loop-i-test.false l.invariant.2
+    wants_end start.args.state.now start.args.t.numbers start.requires l.i l.invariant.0 c.loop-i-test.false l.invariant.2

@@ -31,7 +31,7 @@ loop-i-smaller c = omega (arith, c.loop-i-test.true)
 pub loop-i-preserved : goal.loop-i-preserved
 loop-i-preserved c =
     let turn = c in
-    let l = turn.loop in
+    let l = turn.loop-i in
     (omega (arith, turn.loop-i-test.true), wants-more turn.args.state.now l.i turn.loop-i-test.true l.invariant.1 c.read_u32-number.ensures)
 
 pub returns : goal.returns
