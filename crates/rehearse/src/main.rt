@@ -1,5 +1,6 @@
 // A rehearsal of one trading day: our gateway's session against the bench venue, told row by row. Every answer is one of the proved core.
 #![tactic(auto)]
+
 mod acts;
 mod bench;
 mod forms;

@@ -1,5 +1,6 @@
 // Answers the scripts on standard input, one line each, in the format that second/README.md gives: the questions that keep a state.
 #![tactic(auto)]
+
 mod answers;
 mod asked;
 mod members;

@@ -1,5 +1,6 @@
 // Answers the questions on standard input, one line each, in the format that second/README.md gives.
 #![tactic(auto)]
+
 mod answers;
 mod books;
 

@@ -8,6 +8,7 @@ use native.Mathlib.Omega.{arith}
 use lib.ListN.{length, drop, drop_of_length-le}
 use Rattle.asking.specs.Words.{words_of}
 use Rattle.asking.specs.WordLaws.{space_counts, other_counts, no_more_words}
+use Rattle.asking.proofs.words.count.Goals.{then-line-i-eq32, else-line-i-eq32}
 use Rattle.asking.proofs.words.count.Goals as goal
 
 pub loop-i-init : goal.loop-i-init
@@ -31,10 +32,10 @@ loop-i-preserved c =
     let line = at.args.line.now in
     let i = at.loop-i.i in
     let l = c.loop-i-test.true in
-    ⊎_elim
-    (λ w. (omega arith, omega arith, omega (arith, w.1, at.loop-i.invariant.2, space_counts line i l w.0.taken)))
-    (λ w. (omega arith, omega arith, omega (arith, w.1, at.loop-i.invariant.2, other_counts line i l w.0.left)))
-    c.if-line-i-eq32.branch
+    elim c.if-line-i-eq32.branch [
+      | then-line-i-eq32 w ↦ (omega arith, omega arith, omega (arith, w.n-is, at.loop-i.invariant.2, space_counts line i l w.if-line-i-eq32.true))
+      | else-line-i-eq32 w ↦ (omega arith, omega arith, omega (arith, w.n-is, at.loop-i.invariant.2, other_counts line i l w.if-line-i-eq32.false))
+    ]
 
 pub returns : goal.returns
 returns c =

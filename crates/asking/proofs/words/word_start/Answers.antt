@@ -8,6 +8,7 @@ use native.Mathlib.Omega.{arith}
 use lib.ListN.{drop, drop_of_length-le}
 use Rattle.asking.specs.Words.{word_of}
 use Rattle.asking.specs.WordLaws.{space_passed, other_passed, nothing_left}
+use Rattle.asking.proofs.words.word_start.Goals.{then-line-i-eq32, else-line-i-eq32}
 use Rattle.asking.proofs.words.word_start.Goals as goal
 
 pub loop-i-init : goal.loop-i-init
@@ -39,12 +40,12 @@ loop-i-preserved c =
     let left = at.loop-i.left in
     let l = c.loop-i-test.true in
     let some = c.if-left-eq0.false in
-    ⊎_elim
-    (λ w.
-    let one : left - 1 + 1 ≡ left = omega (arith, some) in
-    (omega arith, ap (λ (n : ℕ). word_of n (drop (i + 1) line)) w.1 ∙ sym (space_passed line i l w.0.taken (left - 1)) ∙ ap (λ (n : ℕ). word_of n (drop i line)) one ∙ at.loop-i.invariant.1))
-    (λ w. (omega arith, ap (λ (n : ℕ). word_of n (drop (i + 1) line)) w.1 ∙ sym (other_passed line i l w.0.left left (omega (arith, some))) ∙ at.loop-i.invariant.1))
-    c.if-line-i-eq32.branch
+    elim c.if-line-i-eq32.branch [
+      | then-line-i-eq32 w ↦
+          let one : left - 1 + 1 ≡ left = omega (arith, some) in
+          (omega arith, ap (λ (n : ℕ). word_of n (drop (i + 1) line)) w.left-is ∙ sym (space_passed line i l w.if-line-i-eq32.true (left - 1)) ∙ ap (λ (n : ℕ). word_of n (drop i line)) one ∙ at.loop-i.invariant.1)
+      | else-line-i-eq32 w ↦ (omega arith, ap (λ (n : ℕ). word_of n (drop (i + 1) line)) w.left-is ∙ sym (other_passed line i l w.if-line-i-eq32.false left (omega (arith, some))) ∙ at.loop-i.invariant.1)
+    ]
 
 pub returns : goal.returns
 returns c =

@@ -33,7 +33,7 @@ loop-i-preserved c =
     let l = c.loop-i in
     let w = c.write_u32 in (
       omega arith,
-      w.auto.0 ∙ l.invariant.1,
+      w.auto.out ∙ l.invariant.1,
       w.ensures.1 ∙ wants_go_on start.args.state.now start.args.t.numbers start.requires l.i (omega arith) (omega arith) l.invariant.2,
     )
 
