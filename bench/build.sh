@@ -7,7 +7,7 @@ fail() { say "FAILED: $*"; exit 1; }
 # ---- the kit's compiler, which also compiles the proved code, and the linker beside it
 rt=$(command -v rt) || fail "rt is not on the PATH"
 kit=${RATTLE_HOME:-$(dirname "$(readlink -f "$rt")")/..}
-tools=$kit/on/$(uname -m)/toolchain/bin
+tools=$kit/toolchain/bin
 for tool in clang ld.lld; do
     [ -x "$tools/$tool" ] || fail "the kit of rt has no $tool for this machine"
 done
@@ -31,8 +31,8 @@ made=$(mktemp -d)
 trap 'rm -rf "$made"' EXIT
 
 # ---- the program: the proved library, the baseline at -O3, and the driver
-# the gate, which has just built it, says so: two rt in one folder would write over each other's notes
-[ "${LIBRARY:-}" = built ] || rt staticlib gateway >"$made/staticlib" 2>&1 || { cat "$made/staticlib"; fail "rt staticlib gateway"; }
+# the gate has just built it, and says so
+[ "${BUILT:-}" = ci ] || c/library gateway >"$made/library" 2>&1 || { cat "$made/library"; fail "c/library gateway"; }
 objects=()
 compile() { # NAME FLAG..
     local name=$1

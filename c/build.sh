@@ -21,7 +21,7 @@ made=$(mktemp -d)
 trap 'rm -rf "$made"' EXIT
 
 library=target/staticlib/libgateway.a
-[ -f "$library" ] || [ "$test" = install ] || rt staticlib gateway >"$made/log" 2>&1 || { cat "$made/log"; fail "rt staticlib gateway"; }
+[ -f "$library" ] || [ "$test" = install ] || c/library gateway >"$made/log" 2>&1 || { cat "$made/log"; fail "c/library gateway"; }
 
 build() { # PROGRAM SOURCE.. [FLAG..]: builds it in $made
     local program=$1

@@ -15,7 +15,7 @@
  * A gateway makes the calls of the session, boe_session_*: the day's promises are theirs. The calls of the book, boe_book_* and boe_restart, are for a
  * gateway that has a session of its own. The calls of the bench venue, boe_venue_*, are a venue to try a gateway against.
  *
- * Link libgateway.a (`rt staticlib gateway` writes it to target/staticlib/); it is x86-64 code. */
+ * Link libgateway.a (`c/library gateway` writes it to target/staticlib/); it is x86-64 code. */
 #ifndef BOE_H
 #define BOE_H
 
