@@ -1,23 +1,21 @@
--- The worked examples of document 01, as one table: what the definitions answer beside what the document says, and the one proof that
--- the two columns are the same. Assumes nothing.
-use Rattle.std.specs.Prelude.{◌≡◌, refl, Bool, cond, List, [], ◌∷◌, ◌++◌, map, ℕ, suc, ◌+◌, ◌-◌, ◌*◌, ℤ, pos, negsuc, length, take, drop}
+-- The worked examples of document 01, as one table: what the definitions answer beside what the document says. The one proof that the two
+-- columns are the same stands in proofs/ExamplesHold.antt. Assumes nothing.
+use Rattle.std.specs.Prelude.{Bool, cond, List, [], ◌∷◌, ◌++◌, ℕ, suc, ◌+◌, ◌-◌, ◌*◌, ℤ, pos, negsuc, length, take, drop}
 use Rattle.refusals.specs.Told.{number_in}
 use Rattle.numbers.specs.Numbers.{number_at}
 use Rattle.numbers.specs.Prices.{price_at}
-use Rattle.wire.specs.Header.{length_of, total_of, type_of, number_of}
-use Rattle.wire.specs.Frame.{not_ba, starts_bad, length_bad, cut_short, frame_refusal, framed}
-use Rattle.table.specs.Table.{unit_refusal, entry_refusal, entry_of, zero_table, step_refusal, step_of}
-use Rattle.pulse.specs.Pulse.{elapsed_of, heartbeat_due}
+use Rattle.wire.specs.Header.{total_of, type_of}
+use Rattle.wire.specs.Frame.{frame_refusal}
+use Rattle.table.specs.Table.{zero_table, step_of}
+use Rattle.pulse.specs.Pulse.{heartbeat_due}
 use Rattle.dictionary.specs.Dictionary as dictionary
 use Rattle.block.specs.Slots.{zeros, Slot, takes, width, sum}
-use Rattle.block.specs.Places.{selected_at, entry_at, slots_from, slots_of, has_required}
-use Rattle.orders.specs.Shapes.{count_at, most_of, unit_good, fixed_good}
-use Rattle.orders.specs.Middle as middles
-use Rattle.orders.specs.Late as lates
+use Rattle.block.specs.Places.{slots_of}
+use Rattle.orders.specs.Shapes.{count_at}
 use Rattle.orders.specs.Orders as orders
 use Rattle.session_groups.specs.Groups as groups
 use Rattle.session_messages.specs.Sessions as sessions
-use Rattle.messages.specs.Messages.{carries, session_record_bytes, own_refusal, record_of, read_refusal}
+use Rattle.messages.specs.Messages.{record_of, read_refusal}
 
 -- a line of the table: the example's number, what the definitions answer, what document 01 says
 pub record Example : Type 0 where
@@ -149,8 +147,3 @@ examples =
     ∷ example 14 (first_pair (drop (10 + sessions.fixed_size 0x37) login)) unit_one
     ∷ example 14 (first_pair (drop (6 + sessions.fixed_size 0x37) (record_of login))) unit_one
     ∷ []
-
--- every example is answered as document 01 states it
-pub examples_hold : map (λ (e : Example). e.answered) examples ≡ map (λ (e : Example). e.stated) examples
-unfolding length_of total_of not_ba starts_bad length_bad cut_short frame_refusal unit_refusal entry_refusal entry_of step_refusal step_of elapsed_of heartbeat_due framed carries read_refusal orders.read_refusal orders.head_refusal orders.block_refusal orders.body_refusal orders.rest_of middles.middle_size middles.middle_good lates.lacks lates.conflicts lates.late_refusal orders.bits_of orders.optional_of orders.fixed_of orders.layout_of orders.record_of number_of count_at most_of unit_good fixed_good selected_at entry_at dictionary.entry_of slots_from has_required own_refusal record_of session_record_bytes sessions.read_refusal sessions.fixed_size sessions.values_good sessions.flag_good sessions.lists_end sessions.body_end sessions.body_of groups.units_from groups.pairs_good groups.bits_good groups.group_key groups.group_size groups.next_size groups.groups_from
-examples_hold = refl
