@@ -1,14 +1,12 @@
 -- What is true of a question's words: what one byte more of a line, of a number or of hex digits does. Assumes nothing.
-use Rattle.std.specs.Prelude.{◌≡◌, refl, Bool, true, false, cond, ◌&&◌, ◌||◌, ◌⊎◌, ℕ, zero, suc, ◌+◌, ◌-◌, ◌*◌, ◌/◌, ◌%◌, ◌≤◌, ◌<◌, eqb, leb, length, take, drop}
+use Rattle.std.specs.Prelude.{◌≡◌, refl, Bool, true, false, ◌&&◌, ◌||◌, ◌⊎◌, ℕ, zero, suc, ◌+◌, ◌-◌, ◌*◌, ◌/◌, ◌%◌, ◌≤◌, ◌<◌, eqb, leb, length, take, drop}
 use Rattle.std.proofs.Common.{sym, ap₂, ◌∙◌, true≢false, inl, inr, ⊎_elim, add-one, arith, length-drop, drop-cons, take_all, eq-eqb, ne_eqb, le-leb, leb-true}
 use Rattle.std.proofs.Math.Path.{ap}
 use mathlib.Core.List.{List, [], ◌∷◌}
 use Rattle.std.proofs.Math.ListN.{get_or}
 use Rattle.std.proofs.lemmas.Bool.{lt-leb}
-use Rattle.numbers.specs.Numbers.{patched}
 use Rattle.asking.specs.declared.words.Number.{Number}
-use Rattle.asking.specs.declared.words.Run.{Run}
-use Rattle.asking.specs.Words.{cut, words_of, word_of, is_digit, all_digits, decimal_from, is_number, numbered, number_of, is_hex, nibble_of, all_hex, bytes_in, is_bytes, fits, ran, run_of, run_buffer}
+use Rattle.asking.specs.Words.{cut, words_of, word_of, is_digit, all_digits, decimal_from, is_number, numbered, number_of, is_hex, nibble_of, all_hex, bytes_in, is_bytes, fits}
 
 -- what is left at a place is its byte and what is left after it
 pub next_byte : (s : List ℕ) (i : ℕ) → i < length s → drop i s ≡ get_or s i 0 ∷ drop (i + 1) s
@@ -255,15 +253,7 @@ pub even_word : (w : List ℕ) → 2 ≤ length w → length w % 2 ≡ 0 → is_
 unfolding is_bytes
 even_word w h e = rw (ne_eqb (length w) 1 (λ x. omega arith), le-leb 1 (length w) (omega arith), eq-eqb (length w % 2) 0 e)
 
--- a refused word stores nothing
-pub no_bytes : (w out : List ℕ) → fits w (length out) ≡ false → (ran false 0 ≡ run_of w (length out)) × (out ≡ run_buffer w out)
-unfolding run_of run_buffer
-no_bytes w out e = (rw e, rw e)
-
--- as the code has it
-pub refused-bytes : (w out : List ℕ) {r : Run} → r ≡ ran false 0 → fits w (length out) ≡ false → (r ≡ run_of w (length out)) × (out ≡ run_buffer w out) × (r.count ≤ length out)
-refused-bytes w out {r} e n = let b = no_bytes w out n in (e ∙ b.0, b.1, omega (arith, ap (λ (x : Run). x.count) e))
-
+-- what refuses a word, as the code tests it
 pub not-bytes : (w : List ℕ) (room : ℕ) → is_bytes w ≡ false → fits w room ≡ false
 unfolding fits
 not-bytes w room e = rw e
@@ -271,14 +261,3 @@ not-bytes w room e = rw e
 pub no_room : (w : List ℕ) (room : ℕ) → room < length w / 2 → fits w room ≡ false
 unfolding fits
 no_room w room h = rw (lt-leb (length w / 2) room h, never)
-
--- REFUSED CHANGES NOTHING: where the answer is no, the buffer is as it was
-pub refused_changes_nothing : (w out : List ℕ) → (run_of w (length out)).ok ≡ false → run_buffer w out ≡ out
-unfolding run_of
-refused_changes_nothing w out e = sym (no_bytes w out e).1
-
--- and a taken one all its bytes
-pub bytes-taken : (w out : List ℕ) {out' : List ℕ} → is_bytes w ≡ true → length w / 2 ≤ length out → out' ≡ patched out 0 (bytes_in w)
-    → (ran true (length w / 2) ≡ run_of w (length out)) × (out' ≡ run_buffer w out)
-unfolding fits run_of run_buffer
-bytes-taken w out e h p = (rw (e, le-leb (length w / 2) (length out) h), rw (e, le-leb (length w / 2) (length out) h) p)

@@ -170,6 +170,7 @@ fn all_hex(word: &[u8]) -> bool
 }
 
 // Whether a word stands for bytes: two hex digits a byte, or `-` for none.
+#[tactic(auto, using(crate::specs::WordLaws::odd_word, crate::specs::WordLaws::even_word))]
 fn is_bytes(word: &[u8]) -> bool
     ensures { result ≡ is_bytes word.now }
 {

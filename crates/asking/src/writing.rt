@@ -4,51 +4,48 @@ ghost use Rattle.std.specs.Prelude.{◌≡◌, ◌+◌, ◌*◌, ◌≤◌, ◌<
 ghost use Rattle.numbers.specs.Numbers.{patched};
 ghost use Rattle.asking.specs.Spelling.{capital, hex_of, decimals_of};
 
-use libc::STDOUT_FILENO;
+use std::io;
 
 // Bytes as they are.
-pub fn text(s: &[u8]) {
-    io::write_all(STDOUT_FILENO, s);
+pub fn text(rt: &impl Print, s: &[u8]) -> io::Result<()> {
+    rt.write_all(s)
 }
 
 // The end of an answer.
-pub fn line_end() {
-    text(b"\n");
+pub fn line_end(rt: &impl Print) -> io::Result<()> {
+    text(rt, b"\n")
 }
 
 // The answer to a line that is no question.
-pub fn unknown() {
-    text(b"?\n");
+pub fn unknown(rt: &impl Print) -> io::Result<()> {
+    text(rt, b"?\n")
 }
 
 // A number in decimal digits.
-pub fn decimal(n: u64) {
-    io::print_decimal(STDOUT_FILENO, n);
+pub fn decimal(rt: &impl Print, n: u64) -> io::Result<()> {
+    rt.print(n)
 }
 
 // A space and a number.
-pub fn next_decimal(n: u64) {
-    text(b" ");
-    decimal(n);
+pub fn next_decimal(rt: &impl Print, n: u64) -> io::Result<()> {
+    text(rt, b" ")?;
+    decimal(rt, n)
 }
 
 // A refusal: its number, and after an @ its place where it has one.
-pub fn refusal(r: u32) {
-    decimal(refusals::number_in(r) as u64);
+pub fn refusal(rt: &impl Print, r: u32) -> io::Result<()> {
+    decimal(rt, refusals::number_in(r) as u64)?;
     let place = refusals::place_in(r);
     if place != 0 {
-        text(b"@");
-        decimal(place as u64);
+        text(rt, b"@")?;
+        decimal(rt, place as u64)?;
     }
+    Ok(())
 }
 
 // 1 for yes and 0 for no.
-pub fn yes_or_no(yes: bool) {
-    if yes {
-        text(b"1");
-    } else {
-        text(b"0");
-    }
+pub fn yes_or_no(rt: &impl Print, yes: bool) -> io::Result<()> {
+    if yes { text(rt, b"1") } else { text(rt, b"0") }
 }
 
 // A capital hex digit.
@@ -77,13 +74,13 @@ fn spell(s: &[u8], out: &mut [u8])
 }
 
 // The digits of at most 4,096 bytes.
-fn part(s: &[u8])
+fn part(rt: &impl Print, s: &[u8]) -> io::Result<()>
     requires { length s.now ≤ 4096 }
 {
     let mut out = [0u8; 8192];
     spell(s, &mut out);
     let n = 2 * s.len();
-    text(&out[0..n]);
+    text(rt, &out[0..n])
 }
 
 // Where the part of 4,096 bytes that starts at a place ends, or the bytes themselves.
@@ -98,27 +95,27 @@ fn part_end(at: usize, all: usize) -> usize
 }
 
 // Bytes in capital hex, `-` for none.
-pub fn hex(s: &[u8]) {
+pub fn hex(rt: &impl Print, s: &[u8]) -> io::Result<()> {
     if s.len() == 0 {
-        text(b"-");
-        return;
+        return text(rt, b"-");
     }
     let mut at: usize = 0;
     while at < s.len() {
         let end = part_end(at, s.len());
-        part(&s[at..end]);
+        part(rt, &s[at..end])?;
         at = end;
     }
+    Ok(())
 }
 
 // A price in ten-thousandths, with its four decimals.
-pub fn price(p: i64) {
+pub fn price(rt: &impl Print, p: i64) -> io::Result<()> {
     let v = numbers::prices::bits(p);
     if v < 9223372036854775808 {
-        magnitude(v);
+        magnitude(rt, v)
     } else {
-        text(b"-");
-        magnitude(18446744073709551615 - v + 1);
+        text(rt, b"-")?;
+        magnitude(rt, 18446744073709551615 - v + 1)
     }
 }
 
@@ -136,8 +133,8 @@ fn decimals(m: u64) -> [u8; 5]
 }
 
 // A count of ten-thousandths, with its four decimals and no sign.
-fn magnitude(m: u64) {
-    decimal(m / 10000);
+fn magnitude(rt: &impl Print, m: u64) -> io::Result<()> {
+    decimal(rt, m / 10000)?;
     let out = decimals(m);
-    text(&out);
+    text(rt, &out)
 }

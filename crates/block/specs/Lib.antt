@@ -4,15 +4,7 @@ pub mod SlotLaws
 pub mod Places
 pub mod Walk
 pub mod WalkLaws
-pub mod Dictionaries
-pub mod Judges
-pub mod Stores
-pub mod Looks
-pub mod Gives
 pub mod Loops
 pub mod Fits
 pub mod FieldPlaces
-pub mod FieldPlaceLaws
 pub mod Ends
-pub mod FirstBad
-pub mod OneByte

@@ -4,7 +4,7 @@ use Rattle.std.proofs.Common.{sym, ap, ◌∙◌, subst, zero-add, arith}
 use Rattle.block.specs.Slots.{Slot, takes, sum, bad_byte, wrong_sent}
 use Rattle.block.specs.Places.{selected_at, entry_at, slots_of}
 use Rattle.block.specs.Walk.{Judging}
-use Rattle.block.specs.Judges as judges
+use Rattle.block.proofs.Judges as judges
 use Rattle.block_judge.specs.declared.Judged.{Judged}
 use Rattle.block_judge.specs.State.{judging, begun, judge_walk}
 use Rattle.block.specs.Sizes.{all_places}

@@ -4,8 +4,8 @@ use Rattle.std.proofs.Common.{sym, ap, ◌∙◌, arith}
 use Rattle.block.specs.Slots.{zeros, takes, width, sum, spread}
 use Rattle.block.specs.Places.{selected_at, entry_at, slots_of}
 use Rattle.block.specs.Walk.{Storing}
-use Rattle.block.specs.Dictionaries.{before-none, dictionary_placed, widths_fit}
-use Rattle.block.specs.Stores.{stored}
+use Rattle.block.proofs.Dictionaries.{before-none, dictionary_placed, widths_fit}
+use Rattle.block.proofs.Stores.{stored}
 use Rattle.block_store.specs.State.{storing, store_walk}
 use Rattle.block.specs.Sizes.{all_places, layout_size}
 

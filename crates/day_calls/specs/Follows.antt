@@ -11,7 +11,7 @@ use Rattle.day_model.specs.Story.{the_log, a_login, a_sending, a_hearing, an_asi
 use Rattle.day_model.specs.Halves.{VenueCode}
 use Rattle.session.specs.MemberDay as member
 use Rattle.session.specs.MemberDay.{Desk, phase_of, refused_for_room}
-use Rattle.session.specs.MemberSteps.{Good}
+use Rattle.session.proofs.MemberSteps.{Good}
 use Rattle.session_calls.specs.SessionBytes.{session_size, session_of}
 use Rattle.day_proved.specs.Words.{Bytes}
 use Rattle.day_proved.specs.Demand3 as day

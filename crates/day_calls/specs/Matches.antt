@@ -24,9 +24,9 @@ use Rattle.book.specs.declared.Book.{Book}
 use Rattle.book.specs.declared.Answer as book_answers
 use Rattle.book.specs.Books.{answer, blank_book, opened_book, mark_bytes, open_refusal, open_of, open_buffer, appended_by}
 use Rattle.book_restart.specs.Restarts.{restart_of}
-use Rattle.book_restart.specs.Cut.{Made, opens}
+use Rattle.book_restart.proofs.Cut.{Made, opens}
 use Rattle.book_calls.specs.BookBytes.{book_of}
-use Rattle.book_calls.specs.BookBytesLaws.{Sized}
+use Rattle.book_calls.proofs.BookBytesLaws.{Sized}
 use Rattle.day_line.specs.Lines.{login_of_table}
 use Rattle.day_line.specs.Lent.{lent, kept}
 use Rattle.session.specs.declared.Phase.TheVariants.{Asked, Live}
@@ -34,13 +34,13 @@ use Rattle.session.specs.declared.Session.{Session}
 use Rattle.session.specs.Sessions.{pick_session, closed_with, in_phase, with_book, is_closed, ended_by, broken_by, broken_buffer, responded_by, responded_buffer, status_in, received_in, receive_refusal, received_by, receive_of, received_buffer, receive_buffer, login_refusal, login_of, login_out, order_refusal, order_of, next_outgoing}
 use Rattle.session.specs.MemberDay as member
 use Rattle.session.specs.MemberDay.{Desk, restarted_by}
-use Rattle.session.specs.MemberSteps.{Good}
+use Rattle.session.proofs.MemberSteps.{Good}
 use Rattle.session_calls.specs.LoginBytes.{names_in, bits_in, choice_in, given_record}
 use Rattle.session_calls.specs.SessionBytes.{session_size, session_of, session_bytes, session_after, open_call, open_call_buffer, restart_call, restart_call_state, login_call}
-use Rattle.session_calls.specs.SessionBytesLaws.{long_called, long_back, given_is, given_back_lem}
-use Rattle.session_calls.specs.SessionAgain.{with_outgoing, seen-again}
-use Rattle.session_calls.specs.SessionSized.{made_sized}
-use Rattle.session_calls.specs.SessionKeeps.{session_size_lem}
+use Rattle.session_calls.proofs.SessionBytesLaws.{long_called, long_back, given_is, given_back_lem}
+use Rattle.session_calls.proofs.SessionAgain.{with_outgoing, seen-again}
+use Rattle.session_calls.proofs.SessionSized.{made_sized}
+use Rattle.session_calls.proofs.SessionKeeps.{session_size_lem}
 use Rattle.day_calls.specs.CallsDay.{Program, length_in, WholeIn, Given, fields_of, opened, gets, ended, writes, login, login_bytes, sends, restarted_with, restart}
 
 -- ---- a state after a call, without its outgoing number

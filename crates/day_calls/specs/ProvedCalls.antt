@@ -14,7 +14,7 @@ use Rattle.calendar.specs.Calendar.{is_day}
 use Rattle.book_restart.specs.Restarts.{restart_of}
 use Rattle.book_calls.specs.TableBytes.{place_of}
 use Rattle.book_calls.specs.BookBytes.{state_size, book_of, last_call}
-use Rattle.book_calls.specs.BookBytesLaws.{state_numbers}
+use Rattle.book_calls.proofs.BookBytesLaws.{state_numbers}
 use Rattle.day_model.specs.Model as days
 use Rattle.day_model.specs.Story.{a_login, a_taking, a_delivery, a_cut, now_login}
 use Rattle.day_model.specs.Halves.{VenueCode}
@@ -23,9 +23,9 @@ use Rattle.session.specs.declared.Phase.{Phase}
 use Rattle.session.specs.declared.Phase.TheVariants.{Closed, Replaying, Live}
 use Rattle.session.specs.MemberDay as member
 use Rattle.session_calls.specs.SessionBytes.{session_size, phase_of, phase_number, session_of, restart_call, login_call, phase_call}
-use Rattle.session_calls.specs.SessionBytesLaws.{phase_told}
-use Rattle.session_calls.specs.SessionRefusals.{restart-refused}
-use Rattle.session_calls.specs.SessionAgain.{phase_back}
+use Rattle.session_calls.proofs.SessionBytesLaws.{phase_told}
+use Rattle.session_calls.proofs.SessionRefusals.{restart-refused}
+use Rattle.session_calls.proofs.SessionAgain.{phase_back}
 use Rattle.day_proved.specs.Words.{Bytes, in_book, of_unit, newest}
 use Rattle.day_proved.specs.Demand3 as day
 use Rattle.day_proved.specs.Demand3.{SuchAVenue, Valid, OnlySequenced}

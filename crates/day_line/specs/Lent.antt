@@ -6,7 +6,7 @@ use Rattle.std.proofs.Math.Seq.{take-length, take-append_seam}
 use Rattle.std.proofs.lemmas.List.{take-append-le}
 use Rattle.numbers.specs.Numbers.{patched}
 use Rattle.numbers.specs.NumberLaws.{patched-length, patched-take}
-use Rattle.wire.specs.FrameLaws.{lt_or_le}
+use Rattle.wire.proofs.FrameLaws.{lt_or_le}
 use Rattle.block.specs.Slots.{zeros}
 use Rattle.block.specs.SlotLaws.{length-zeros}
 

@@ -11,15 +11,15 @@ use Rattle.block.specs.SlotLaws.{length-zeros}
 use Rattle.table.specs.declared.Table.{Table}
 use Rattle.table.specs.declared.Entry.{Entry}
 use Rattle.table.specs.Table.{unit_refusal, last_of}
-use Rattle.table.specs.TableLaws.{unit_in_range, no_entry}
+use Rattle.table.proofs.TableLaws.{unit_in_range, no_entry}
 use Rattle.session_groups.specs.Values.{group_bytes}
 use Rattle.session_groups.specs.Values.Group.{units}
 use Rattle.session_messages.specs.declared.Record.{Record}
 use Rattle.session_messages.specs.Sessions as logins
-use Rattle.session_messages.specs.SessionTrip.{read_again}
+use Rattle.session_messages.proofs.SessionTrip.{read_again}
 use Rattle.session_logins.specs.LoginRequests.{whole_table, choice_of, one, bits_part, said_of, login_record}
-use Rattle.session_logins.specs.LoginRequestLaws.{said-most}
-use Rattle.session_logins.specs.BothForms.{form_flag, form_pairs, said_with, whole-body, form_fits, form_asks}
+use Rattle.session_logins.proofs.LoginRequestLaws.{said-most}
+use Rattle.session_logins.proofs.BothForms.{form_flag, form_pairs, said_with, whole-body, form_fits, form_asks}
 use Rattle.session_fields.specs.AskedFor.{asked_above}
 use Rattle.session_fields.specs.AskedLaws.{first-asked}
 use Rattle.day_line.specs.Lines.{Fields, login_of_table, OurLogin, lists}

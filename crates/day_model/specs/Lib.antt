@@ -10,7 +10,3 @@ pub mod Story
 pub mod Generic
 pub mod Halves
 pub mod Brings
-pub mod BringsLaws
-pub mod BringsCalls
-pub mod Example
-pub mod SameReplay

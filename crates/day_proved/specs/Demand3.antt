@@ -7,7 +7,7 @@ use Rattle.wire.specs.Header.{type_of}
 use Rattle.wire.specs.Frame.{framed}
 use Rattle.table.specs.Table.{unit_refusal, last_of}
 use Rattle.session_messages.specs.Sessions.{names_good, session_bytes}
-use Rattle.session_logins.specs.LoginRequestLaws.{BitsInOrder}
+use Rattle.session_logins.proofs.LoginRequestLaws.{BitsInOrder}
 use Rattle.orders.specs.Shapes.{sequenced}
 use Rattle.calendar.specs.Calendar.{is_day}
 use Rattle.book.specs.Books.{answer, blank_book, open_of}
@@ -16,7 +16,7 @@ use Rattle.last_message.specs.Last.{last_refusal, last_part}
 use Rattle.day_model.specs.Story.{All, Code, Happens, a_login, a_taking, a_delivery, a_cut, Now, next, story, dawn}
 use Rattle.day_model.specs.Halves.{VenueCode, MeetsVenue, StepsAsTold, code}
 use Rattle.day_model.specs.Brings.{Call, sent_by}
-use Rattle.day_model.specs.SameReplay.{Alike}
+use Rattle.day_model.proofs.SameReplay.{Alike}
 use Rattle.day_line.specs.Lines.{Fields, login_of_table, our_line}
 use Rattle.session.specs.declared.Phase.TheVariants.{Closed, Asked, Replaying, Live}
 use Rattle.session.specs.Sessions.{login_out}

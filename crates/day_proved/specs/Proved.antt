@@ -9,37 +9,37 @@ use Rattle.std.proofs.Math.ListN.{length}
 use Rattle.std.proofs.Math.Seq.{take-length, take-append_seam}
 use Rattle.std.proofs.lemmas.Bool.{lt-leb}
 use Rattle.wire.specs.Header.{type_of}
-use Rattle.wire.specs.FrameLaws.{lt_or_le}
+use Rattle.wire.proofs.FrameLaws.{lt_or_le}
 use Rattle.table.specs.Table.{last_of}
 use Rattle.orders.specs.Shapes.{sequenced}
 use Rattle.session_messages.specs.Sessions as logins
 use Rattle.session_logins.specs.LoginRequests.{whole_table, choice_of}
-use Rattle.session_logins.specs.LoginRequestLaws.{said-most, whole_is_written}
+use Rattle.session_logins.proofs.LoginRequestLaws.{said-most, whole_is_written}
 use Rattle.calendar.specs.Calendar.{is_day}
 use Rattle.calendar.specs.CalendarLaws.{day_in_range}
 use Rattle.book.specs.declared.Answer as book_answers
 use Rattle.book.specs.declared.Book.{Book}
 use Rattle.book.specs.Books.{answer}
 use Rattle.book_restart.specs.Restarts.{restart_of}
-use Rattle.book_restart.specs.Cut.{Made, sound, sixteen, Cut, cut, cut_22}
+use Rattle.book_restart.proofs.Cut.{Made, sound, sixteen, Cut, cut, cut_22}
 use Rattle.day_model.specs.Model.{Msg, Item, mark, size, count, Phase, closed, messages}
 use Rattle.day_model.specs.Model as day
 use Rattle.day_model.specs.Story.{All, a_login, a_taking, a_delivery, a_cut, now_login, now_taken}
-use Rattle.day_model.specs.BringsLaws.{lists_no_more}
+use Rattle.day_model.proofs.BringsLaws.{lists_no_more}
 use Rattle.day_model.specs.Generic.{Meets, Holds, holds, holds_all, seen, at_every_moment, when_a_replay_completes, replay_completes, CompletesAt}
 use Rattle.day_model.specs.Halves.{VenueCode, both}
 use Rattle.day_line.specs.Lines.{Fields, our_line, lists, login_of_table}
 use Rattle.session.specs.declared.Phase as phases
 use Rattle.session.specs.declared.Phase.TheVariants.{Closed, Asked, Replaying, Live}
 use Rattle.session.specs.declared.Answer as session_answers
-use Rattle.session.specs.SessionSteps.{login_asks}
+use Rattle.session.proofs.SessionSteps.{login_asks}
 use Rattle.session.specs.MemberDay.{Desk, opened, restarted_by, phase_of, writes, login_bytes, our_member}
 use Rattle.session.specs.Booked.{items}
 use Rattle.session.specs.MadeItems.{made_items, made_headed, made_size}
-use Rattle.session.specs.MemberSteps.{Good}
-use Rattle.session.specs.MemberGets.{says_complete}
-use Rattle.session.specs.MeetsMember.{opens_well, opened-empty, entries_fit, logged, login_stands, our_member-meets}
-use Rattle.book.specs.Sequenced.{booked_is_sequenced}
+use Rattle.session.proofs.MemberSteps.{Good}
+use Rattle.session.proofs.MemberGets.{says_complete}
+use Rattle.session.proofs.MeetsMember.{opens_well, opened-empty, entries_fit, logged, login_stands, our_member-meets}
+use Rattle.book.proofs.Sequenced.{booked_is_sequenced}
 use Rattle.venue.specs.VenueDay.{our_venue, messages_in}
 use Rattle.venue.specs.VenueView.{Wholly}
 use Rattle.venue.specs.VenueRuns.{messages_all}

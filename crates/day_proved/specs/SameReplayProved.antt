@@ -7,13 +7,13 @@ use Rattle.day_model.specs.Model.{closed}
 use Rattle.day_model.specs.Story.{a_taking, now_login, now_taken}
 use Rattle.day_model.specs.Halves.{VenueCode, StepsAsTold}
 use Rattle.day_model.specs.Brings.{Call, sent_by}
-use Rattle.day_model.specs.SameReplay.{Alike, same_replay}
+use Rattle.day_model.proofs.SameReplay.{Alike, same_replay}
 use Rattle.day_line.specs.Lines.{Fields, our_line, lists, OurLogin}
 use Rattle.session.specs.declared.Phase.TheVariants.{Closed}
 use Rattle.session.specs.MemberDay.{phase_of, login_bytes}
-use Rattle.session.specs.MeetsMember.{our_login, our_login_lists}
+use Rattle.session.proofs.MeetsMember.{our_login, our_login_lists}
 use Rattle.venue.specs.VenueLine.{spoken}
-use Rattle.venue.specs.SameReplay.{fine-clear}
+use Rattle.venue.proofs.SameReplay.{fine-clear}
 use Rattle.day_proved.specs.Words.{Bytes}
 use Rattle.day_proved.specs.Demand3.{SuchAVenue, day_of, Event, Moment, after, then, Valid, logged_in, TheSameReplay}
 use Rattle.day_proved.specs.Proved.{small, good_of, login-writes, logs_in_lem, lists-low, venue_good}

@@ -7,14 +7,14 @@ use Rattle.wire.specs.Header.{type_of, unit_of}
 use Rattle.wire.specs.Frame.{framed}
 use Rattle.orders.specs.Shapes.{sequenced}
 use Rattle.book.specs.declared.Book.{Book}
-use Rattle.book.specs.BookLaws.{next}
-use Rattle.book_restart.specs.Cut.{Made, opens, books, marks, sound, Cut, appended_has}
+use Rattle.book.proofs.BookLaws.{next}
+use Rattle.book_restart.proofs.Cut.{Made, opens, books, marks, sound, Cut, appended_has}
 use Rattle.day_model.specs.Model.{Msg, Item, mark, entry, item_size, size, onto, messages, keep}
 use Rattle.day_model.specs.Model as day
 use Rattle.day_model.specs.Story.{All}
 use Rattle.day_line.specs.Lines.{msg_of}
 use Rattle.session.specs.Booked.{item_of, item_length, is_mark, items_from, items, unless, first-items}
-use Rattle.book.specs.Sequenced.{booked_is_sequenced}
+use Rattle.book.proofs.Sequenced.{booked_is_sequenced}
 use Rattle.session.specs.MadeItems.{items_of, coded, made_items, made_size}
 use Rattle.day_proved.specs.Words.{Bytes, in_book, of_unit, keep_item, within}
 

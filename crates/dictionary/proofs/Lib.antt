@@ -1,1 +1,3 @@
 pub mod Arms
+pub mod NewOrders
+pub mod Sums

@@ -1,3 +1,1 @@
 pub mod Dictionary
-pub mod Sums
-pub mod NewOrders

@@ -14,7 +14,7 @@ use Rattle.numbers.specs.Numbers.{number_at, bytes_of}
 use Rattle.numbers.specs.NumberLaws.{number_after, number_past, bytes-later}
 use Rattle.kinds.specs.declared.Kind.{Kind}
 use Rattle.kinds.specs.Kinds.{allowed, all_nul, all_allowed, agrees_text}
-use Rattle.kinds.specs.KindLaws.{blank_text}
+use Rattle.kinds.proofs.KindLaws.{blank_text}
 use Rattle.kinds.proofs.Walk.{tail_is}
 use Rattle.kinds.proofs.Lanes.{lane_low, lane_up}
 

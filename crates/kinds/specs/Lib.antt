@@ -1,4 +1,2 @@
 pub mod Kinds
-pub mod KindLaws
-pub mod CharacterSets
 pub mod Words

@@ -1,2 +1,10 @@
 pub mod Puts
 pub mod Stages
+pub mod ChosenFields
+pub mod EveryChoice
+pub mod EverySession
+pub mod FieldPlace
+pub mod Heard
+pub mod MessageLaws
+pub mod RoundTrip
+pub mod SomeChoice

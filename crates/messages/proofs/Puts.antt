@@ -10,8 +10,8 @@ use Rattle.wire.specs.Header.{type_of, unit_of, number_of}
 use Rattle.block.specs.Slots.{zeros}
 use Rattle.block.specs.SlotLaws.{length-zeros}
 use Rattle.session_messages.specs.Sessions as sessions
-use Rattle.session_messages.specs.SessionLaws as session_laws
-use Rattle.session_messages.specs.SessionTrip.{body_small}
+use Rattle.session_messages.proofs.SessionLaws as session_laws
+use Rattle.session_messages.proofs.SessionTrip.{body_small}
 use Rattle.session_messages.specs.Sizes.{session_record_size}
 use Rattle.messages.specs.Messages.{session_record_bytes}
 

@@ -1,14 +1,6 @@
 pub mod Messages
 pub mod Stages
-pub mod MessageLaws
-pub mod Heard
-pub mod RoundTrip
 pub mod ByteLaws
 pub mod OrderPlaces
-pub mod FieldPlace
 pub mod Taken
 pub mod ValidOrders
-pub mod ChosenFields
-pub mod EveryChoice
-pub mod SomeChoice
-pub mod EverySession

@@ -15,7 +15,7 @@ use Rattle.dictionary.specs.declared.Entry.{Entry}
 use Rattle.dictionary.specs.declared.Entry.TheVariants.{Refused, Field}
 use Rattle.dictionary.specs.Dictionary.{entry_of}
 use Rattle.block.specs.Places.{bit_set}
-use Rattle.block.specs.Dictionaries.{field_fits}
+use Rattle.block.proofs.Dictionaries.{field_fits}
 use Rattle.orders.specs.declared.Record.{Record}
 use Rattle.order_fields.specs.declared.Found.{Found}
 use Rattle.order_fields.specs.Named.{found, nowhere, pick, place_in, selected_of, optional_of, byte_in, short_in, number_in, long_in, price_in, bytes_in, byte_of, short_of, number_of, long_of, price_of, with_bit, larger, selecting, storing, settable_of, set_in, setting_of}

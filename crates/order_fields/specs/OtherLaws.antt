@@ -9,7 +9,7 @@ use Rattle.dictionary.specs.declared.Entry.TheVariants.{Field}
 use Rattle.dictionary.specs.Dictionary.{entry_of}
 use Rattle.block.specs.Slots.{width_of}
 use Rattle.block.specs.Places.{entry_at}
-use Rattle.block.specs.Dictionaries.{before, before_grows, dictionary_placed, field_fits}
+use Rattle.block.proofs.Dictionaries.{before, before_grows, dictionary_placed, field_fits}
 use Rattle.orders.specs.declared.Record.{Record}
 use Rattle.order_fields.specs.Named.{setting_of}
 use Rattle.order_fields.specs.NamedLaws.{Listed, set_slots}

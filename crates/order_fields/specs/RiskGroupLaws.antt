@@ -18,7 +18,7 @@ use Rattle.block.specs.Sizes.{fixed_end, fixed_size}
 use Rattle.orders.specs.Shapes.{count_at}
 use Rattle.orders.specs.Middle.{risk_groups, middle_size, middle_good}
 use Rattle.orders.specs.Orders.{rest_of, middle_of, fixed_of, read_refusal, record_of, write_rest, write_middle, zero_unused}
-use Rattle.orders.specs.OrderLaws.{good, in_purge_orders}
+use Rattle.orders.proofs.OrderLaws.{good, in_purge_orders}
 use Rattle.orders.specs.declared.Record.{Record}
 use Rattle.order_fields.specs.declared.Found.{Found}
 use Rattle.order_fields.specs.Named as named

@@ -16,7 +16,7 @@ use Rattle.block.specs.Loops.{nul_at}
 use Rattle.block.specs.Sizes.{most_bitfields}
 use Rattle.orders.specs.Shapes.{count_at}
 use Rattle.orders.specs.Orders.{count_of, bits_of, read_refusal, record_of, write_rest, write_middle, zero_unused}
-use Rattle.orders.specs.OrderLaws.{good}
+use Rattle.orders.proofs.OrderLaws.{good}
 use Rattle.orders.specs.declared.Record.{Record}
 use Rattle.order_fields.specs.Named.{selected_of, choose, with_bit, larger, selecting, storing, settable_of, setting_of}
 use Rattle.order_fields.specs.NamedLaws.{Listed, larger_reaches, set_at}

@@ -14,13 +14,13 @@ use Rattle.wire.specs.Header.{unit_of, number_of}
 use Rattle.block.specs.Slots.{zeros, takes, width, sum, spread}
 use Rattle.block.specs.SlotLaws.{length-zeros, drop-zeros, spread-length}
 use Rattle.block.specs.Places.{slots_of}
-use Rattle.block.specs.Dictionaries.{widths_fit}
+use Rattle.block.proofs.Dictionaries.{widths_fit}
 use Rattle.block_store.specs.State.{storing, store_walk}
 use Rattle.block_store.specs.Made.{stored_all}
 use Rattle.orders.specs.Shapes.{count_at}
 use Rattle.orders.specs.Middle.{middle_size}
 use Rattle.orders.specs.Orders.{layout_of}
-use Rattle.orders.specs.OrderLaws.{count_bounds}
+use Rattle.orders.proofs.OrderLaws.{count_bounds}
 use Rattle.order_records.specs.Records.{record_bytes}
 use Rattle.order_reader.specs.Stages.{kept_bytes, front_bytes, there_bytes}
 use Rattle.block.specs.Sizes.{all_places, fixed_end, fixed_size, layout_size, most_bitfields, slots_place}

@@ -11,12 +11,12 @@ use borrow.Author.Tests.{ltb-false, ne_eqb}
 use Rattle.refusals.specs.Names.{unknown_type, bad_unit}
 use Rattle.refusals.specs.ToldLaws.{passed_told}
 use Rattle.wire.specs.Header.{type_of, unit_of, number_of}
-use Rattle.wire.specs.FrameLaws.{passed}
+use Rattle.wire.proofs.FrameLaws.{passed}
 use Rattle.orders.specs.Shapes.{of_member, of_venue, count_at, most_of, unit_good}
 use Rattle.orders.specs.Markets.{typed}
-use Rattle.orders.specs.MarketLaws.{same_but}
+use Rattle.orders.proofs.MarketLaws.{same_but}
 use Rattle.orders.specs.Orders.{head_refusal, read_refusal, count_of}
-use Rattle.orders.specs.OrderLaws.{count_bounds, most_bound}
+use Rattle.orders.proofs.OrderLaws.{count_bounds, most_bound}
 use Rattle.order_reader.specs.Stages.{count_refusal, type_head}
 use Rattle.block.specs.Sizes.{fixed_end, most_bitfields}
 

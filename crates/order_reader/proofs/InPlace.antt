@@ -21,11 +21,11 @@ use Rattle.block.specs.Places.{bit_set, selected_at, entry_at, slots_from, slots
 use Rattle.refusals.specs.FirstBad.{Tested, all_good, first_bad}
 use Rattle.orders.specs.Shapes.{count_at, fixed_good}
 use Rattle.orders.specs.FixedFields.{new_order_fields, cancel_order_fields, modify_order_fields, acknowledgment_fields, execution_fields, rejection_fields, fixed_fields, fixed_wrong}
-use Rattle.orders.specs.FixedFieldLaws.{fields_good}
+use Rattle.orders.proofs.FixedFieldLaws.{fields_good}
 use Rattle.orders.specs.declared.Record.{Record}
 use Rattle.orders.specs.Middle.{middle_size, middle_good}
 use Rattle.orders.specs.Late.{lacks, conflicts, late_refusal}
-use Rattle.orders.specs.OrderLaws.{middle-fits}
+use Rattle.orders.proofs.OrderLaws.{middle-fits}
 use Rattle.orders.specs.Orders.{count_of, bits_of, rest_of, fixed_of, optional_of, head_refusal, block_refusal, body_refusal, read_refusal, layout_of, record_of}
 use Rattle.order_records.specs.Records.{record_bytes}
 use Rattle.order_reader.specs.Stages.{kept_bytes, there_bytes, read_record}

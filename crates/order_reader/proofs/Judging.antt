@@ -12,15 +12,15 @@ use Rattle.refusals.specs.Told.{told}
 use Rattle.refusals.specs.ToldLaws.{passed_told}
 use Rattle.block.specs.Slots.{sum, takes, any_bad, bad_byte, agree_sent, wrong_sent}
 use Rattle.block.specs.SlotLaws.{takes-below}
-use Rattle.block.specs.Dictionaries.{widths_fit}
-use Rattle.block.specs.FirstBad.{bad_found, wrong_found, bad_within, wrong_within}
+use Rattle.block.proofs.Dictionaries.{widths_fit}
+use Rattle.block.proofs.FirstBad.{bad_found, wrong_found, bad_within, wrong_within}
 use Rattle.block.specs.Places.{selected_at, entry_at, slots_of, has_required}
 use Rattle.block.specs.Sizes.{all_places}
 use Rattle.block_judge.specs.declared.Judged.{Judged}
 use Rattle.block_judge.specs.Made.{JudgedAll}
 use Rattle.orders.specs.Shapes.{count_at, fixed_good}
 use Rattle.orders.specs.FixedFields.{fixed_wrong}
-use Rattle.orders.specs.FixedFieldLaws.{fixed-found}
+use Rattle.orders.proofs.FixedFieldLaws.{fixed-found}
 use Rattle.orders.specs.Middle.{middle_size, middle_good}
 use Rattle.orders.specs.Late.{late_refusal}
 use Rattle.orders.specs.Orders.{block_refusal, body_refusal, layout_of}

@@ -20,7 +20,7 @@ use Rattle.block.specs.Slots.{zeros, takes, width, width_of, sum, spread, gather
 use Rattle.block.specs.SlotLaws.{gathered-front, back, spread-length}
 use Rattle.block.specs.Places.{selected_at, entry_at, slots_of, has_required}
 use Rattle.block.specs.FieldPlaces.{widths_before}
-use Rattle.block.specs.FieldPlaceLaws.{takes_all, field_sent, field_stands}
+use Rattle.block.proofs.FieldPlaceLaws.{takes_all, field_sent, field_stands}
 use Rattle.block.specs.Sizes.{all_places, layout_size}
 use Rattle.orders.specs.Late.{late_refusal}
 use Rattle.orders.specs.LateBytes.{modify_late, purge_late, modify_late_is, purge_late_is, unit_unasked}

@@ -9,9 +9,9 @@ use Rattle.numbers.specs.Numbers.{patched}
 use Rattle.wire.specs.Header.{type_of, unit_of, number_of, total_of}
 use Rattle.orders.specs.Shapes.{count_at}
 use Rattle.orders.specs.Markets.{typed}
-use Rattle.orders.specs.MarketLaws.{same_but}
+use Rattle.orders.proofs.MarketLaws.{same_but}
 use Rattle.orders.specs.Middle.{middle_size}
-use Rattle.orders.specs.OrderLaws.{count_bounds}
+use Rattle.orders.proofs.OrderLaws.{count_bounds}
 use Rattle.orders.specs.Orders.{head_refusal, body_refusal, read_refusal}
 use Rattle.block.specs.Slots.{takes, sum}
 use Rattle.block.specs.Places.{slots_of}

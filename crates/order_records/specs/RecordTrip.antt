@@ -9,7 +9,7 @@ use Rattle.numbers.specs.Numbers.{number_at, bytes_of}
 use Rattle.numbers.specs.NumberLaws.{number_after, number_back, bytes_back, number_fits}
 use Rattle.wire.specs.HeaderLaws.{Bytes}
 use Rattle.orders.specs.declared.Record.{Record}
-use Rattle.orders.specs.RoundTrip.{Sound}
+use Rattle.orders.proofs.RoundTrip.{Sound}
 use Rattle.order_records.specs.Records.{record_bytes, record_at}
 use Rattle.block.specs.Sizes.{fixed_size, layout_size, record_size, most_bitfields, count_place, bits_place, slots_place}
 

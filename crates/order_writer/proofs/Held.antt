@@ -12,7 +12,7 @@ use Rattle.kinds.specs.Kinds.{all_nul}
 use Rattle.block.specs.Sizes.{fixed_size}
 use Rattle.orders.specs.Shapes.{count_at}
 use Rattle.orders.specs.Middle.{middle_size, middle_good}
-use Rattle.orders.specs.OrderLaws.{count_bounds, middle-fits}
+use Rattle.orders.proofs.OrderLaws.{count_bounds, middle-fits}
 use Rattle.order_writer.proofs.Windows.{windows_from}
 
 -- ---- where it begins, by the place of the count byte

@@ -11,12 +11,12 @@ use Rattle.block.specs.Slots.{takes, sum, gathered}
 use Rattle.block.specs.SlotLaws.{gathered-length}
 use Rattle.block.specs.Places.{selected_at, entry_at, slots_of}
 use Rattle.block.specs.Walk.{Giving}
-use Rattle.block.specs.Dictionaries.{before, before-none, dictionary_placed, widths_fit}
-use Rattle.block.specs.Gives.{gave}
+use Rattle.block.proofs.Dictionaries.{before, before-none, dictionary_placed, widths_fit}
+use Rattle.block.proofs.Gives.{gave}
 use Rattle.block_write.specs.State.{giving, give_walk}
 use Rattle.orders.specs.Shapes.{count_at}
 use Rattle.orders.specs.Middle.{middle_size}
-use Rattle.orders.specs.OrderLaws.{count_bounds}
+use Rattle.orders.proofs.OrderLaws.{count_bounds}
 use Rattle.order_writer.specs.Stages.{after_bytes, field_bytes, rest_bytes}
 use Rattle.block.specs.Sizes.{all_places, fixed_size, layout_size, most_bitfields}
 

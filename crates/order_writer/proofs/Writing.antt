@@ -15,14 +15,14 @@ use Rattle.refusals.specs.ToldLaws.{passed_told}
 use Rattle.numbers.specs.Numbers.{patched}
 use Rattle.kinds.specs.Kinds.{all_nul}
 use Rattle.wire.specs.Header.{header_bytes}
-use Rattle.wire.specs.FrameLaws.{passed}
+use Rattle.wire.proofs.FrameLaws.{passed}
 use Rattle.block.specs.Slots.{takes, width, sum, any_bad, bad_byte, agree_held, wrong_held}
-use Rattle.block.specs.FirstBad.{bad_found, held_found, bad_within, held-within}
+use Rattle.block.proofs.FirstBad.{bad_found, held_found, bad_within, held-within}
 use Rattle.block.specs.Places.{selected_at, entry_at, slots_of, has_required}
 use Rattle.block.specs.Walk.{Looking}
 use Rattle.block.specs.SlotLaws.{takes-below}
-use Rattle.block.specs.Dictionaries.{before-none, dictionary_placed, widths_fit}
-use Rattle.block.specs.Looks.{Looked, looked, cleared, zero_by_clearing}
+use Rattle.block.proofs.Dictionaries.{before-none, dictionary_placed, widths_fit}
+use Rattle.block.proofs.Looks.{Looked, looked, cleared, zero_by_clearing}
 use Rattle.block_write.specs.declared.Seen.{Seen}
 use Rattle.block_write.specs.State.{looking, unseen, look_walk}
 use Rattle.orders.specs.Shapes.{of_member, of_venue, count_at, most_of, unit_good, fixed_good}
@@ -31,8 +31,8 @@ use Rattle.orders.specs.Middle.{middle_size, middle_good}
 use Rattle.orders.specs.Late.{late_refusal}
 use Rattle.orders.specs.Orders.{write_slots, write_rest, write_middle, zero_unused, size_of, order_bytes, write_refusal, write_buffer}
 use Rattle.orders.specs.FixedFields.{fixed_wrong}
-use Rattle.orders.specs.FixedFieldLaws.{fixed-found}
-use Rattle.orders.specs.OrderLaws.{most_bound}
+use Rattle.orders.proofs.FixedFieldLaws.{fixed-found}
+use Rattle.orders.proofs.OrderLaws.{most_bound}
 use Rattle.orders.specs.declared.Record.{Record}
 use Rattle.order_writer.specs.Stages.{top_refusal, value_refusal, unused_zero, end_refusal, seen_refusal, after_bytes, field_bytes, rest_bytes}
 use Rattle.block.specs.Sizes.{all_places, layout_size, most_bitfields}

@@ -1,14 +1,8 @@
 pub mod Shapes
 pub mod Markets
-pub mod MarketLaws
 pub mod Rests
 pub mod FixedFields
-pub mod FixedFieldLaws
 pub mod Middle
 pub mod Late
 pub mod LateBytes
 pub mod Orders
-pub mod LateSums
-pub mod OrderLaws
-pub mod LateOrder
-pub mod RoundTrip

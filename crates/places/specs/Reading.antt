@@ -20,17 +20,17 @@ use Rattle.wire.specs.Header.{type_of, unit_of, number_of, total_of}
 use Rattle.dictionary.specs.Dictionary.{is_new_order}
 use Rattle.block.specs.Slots.{takes, sum, any_bad, bad_byte, agree_sent, wrong_sent}
 use Rattle.block.specs.Places.{selected_at, entry_at, slots_of, has_required}
-use Rattle.block.specs.FirstBad.{BadBit, BadField, eight_names_the_first_bad_byte, ten_names_the_first_bad_field}
+use Rattle.block.proofs.FirstBad.{BadBit, BadField, eight_names_the_first_bad_byte, ten_names_the_first_bad_field}
 use Rattle.block.specs.Sizes.{all_places, fixed_end}
 use Rattle.orders.specs.Shapes.{of_member, of_venue, count_at, most_of, unit_good, fixed_good}
 use Rattle.orders.specs.FixedFields.{new_order_fields, cancel_order_fields, modify_order_fields, acknowledgment_fields, execution_fields, rejection_fields, fixed_fields, fixed_wrong}
-use Rattle.orders.specs.FixedFieldLaws.{fields_good, fixed-within, fixed_names_the_first}
+use Rattle.orders.proofs.FixedFieldLaws.{fields_good, fixed-within, fixed_names_the_first}
 use Rattle.orders.specs.Middle.{risk_groups, middle_good}
 use Rattle.orders.specs.Late.{lacks, conflicts, late_refusal}
 use Rattle.orders.specs.Orders.{count_of, bits_of, rest_of, middle_of, optional_of, fixed_of, head_refusal, block_refusal, layout_of, body_refusal, read_refusal}
 use Rattle.session_messages.specs.ValueFields.{name_fields, status_fields, reason_fields, value_fields, values_wrong}
-use Rattle.session_messages.specs.ValueFieldLaws.{values-within, values_name_the_first}
-use Rattle.session_messages.specs.ValueFieldLaws as values
+use Rattle.session_messages.proofs.ValueFieldLaws.{values-within, values_name_the_first}
+use Rattle.session_messages.proofs.ValueFieldLaws as values
 use Rattle.order_reader.proofs.Heads.{good_head}
 use Rattle.session_messages.specs.Sessions as sessions
 

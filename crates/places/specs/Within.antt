@@ -7,26 +7,26 @@ use Rattle.refusals.specs.ToldLaws.{number_of-told, place_of-told, number_alone,
 use Rattle.kinds.specs.Kinds.{all_nul}
 use Rattle.wire.specs.Header.{type_of, total_of}
 use Rattle.wire.specs.Frame.{starts_bad, length_bad, cut_short, frame_refusal, framed}
-use Rattle.wire.specs.FrameLaws.{whole, framed-length, framed_accepted, framed-again}
+use Rattle.wire.proofs.FrameLaws.{whole, framed-length, framed_accepted, framed-again}
 use Rattle.dictionary.specs.declared.Entry.TheVariants.{Field}
 use Rattle.block.specs.Slots.{slot, takes, sum, any_bad, bad_byte, agree_held, wrong_held}
 use Rattle.block.specs.SlotLaws.{both_true, sum_append}
 use Rattle.block.specs.Places.{selected_at, entry_at, slots_of, has_required}
 use Rattle.block.specs.Sizes.{all_places}
-use Rattle.block.specs.FirstBad.{eight_names_the_first_bad_byte, held-within}
+use Rattle.block.proofs.FirstBad.{eight_names_the_first_bad_byte, held-within}
 use Rattle.orders.specs.Shapes.{of_member, sequenced, of_venue, count_at, most_of, unit_good, fixed_good}
 use Rattle.orders.specs.FixedFields.{fixed_wrong}
-use Rattle.orders.specs.FixedFieldLaws.{fixed-within}
+use Rattle.orders.proofs.FixedFieldLaws.{fixed-within}
 use Rattle.orders.specs.Middle.{middle_good}
 use Rattle.orders.specs.Late.{lacks, conflicts, late_refusal}
-use Rattle.orders.specs.OrderLaws.{count_bounds}
+use Rattle.orders.proofs.OrderLaws.{count_bounds}
 use Rattle.orders.specs.Orders as orders
 use Rattle.orders.specs.declared.Record.{Record}
 use Rattle.session_messages.specs.ValueFields.{values_wrong}
-use Rattle.session_messages.specs.ValueFieldLaws.{values-within}
+use Rattle.session_messages.proofs.ValueFieldLaws.{values-within}
 use Rattle.session_messages.specs.Sessions as sessions
 use Rattle.messages.specs.Messages.{is_session, carries, heard, own_refusal, read_refusal}
-use Rattle.messages.specs.Heard.{heard_long, heard_exact, heard_byte}
+use Rattle.messages.proofs.Heard.{heard_long, heard_exact, heard_byte}
 use Rattle.book.specs.Books.{message_refusal}
 use Rattle.places.specs.Reading as reading
 

@@ -25,17 +25,17 @@ use Rattle.dictionary.specs.declared.Entry.TheVariants.{Refused, Field}
 use Rattle.block.specs.Slots.{zeros, Slot, slot, width_of, takes, width, sum, any_bad, bad_byte, spread, gathered, agree_slot, agree_sent, agree_held, wrong_sent, wrong_held}
 use Rattle.block.specs.SlotLaws.{length-zeros, both_true, spread-length, gathered-length, gathered-front, back, agree_gathered}
 use Rattle.block.specs.Places.{bit_set, selected_at, entry_at, slots_from, slots_of, has_required}
-use Rattle.block.specs.Dictionaries.{widths_fit}
+use Rattle.block.proofs.Dictionaries.{widths_fit}
 use Rattle.block.specs.FieldPlaces.{widths_before}
-use Rattle.block.specs.FieldPlaceLaws.{field_stands}
+use Rattle.block.proofs.FieldPlaceLaws.{field_stands}
 use Rattle.block.specs.Sizes.{all_places, fixed_end, most_bitfields, layout_size}
 use Rattle.orders.specs.Shapes.{of_member, of_venue, count_at, most_of, unit_good, fixed_good}
 use Rattle.orders.specs.FixedFields.{fixed_wrong}
 use Rattle.orders.specs.Middle.{middle_size, middle_good}
 use Rattle.orders.specs.Late.{market, char_f, char_s, char_b, char_l, modify_order_lacks, purge_orders_lacks, purge_orders_conflicts, lacks, conflicts, late_refusal}
-use Rattle.orders.specs.OrderLaws.{count_bounds, most_bound, middle-kept, good_kept}
+use Rattle.orders.proofs.OrderLaws.{count_bounds, most_bound, middle-kept, good_kept}
 use Rattle.orders.specs.Orders.{count_of, bits_of, rest_of, middle_of, fixed_of, head_refusal, block_refusal, layout_of, body_refusal, read_refusal, write_slots, write_rest, write_middle, zero_unused, size_of, order_bytes, write_refusal}
-use Rattle.orders.specs.RoundTrip.{Sound, parts-length, parts-fixed, parts_bits, parts-rest}
+use Rattle.orders.proofs.RoundTrip.{Sound, parts-length, parts-fixed, parts_bits, parts-rest}
 use Rattle.orders.specs.declared.Record.{Record}
 use Rattle.order_reader.proofs.InPlace.{good_front, wrong_front}
 

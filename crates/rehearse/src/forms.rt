@@ -3,6 +3,7 @@ use crate::bench::{Bench, Room};
 use crate::{say, written};
 use asking::writing;
 use session_logins::Choice;
+use std::io;
 use venue::Venue;
 
 // Two venues, the messages that the first has sent, and whether the other has sent the same bytes.
@@ -54,7 +55,7 @@ fn steps(p: Pair, log: &Room) -> Pair {
     let other = p.other;
     let x = one.step(log, &mut down);
     let y = other.step(log, &mut beside);
-    let alike = check::same(&down, &beside);
+    let alike = down == beside;
     let one_after = x.venue;
     let other_after = y.venue;
     Pair {
@@ -79,7 +80,7 @@ fn length_in(bytes: &[u8]) -> u64 {
 }
 
 // Both forms are tried from one and the same state, of which nothing is kept: what the venue sends after either.
-pub fn compares(b: Bench, log: &Room) {
+pub fn compares(rt: &impl Print, b: Bench, log: &Room) -> io::Result<()> {
     let mut short = [0u8; 600];
     let mut full = [0u8; 600];
     let one = taken(b, false, &mut short);
@@ -91,25 +92,28 @@ pub fn compares(b: Bench, log: &Room) {
         same: true,
     };
     let p = all_steps(started, log);
-    say::gateway(b.clock);
+    say::gateway(rt, b.clock)?;
     say::count(
+        rt,
         b"compares both forms of its login: ",
         length_in(&short),
         b"",
-    );
+    )?;
     say::count(
+        rt,
         b" bytes with its units above 0, ",
         length_in(&full),
         b" with all 32; ",
-    );
+    )?;
     if p.same {
         say::count(
+            rt,
             b"after either the venue would send the same ",
             p.sent as u64,
             b" messages, byte for byte",
-        );
+        )?;
     } else {
-        writing::text(b"AFTER THE TWO THE VENUE WOULD NOT SEND THE SAME");
+        writing::text(rt, b"AFTER THE TWO THE VENUE WOULD NOT SEND THE SAME")?;
     }
-    writing::line_end();
+    writing::line_end(rt)
 }

@@ -2,6 +2,7 @@
 use crate::{say, written};
 use asking::writing;
 use orders::{Market, Record};
+use std::io;
 
 // The direction of what a member of a market sends.
 fn direction_of(market: Market) -> u8 {
@@ -30,224 +31,224 @@ fn record_from(direction: u8, bytes: &[u8]) -> Record {
 }
 
 // What an acknowledgment says.
-fn acknowledged(r: Record) {
+fn acknowledged(rt: &impl Print, r: Record) -> io::Result<()> {
     let id = order_fields::acknowledgment::cl_ord_id(r);
     let bytes = id.bytes;
-    say::name(&bytes);
-    writing::text(b" acknowledged at ");
+    say::name(rt, &bytes)?;
+    writing::text(rt, b" acknowledged at ")?;
     let price = order_fields::acknowledgment::price(r);
-    writing::price(price.value);
+    writing::price(rt, price.value)
 }
 
 // What an execution says.
-fn executed(r: Record) {
+fn executed(rt: &impl Print, r: Record) -> io::Result<()> {
     let id = order_fields::execution::cl_ord_id(r);
     let bytes = id.bytes;
-    say::name(&bytes);
+    say::name(rt, &bytes)?;
     let shares = order_fields::execution::last_shares(r);
-    say::count(b" executed, ", shares.value as u64, b" shares at ");
+    say::count(rt, b" executed, ", shares.value as u64, b" shares at ")?;
     let price = order_fields::execution::last_px(r);
-    writing::price(price.value);
+    writing::price(rt, price.value)?;
     let left = order_fields::execution::leaves_qty(r);
-    say::count(b", ", left.value as u64, b" left");
+    say::count(rt, b", ", left.value as u64, b" left")
 }
 
 // A reason, and the text beside it.
-fn reason(letter: &[u8], text: &[u8]) {
-    writing::text(b", reason ");
-    say::name(letter);
-    writing::text(b", ");
-    say::name(text);
+fn reason(rt: &impl Print, letter: &[u8], text: &[u8]) -> io::Result<()> {
+    writing::text(rt, b", reason ")?;
+    say::name(rt, letter)?;
+    writing::text(rt, b", ")?;
+    say::name(rt, text)
 }
 
 // What an Order Rejected says.
-fn order_rejected(r: Record) {
-    writing::text(b"Order Rejected of ");
+fn order_rejected(rt: &impl Print, r: Record) -> io::Result<()> {
+    writing::text(rt, b"Order Rejected of ")?;
     let id = order_fields::rejection::cl_ord_id(r);
     let bytes = id.bytes;
-    say::name(&bytes);
+    say::name(rt, &bytes)?;
     let why = order_fields::rejection::order_reject_reason(r);
     let letter = why.bytes;
     let text = order_fields::rejection::text(r);
     let words = text.bytes;
-    reason(&letter, &words);
+    reason(rt, &letter, &words)
 }
 
 // What a Cancel Rejected says.
-fn cancel_rejected(r: Record) {
-    writing::text(b"Cancel Rejected of ");
+fn cancel_rejected(rt: &impl Print, r: Record) -> io::Result<()> {
+    writing::text(rt, b"Cancel Rejected of ")?;
     let id = order_fields::cancel_rejection::cl_ord_id(r);
     let bytes = id.bytes;
-    say::name(&bytes);
+    say::name(rt, &bytes)?;
     let why = order_fields::cancel_rejection::cancel_reject_reason(r);
     let letter = why.bytes;
     let text = order_fields::cancel_rejection::text(r);
     let words = text.bytes;
-    reason(&letter, &words);
+    reason(rt, &letter, &words)
 }
 
 // What a rejection says.
-pub fn rejection(bytes: &[u8]) {
+pub fn rejection(rt: &impl Print, bytes: &[u8]) -> io::Result<()> {
     let r = record_of(bytes);
     if r.message == 0x26 {
-        order_rejected(r);
+        order_rejected(rt, r)
     } else {
-        cancel_rejected(r);
+        cancel_rejected(rt, r)
     }
 }
 
 // What a message of the venue's log says.
-fn said(r: Record) {
+fn said(rt: &impl Print, r: Record) -> io::Result<()> {
     let message = r.message;
     match message {
-        0x25 => acknowledged(r),
-        0x2C => executed(r),
-        _ => writing::text(b"a session message"),
+        0x25 => acknowledged(rt, r),
+        0x2C => executed(rt, r),
+        _ => writing::text(rt, b"a session message"),
     }
 }
 
 // A message of the venue's: its unit, its number and what it says.
-pub fn report(bytes: &[u8]) {
+pub fn report(rt: &impl Print, bytes: &[u8]) -> io::Result<()> {
     let r = record_of(bytes);
-    say::count(b"unit ", r.unit as u64, b" number ");
-    writing::decimal(r.number as u64);
-    writing::text(b", ");
-    said(r);
+    say::count(rt, b"unit ", r.unit as u64, b" number ")?;
+    writing::decimal(rt, r.number as u64)?;
+    writing::text(rt, b", ")?;
+    said(rt, r)
 }
 
 // A message's size.
-pub fn size(bytes: &[u8]) {
+pub fn size(rt: &impl Print, bytes: &[u8]) -> io::Result<()> {
     let m = wire::frame(bytes);
-    say::count(b" (", m.len() as u64, b" bytes)");
+    say::count(rt, b" (", m.len() as u64, b" bytes)")
 }
 
 // Buy or sell.
-fn side(b: u8) {
+fn side(rt: &impl Print, b: u8) -> io::Result<()> {
     if b == written::SELL {
-        writing::text(b": sell ");
+        writing::text(rt, b": sell ")
     } else {
-        writing::text(b": buy ");
+        writing::text(rt, b": buy ")
     }
 }
 
 // What a New Order says.
-fn new_order(r: Record) {
-    writing::text(b"New Order ");
+fn new_order(rt: &impl Print, r: Record) -> io::Result<()> {
+    writing::text(rt, b"New Order ")?;
     let id = order_fields::new_order::cl_ord_id(r);
     let bytes = id.bytes;
-    say::name(&bytes);
+    say::name(rt, &bytes)?;
     let sided = order_fields::new_order::side(r);
-    side(sided.bytes[0]);
+    side(rt, sided.bytes[0])?;
     let quantity = order_fields::new_order::order_qty(r);
-    writing::decimal(quantity.value as u64);
-    writing::text(b" at ");
+    writing::decimal(rt, quantity.value as u64)?;
+    writing::text(rt, b" at ")?;
     let price = order_fields::new_order::price(r);
-    writing::price(price.value);
+    writing::price(rt, price.value)
 }
 
 // What an options New Order says.
-fn option(r: Record) {
-    writing::text(b"options New Order ");
+fn option(rt: &impl Print, r: Record) -> io::Result<()> {
+    writing::text(rt, b"options New Order ")?;
     let id = order_fields::options_order::cl_ord_id(r);
     let bytes = id.bytes;
-    say::name(&bytes);
+    say::name(rt, &bytes)?;
     let sided = order_fields::options_order::side(r);
-    side(sided.bytes[0]);
+    side(rt, sided.bytes[0])?;
     let quantity = order_fields::options_order::order_qty(r);
-    writing::decimal(quantity.value as u64);
+    writing::decimal(rt, quantity.value as u64)?;
     let symbol = order_fields::options_order::symbol(r);
     let listed = symbol.bytes;
-    writing::text(b" ");
-    say::name(&listed);
+    writing::text(rt, b" ")?;
+    say::name(rt, &listed)?;
     let maturity = order_fields::options_order::maturity_date(r);
-    say::count(b" of ", maturity.value as u64, b", ");
+    say::count(rt, b" of ", maturity.value as u64, b", ")?;
     let right = order_fields::options_order::put_or_call(r);
-    call_or_put(right.bytes[0]);
+    call_or_put(rt, right.bytes[0])?;
     let strike = order_fields::options_order::strike_price(r);
-    writing::price(strike.value);
-    writing::text(b", at ");
+    writing::price(rt, strike.value)?;
+    writing::text(rt, b", at ")?;
     let price = order_fields::options_order::price(r);
-    writing::price(price.value);
+    writing::price(rt, price.value)
 }
 
 // The right to buy or to sell.
-fn call_or_put(b: u8) {
+fn call_or_put(rt: &impl Print, b: u8) -> io::Result<()> {
     if b == b'1' {
-        writing::text(b"call at ");
+        writing::text(rt, b"call at ")
     } else {
-        writing::text(b"put at ");
+        writing::text(rt, b"put at ")
     }
 }
 
 // What a Modify Order says.
-fn modify(r: Record) {
-    writing::text(b"Modify Order of ");
+fn modify(rt: &impl Print, r: Record) -> io::Result<()> {
+    writing::text(rt, b"Modify Order of ")?;
     let orig = order_fields::modify_order::orig_cl_ord_id(r);
     let old = orig.bytes;
-    say::name(&old);
+    say::name(rt, &old)?;
     let id = order_fields::modify_order::cl_ord_id(r);
     let bytes = id.bytes;
-    writing::text(b" as ");
-    say::name(&bytes);
+    writing::text(rt, b" as ")?;
+    say::name(rt, &bytes)?;
     let quantity = order_fields::modify_order::order_qty(r);
-    say::count(b": ", quantity.value as u64, b"");
+    say::count(rt, b": ", quantity.value as u64, b"")?;
     let price = order_fields::modify_order::price(r);
     if price.selected {
-        writing::text(b" at ");
-        writing::price(price.value);
+        writing::text(rt, b" at ")?;
+        writing::price(rt, price.value)
     } else {
-        writing::text(b" without a price");
+        writing::text(rt, b" without a price")
     }
 }
 
 // What a Cancel Order says.
-fn cancel(r: Record) {
-    writing::text(b"Cancel Order of ");
+fn cancel(rt: &impl Print, r: Record) -> io::Result<()> {
+    writing::text(rt, b"Cancel Order of ")?;
     let id = order_fields::cancel_order::orig_cl_ord_id(r);
     let bytes = id.bytes;
-    say::name(&bytes);
+    say::name(rt, &bytes)
 }
 
 // An order of ours, by its record.
-pub fn order(r: Record) {
+pub fn order(rt: &impl Print, r: Record) -> io::Result<()> {
     let message = r.message;
     match message {
-        0x38 => new_order(r),
-        0xB8 => option(r),
-        0x3A => modify(r),
-        _ => cancel(r),
+        0x38 => new_order(rt, r),
+        0xB8 => option(rt, r),
+        0x3A => modify(rt, r),
+        _ => cancel(rt, r),
     }
 }
 
 // The Login Response: its status and text, and the last order that the venue has of ours.
-pub fn response(bytes: &[u8]) {
+pub fn response(rt: &impl Print, bytes: &[u8]) -> io::Result<()> {
     let m = wire::frame(bytes);
     let read = session_messages::read_session(m);
     let r = read.session;
     let status = session_fields::login_response::status(r);
     let letter = status.bytes;
-    writing::text(b"with status ");
-    say::name(&letter);
+    writing::text(rt, b"with status ")?;
+    say::name(rt, &letter)?;
     let text = session_fields::login_response::text(r);
     let words = text.bytes;
-    writing::text(b", ");
-    say::name(&words);
-    size(bytes);
+    writing::text(rt, b", ")?;
+    say::name(rt, &words)?;
+    size(rt, bytes)?;
     let received = session_fields::login_response::last_received(r);
-    say::count(b": last order received ", received.value.0 as u64, b"");
+    say::count(rt, b": last order received ", received.value.0 as u64, b"")
 }
 
 // The Logout: its reason and text.
-pub fn logout(bytes: &[u8]) {
+pub fn logout(rt: &impl Print, bytes: &[u8]) -> io::Result<()> {
     let m = wire::frame(bytes);
     let read = session_messages::read_session(m);
     let r = read.session;
     let reason = session_fields::logout::reason(r);
     let letter = reason.bytes;
-    writing::text(b"a Logout, reason ");
-    say::name(&letter);
+    writing::text(rt, b"a Logout, reason ")?;
+    say::name(rt, &letter)?;
     let text = session_fields::logout::text(r);
     let words = text.bytes;
-    writing::text(b", ");
-    say::name(&words);
+    writing::text(rt, b", ")?;
+    say::name(rt, &words)
 }

@@ -3,6 +3,7 @@ use crate::{members, parts, venues};
 use asking::{words, writing};
 use orders::Market;
 use session::Session;
+use std::io;
 use venue::Venue;
 
 // The states that a script keeps from line to line, beside the buffers of the book and of the log.
@@ -31,19 +32,19 @@ pub fn new_bench() -> Bench {
 
 // Which call of the member a word names, or 0.
 fn member_call_of(word: &[u8]) -> u8 {
-    if check::same(word, b"m-get") {
+    if word == b"m-get".as_slice() {
         return 2;
     }
-    if check::same(word, b"m-order") {
+    if word == b"m-order".as_slice() {
         return 3;
     }
-    if check::same(word, b"m-login") {
+    if word == b"m-login".as_slice() {
         return 4;
     }
-    if check::same(word, b"m-break") {
+    if word == b"m-break".as_slice() {
         return 5;
     }
-    if check::same(word, b"m-beat") {
+    if word == b"m-beat".as_slice() {
         return 6;
     }
     own_call_of(word)
@@ -51,10 +52,10 @@ fn member_call_of(word: &[u8]) -> u8 {
 
 // The same for the calls that take one kind of message.
 fn own_call_of(word: &[u8]) -> u8 {
-    if check::same(word, b"m-message") {
+    if word == b"m-message".as_slice() {
         return 7;
     }
-    if check::same(word, b"m-response") {
+    if word == b"m-response".as_slice() {
         return 8;
     }
     rare_call_of(word)
@@ -62,19 +63,19 @@ fn own_call_of(word: &[u8]) -> u8 {
 
 // The same for the calls between the sessions, and the questions for the book.
 fn rare_call_of(word: &[u8]) -> u8 {
-    if check::same(word, b"m-open") {
+    if word == b"m-open".as_slice() {
         return 9;
     }
-    if check::same(word, b"m-restart") {
+    if word == b"m-restart".as_slice() {
         return 10;
     }
-    if check::same(word, b"m-state") {
+    if word == b"m-state".as_slice() {
         return 11;
     }
-    if check::same(word, b"m-book") {
+    if word == b"m-book".as_slice() {
         return 12;
     }
-    if check::same(word, b"m-last") {
+    if word == b"m-last".as_slice() {
         return 13;
     }
     0
@@ -82,25 +83,25 @@ fn rare_call_of(word: &[u8]) -> u8 {
 
 // Which call of the venue a word names, or that of the member, or 0.
 fn venue_call_of(word: &[u8]) -> u8 {
-    if check::same(word, b"v-step") {
+    if word == b"v-step".as_slice() {
         return 14;
     }
-    if check::same(word, b"v-log") {
+    if word == b"v-log".as_slice() {
         return 15;
     }
-    if check::same(word, b"v-login") {
+    if word == b"v-login".as_slice() {
         return 16;
     }
-    if check::same(word, b"v-order") {
+    if word == b"v-order".as_slice() {
         return 17;
     }
-    if check::same(word, b"v-break") {
+    if word == b"v-break".as_slice() {
         return 18;
     }
-    if check::same(word, b"v-state") {
+    if word == b"v-state".as_slice() {
         return 19;
     }
-    if check::same(word, b"v-book") {
+    if word == b"v-book".as_slice() {
         return 20;
     }
     member_call_of(word)
@@ -108,7 +109,7 @@ fn venue_call_of(word: &[u8]) -> u8 {
 
 // Which call a word names, or 0.
 fn call_of(word: &[u8]) -> u8 {
-    if check::same(word, b"new") {
+    if word == b"new".as_slice() {
         return 1;
     }
     venue_call_of(word)
@@ -129,66 +130,81 @@ fn words_of(call: u8) -> usize {
 
 // Answers a line, if it is a question. `bytes` is room for a question's bytes.
 pub fn answered(
+    rt: &impl Print,
     line: &[u8],
     bench: Bench,
     bytes: &mut [u8],
     book: &mut [u8],
     log: &mut [u8],
-) -> Said {
+) -> io::Result<Said> {
     let call = call_of(words::word(line, 0));
     if words::count(line) != words_of(call) {
-        return Said {
+        return Ok(Said {
             ok: false,
             bench: bench,
-        };
+        });
     }
     if call == 1 {
-        return begin(book, log);
+        return begin(rt, book, log);
     }
     if call < 14 {
-        return of_member(call, line, bench, bytes, book);
+        return of_member(rt, call, line, bench, bytes, book);
     }
-    of_venue(call, line, bench, bytes, log)
+    of_venue(rt, call, line, bench, bytes, log)
 }
 
 // `new`: the bench as at the start.
-fn begin(book: &mut [u8], log: &mut [u8]) -> Said {
+fn begin(rt: &impl Print, book: &mut [u8], log: &mut [u8]) -> io::Result<Said> {
     parts::blank(book);
     parts::blank(log);
-    writing::text(b"0");
+    writing::text(rt, b"0")?;
     let bench = new_bench();
-    Said {
+    Ok(Said {
         ok: true,
         bench: bench,
-    }
+    })
 }
 
 // A question to the member.
-fn of_member(call: u8, line: &[u8], bench: Bench, bytes: &mut [u8], book: &mut [u8]) -> Said {
+fn of_member(
+    rt: &impl Print,
+    call: u8,
+    line: &[u8],
+    bench: Bench,
+    bytes: &mut [u8],
+    book: &mut [u8],
+) -> io::Result<Said> {
     let session = bench.session;
     let venue = bench.venue;
-    let told = members::answered(call, line, session, bytes, book);
+    let told = members::answered(rt, call, line, session, bytes, book)?;
     let after = told.session;
-    Said {
+    Ok(Said {
         ok: told.ok,
         bench: Bench {
             session: after,
             venue: venue,
         },
-    }
+    })
 }
 
 // A question to the venue.
-fn of_venue(call: u8, line: &[u8], bench: Bench, bytes: &mut [u8], log: &mut [u8]) -> Said {
+fn of_venue(
+    rt: &impl Print,
+    call: u8,
+    line: &[u8],
+    bench: Bench,
+    bytes: &mut [u8],
+    log: &mut [u8],
+) -> io::Result<Said> {
     let session = bench.session;
     let venue = bench.venue;
-    let told = venues::answered(call, line, venue, bytes, log);
+    let told = venues::answered(rt, call, line, venue, bytes, log)?;
     let after = told.venue;
-    Said {
+    Ok(Said {
         ok: told.ok,
         bench: Bench {
             session: session,
             venue: after,
         },
-    }
+    })
 }

@@ -5,6 +5,7 @@ use book::Book;
 use orders::Market;
 use session::{Phase, Session};
 use session_logins::{Bitfields, Choice};
+use std::io;
 use table::{OutgoingNumber, Unit};
 
 // Whether a line was a question, and the session after it.
@@ -15,18 +16,25 @@ pub struct Told {
 }
 
 // Answers a line by its call.
-pub fn answered(call: u8, line: &[u8], s: Session, bytes: &mut [u8], book: &mut [u8]) -> Told {
+pub fn answered(
+    rt: &impl Print,
+    call: u8,
+    line: &[u8],
+    s: Session,
+    bytes: &mut [u8],
+    book: &mut [u8],
+) -> io::Result<Told> {
     match call {
-        2 | 7 | 8 => get(call, line, s, bytes, book),
-        3 => order(line, s, bytes),
-        4 => login(line, s),
-        5 => broken(line, s, book),
-        6 => beat(line, s),
-        9 => open(line, s, book),
-        10 => restart(line, s, book),
-        11 => state(line, s),
-        12 => stored(s, book),
-        _ => last(line, s, book),
+        2 | 7 | 8 => get(rt, call, line, s, bytes, book),
+        3 => order(rt, line, s, bytes),
+        4 => login(rt, line, s),
+        5 => broken(rt, line, s, book),
+        6 => beat(rt, line, s),
+        9 => open(rt, line, s, book),
+        10 => restart(rt, line, s, book),
+        11 => state(rt, line, s),
+        12 => stored(rt, s, book),
+        _ => last(rt, line, s, book),
     }
 }
 
@@ -59,50 +67,50 @@ fn phase_of(n: u64) -> Phase {
 }
 
 // The member's numbers, which are the answer or its end.
-fn say(s: Session) -> Told {
+fn say(rt: &impl Print, s: Session) -> io::Result<Told> {
     let phase = s.phase;
     let market = s.market;
     let b = s.book;
-    writing::decimal(number_of(phase));
-    writing::next_decimal(s.outgoing.0 as u64);
-    writing::next_decimal(parts::number_of(market));
-    writing::next_decimal(b.date as u64);
-    writing::next_decimal(b.length as u64);
-    writing::next_decimal(b.last as u64);
-    writing::next_decimal(b.count as u64);
-    parts::next_sums(b.table);
-    Told {
+    writing::decimal(rt, number_of(phase))?;
+    writing::next_decimal(rt, s.outgoing.0 as u64)?;
+    writing::next_decimal(rt, parts::number_of(market))?;
+    writing::next_decimal(rt, b.date as u64)?;
+    writing::next_decimal(rt, b.length as u64)?;
+    writing::next_decimal(rt, b.last as u64)?;
+    writing::next_decimal(rt, b.count as u64)?;
+    parts::next_sums(rt, b.table)?;
+    Ok(Told {
         ok: true,
         session: s,
-    }
+    })
 }
 
 // A refusal, or 0, and the member after the call.
-fn refused(refusal: u32, s: Session) -> Told {
-    writing::refusal(refusal);
-    writing::text(b" ");
-    say(s)
+fn refused(rt: &impl Print, refusal: u32, s: Session) -> io::Result<Told> {
+    writing::refusal(rt, refusal)?;
+    writing::text(rt, b" ")?;
+    say(rt, s)
 }
 
 // The same, and the output buffer after the call.
-fn sent(a: session::Answer, out: &[u8]) -> Told {
+fn sent(rt: &impl Print, a: session::Answer, out: &[u8]) -> io::Result<Told> {
     let s = a.session;
-    let t = refused(a.refusal, s);
-    parts::output(out);
-    t
+    let t = refused(rt, a.refusal, s)?;
+    parts::output(rt, out)?;
+    Ok(t)
 }
 
 // The member of a market with the book that opening or restart answers, closed; or as it was, where they refuse.
-fn begun(market: Market, a: book::Answer, s: Session) -> Told {
+fn begun(rt: &impl Print, market: Market, a: book::Answer, s: Session) -> io::Result<Told> {
     if a.refusal != 0 {
-        return refused(a.refusal, s);
+        return refused(rt, a.refusal, s);
     }
     let b = a.book;
-    refused(0, session::closed_with(market, b))
+    refused(rt, 0, session::closed_with(market, b))
 }
 
 // `m-open DATE ROOM MARKET`: the refusal and the member.
-fn open(line: &[u8], s: Session, book: &mut [u8]) -> Told {
+fn open(rt: &impl Print, line: &[u8], s: Session, book: &mut [u8]) -> io::Result<Told> {
     let date = words::read_number(words::word(line, 1), 4294967295);
     let room = words::read_number(words::word(line, 2), book.len() as u64);
     let served = parts::read_market(words::word(line, 3));
@@ -110,13 +118,13 @@ fn open(line: &[u8], s: Session, book: &mut [u8]) -> Told {
         let n = room.value as usize;
         let a = book::open(date.value as u32, &mut book[0..n]);
         let market = served.market;
-        return begun(market, a, s);
+        return begun(rt, market, a, s);
     }
-    unknown(s)
+    Ok(unknown(s))
 }
 
 // `m-restart DATE N MARKET`: the refusal and the member.
-fn restart(line: &[u8], s: Session, book: &[u8]) -> Told {
+fn restart(rt: &impl Print, line: &[u8], s: Session, book: &[u8]) -> io::Result<Told> {
     let date = words::read_number(words::word(line, 1), 4294967295);
     let count = words::read_number(words::word(line, 2), book.len() as u64);
     let served = parts::read_market(words::word(line, 3));
@@ -124,13 +132,13 @@ fn restart(line: &[u8], s: Session, book: &[u8]) -> Told {
         let n = count.value as usize;
         let a = book_restart::restart(date.value as u32, &book[0..n]);
         let market = served.market;
-        return begun(market, a, s);
+        return begun(rt, market, a, s);
     }
-    unknown(s)
+    Ok(unknown(s))
 }
 
 // `m-state PHASE OUTGOING MARKET DATE LENGTH LAST COUNT TABLE PLACES`: the member.
-fn state(line: &[u8], s: Session) -> Told {
+fn state(rt: &impl Print, line: &[u8], s: Session) -> io::Result<Told> {
     let phase = words::read_number(words::word(line, 1), 3);
     let outgoing = words::read_number(words::word(line, 2), 4294967295);
     let served = parts::read_market(words::word(line, 3));
@@ -140,24 +148,27 @@ fn state(line: &[u8], s: Session) -> Told {
         let p = phase_of(phase.value);
         let market = served.market;
         let table = given.table;
-        return say(Session {
-            phase: p,
-            outgoing: OutgoingNumber(outgoing.value as u32),
-            market: market,
-            book: Book {
-                table: table,
-                date: four.first,
-                length: four.second,
-                last: four.third,
-                count: four.fourth,
+        return say(
+            rt,
+            Session {
+                phase: p,
+                outgoing: OutgoingNumber(outgoing.value as u32),
+                market: market,
+                book: Book {
+                    table: table,
+                    date: four.first,
+                    length: four.second,
+                    last: four.third,
+                    count: four.fourth,
+                },
             },
-        });
+        );
     }
-    unknown(s)
+    Ok(unknown(s))
 }
 
 // `m-login WHICH FLAG COUNT UNITS NAMES GIVEN COUNT BITS GIVEN COUNT BITS ROOM`: the refusal, the member and the output.
-fn login(line: &[u8], s: Session) -> Told {
+fn login(rt: &impl Print, line: &[u8], s: Session) -> io::Result<Told> {
     let units = asked::read_units(line);
     let given = asked::read_names(words::word(line, 5));
     let acknowledgments = asked::read_bits(line, 6);
@@ -170,59 +181,67 @@ fn login(line: &[u8], s: Session) -> Told {
         let names = given.names;
         let first = acknowledgments.fields;
         let second = executions.fields;
-        return logged_in(s, choice, names, first, second, &mut out[0..n]);
+        return logged_in(rt, s, choice, names, first, second, &mut out[0..n]);
     }
-    unknown(s)
+    Ok(unknown(s))
 }
 
 // The answer to `m-login` with an output buffer.
 fn logged_in(
+    rt: &impl Print,
     s: Session,
     choice: Choice,
     names: [u8; 18],
     acknowledgments: Bitfields,
     executions: Bitfields,
     out: &mut [u8],
-) -> Told {
+) -> io::Result<Told> {
     let a = s.login(choice, names, acknowledgments, executions, out);
-    sent(a, out)
+    sent(rt, a, out)
 }
 
 // `m-get BYTES ROOM`: the refusal, what became of the message, and the member. `m-message BYTES ROOM`, `m-response BYTES ROOM`: the refusal and the
 // member.
-fn get(call: u8, line: &[u8], s: Session, bytes: &mut [u8], book: &mut [u8]) -> Told {
+fn get(
+    rt: &impl Print,
+    call: u8,
+    line: &[u8],
+    s: Session,
+    bytes: &mut [u8],
+    book: &mut [u8],
+) -> io::Result<Told> {
     let run = words::read_bytes(words::word(line, 1), bytes);
     let room = words::read_number(words::word(line, 2), book.len() as u64);
     if run.ok && room.ok {
         let k = run.count;
         let n = room.value as usize;
         if call == 2 {
-            return received(s, &bytes[0..k], &mut book[0..n]);
+            return received(rt, s, &bytes[0..k], &mut book[0..n]);
         }
         let a = got(call, s, &bytes[0..k], &mut book[0..n]);
         let after = a.session;
-        return refused(a.refusal, after);
+        return refused(rt, a.refusal, after);
     }
-    unknown(s)
+    Ok(unknown(s))
 }
 
 // The answer to `m-get` with the book's buffer.
-fn received(s: Session, bytes: &[u8], book: &mut [u8]) -> Told {
+fn received(rt: &impl Print, s: Session, bytes: &[u8], book: &mut [u8]) -> io::Result<Told> {
     let a = s.receive(bytes, book);
     let told = a.told;
-    writing::refusal(a.refusal);
-    became(told);
-    writing::text(b" ");
+    writing::refusal(rt, a.refusal)?;
+    became(rt, told)?;
+    writing::text(rt, b" ")?;
     let after = a.session;
-    say(after)
+    say(rt, after)
 }
 
 // What became of a message: nothing for the desk, booked, handed.
-fn became(told: session::Told) {
+fn became(rt: &impl Print, told: session::Told) -> io::Result<()> {
     match told {
-        session::Told::Nothing => writing::next_decimal(0),
-        session::Told::Booked => writing::next_decimal(1),
-        session::Told::Handed => writing::next_decimal(2),
+        session::Told::Nothing => writing::next_decimal(rt, 0),
+        session::Told::Booked => writing::next_decimal(rt, 1),
+        session::Told::Handed => writing::next_decimal(rt, 2),
     }
 }
 
@@ -235,86 +254,86 @@ fn got(call: u8, s: Session, bytes: &[u8], book: &mut [u8]) -> session::Answer {
 }
 
 // `m-order RECORD ROOM`: the refusal, the member and the output.
-fn order(line: &[u8], s: Session, bytes: &mut [u8]) -> Told {
+fn order(rt: &impl Print, line: &[u8], s: Session, bytes: &mut [u8]) -> io::Result<Told> {
     let run = words::read_bytes(words::word(line, 1), bytes);
     let room = words::read_number(words::word(line, 2), 2100);
     if run.ok && room.ok {
         let mut out = [0xFFu8; 2100];
         let k = run.count;
         let n = room.value as usize;
-        return ordered(s, &bytes[0..k], &mut out[0..n]);
+        return ordered(rt, s, &bytes[0..k], &mut out[0..n]);
     }
-    unknown(s)
+    Ok(unknown(s))
 }
 
 // The answer to `m-order` with an output buffer.
-fn ordered(s: Session, given: &[u8], out: &mut [u8]) -> Told {
+fn ordered(rt: &impl Print, s: Session, given: &[u8], out: &mut [u8]) -> io::Result<Told> {
     let a = s.order(given, out);
-    sent(a, out)
+    sent(rt, a, out)
 }
 
 // `m-beat ROOM`: the refusal, the member and the output.
-fn beat(line: &[u8], s: Session) -> Told {
+fn beat(rt: &impl Print, line: &[u8], s: Session) -> io::Result<Told> {
     let room = words::read_number(words::word(line, 1), 16384);
     if room.ok {
         let mut out = [0xFFu8; 16384];
         let n = room.value as usize;
-        return beaten(s, &mut out[0..n]);
+        return beaten(rt, s, &mut out[0..n]);
     }
-    unknown(s)
+    Ok(unknown(s))
 }
 
 // The answer to `m-beat` with an output buffer.
-fn beaten(s: Session, out: &mut [u8]) -> Told {
+fn beaten(rt: &impl Print, s: Session, out: &mut [u8]) -> io::Result<Told> {
     let a = s.heartbeat(out);
-    sent(a, out)
+    sent(rt, a, out)
 }
 
 // `m-break ROOM`: the member.
-fn broken(line: &[u8], s: Session, book: &mut [u8]) -> Told {
+fn broken(rt: &impl Print, line: &[u8], s: Session, book: &mut [u8]) -> io::Result<Told> {
     let room = words::read_number(words::word(line, 1), book.len() as u64);
     if room.ok {
         let n = room.value as usize;
-        return say(s.broken(&mut book[0..n]));
+        return say(rt, s.broken(&mut book[0..n]));
     }
-    unknown(s)
+    Ok(unknown(s))
 }
 
 // `m-book`: the book's bytes, and its table's numbers and places.
-fn stored(s: Session, book: &[u8]) -> Told {
+fn stored(rt: &impl Print, s: Session, book: &[u8]) -> io::Result<Told> {
     let b = s.book;
-    parts::stored(book, b.length, b.table);
-    Told {
+    parts::stored(rt, book, b.length, b.table)?;
+    Ok(Told {
         ok: true,
         session: s,
-    }
+    })
 }
 
 // `m-last UNIT ROOM`: the refusal, and the place and the bytes of the last message of a unit.
-fn last(line: &[u8], s: Session, book: &[u8]) -> Told {
+fn last(rt: &impl Print, line: &[u8], s: Session, book: &[u8]) -> io::Result<Told> {
     let unit = words::read_number(words::word(line, 1), 255);
     let room = words::read_number(words::word(line, 2), book.len() as u64);
     if unit.ok && room.ok {
         let n = room.value as usize;
         let b = s.book;
-        found(b, Unit(unit.value as u8), &book[0..n]);
-        return Told {
+        found(rt, b, Unit(unit.value as u8), &book[0..n])?;
+        return Ok(Told {
             ok: true,
             session: s,
-        };
+        });
     }
-    unknown(s)
+    Ok(unknown(s))
 }
 
 // The answer to `m-last` with the book's buffer; where it is refused, place 0 and no bytes.
-fn found(b: Book, unit: Unit, book: &[u8]) {
+fn found(rt: &impl Print, b: Book, unit: Unit, book: &[u8]) -> io::Result<()> {
     let refusal = last_message::last_refusal(b, unit, book);
-    writing::refusal(refusal);
+    writing::refusal(rt, refusal)?;
     if refusal != 0 {
-        writing::text(b" 0 -");
-        return;
+        writing::text(rt, b" 0 -")?;
+        return Ok(());
     }
     let entry = b.table.entry(unit);
-    writing::next_decimal(entry.place.0 as u64);
-    parts::output(last_message::last_message(b, unit, book));
+    writing::next_decimal(rt, entry.place.0 as u64)?;
+    parts::output(rt, last_message::last_message(b, unit, book))
 }

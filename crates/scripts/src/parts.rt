@@ -3,6 +3,7 @@ ghost use Rattle.std.specs.Prelude.{◌≤◌, ◌<◌};
 
 use asking::{words, writing};
 use orders::Market;
+use std::io;
 use table::{Entry, Place, Table, Unit, UnitNumber};
 use venue::Thresholds;
 
@@ -192,10 +193,10 @@ fn sums(t: Table) -> Totals {
 }
 
 // These sums, each after a space.
-pub fn next_sums(t: Table) {
+pub fn next_sums(rt: &impl Print, t: Table) -> io::Result<()> {
     let s = sums(t);
-    writing::next_decimal(s.numbers);
-    writing::next_decimal(s.places);
+    writing::next_decimal(rt, s.numbers)?;
+    writing::next_decimal(rt, s.places)
 }
 
 // A table's numbers and its places into two buffers, 4 bytes a unit.
@@ -230,18 +231,18 @@ fn lesser(a: usize, b: usize) -> usize
 }
 
 // The first bytes of a buffer, as many as a length says or as there are, and a table's numbers and places.
-pub fn stored(buffer: &[u8], length: u32, t: Table) {
+pub fn stored(rt: &impl Print, buffer: &[u8], length: u32, t: Table) -> io::Result<()> {
     let n = lesser(length as usize, buffer.len());
-    writing::hex(&buffer[0..n]);
+    writing::hex(rt, &buffer[0..n])?;
     let mut first = [0u8; 128];
     let mut second = [0u8; 128];
     put_table(t, &mut first, &mut second);
-    output(&first);
-    output(&second);
+    output(rt, &first)?;
+    output(rt, &second)
 }
 
 // A space and bytes: an output buffer after the call.
-pub fn output(out: &[u8]) {
-    writing::text(b" ");
-    writing::hex(out);
+pub fn output(rt: &impl Print, out: &[u8]) -> io::Result<()> {
+    writing::text(rt, b" ")?;
+    writing::hex(rt, out)
 }

@@ -4,13 +4,13 @@ use Rattle.std.proofs.Common.{sym, ap, ◌∙◌, arith, get_or-take, eq-eqb, ne
 use Rattle.refusals.specs.Names.{unknown_type}
 use Rattle.wire.specs.Header.{type_of, total_of}
 use Rattle.wire.specs.Frame.{frame_refusal, framed}
-use Rattle.wire.specs.FrameLaws.{whole, framed_is}
+use Rattle.wire.proofs.FrameLaws.{whole, framed_is}
 use Rattle.orders.specs.Shapes as order_types
 use Rattle.orders.specs.Orders as orders
-use Rattle.orders.specs.OrderLaws.{unsequenced_types}
+use Rattle.orders.proofs.OrderLaws.{unsequenced_types}
 use Rattle.session_messages.specs.Sessions as sessions
 use Rattle.messages.specs.Messages.{is_session, carries, own_refusal, read_refusal}
-use Rattle.session.specs.SessionLaws.{no_session, or-true, framed_and_carried}
+use Rattle.session.proofs.SessionLaws.{no_session, or-true, framed_and_carried}
 
 -- an order message of the venue's is no session message
 order_alone : (t : ℕ) → order_types.of_venue t ≡ true → is_session t ≡ false

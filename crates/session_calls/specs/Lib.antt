@@ -1,10 +1,4 @@
 pub mod LoginBytes
 pub mod LoginBytesLaws
 pub mod SessionBytes
-pub mod SessionBytesLaws
 pub mod Judged
-pub mod SessionAgain
-pub mod SessionRefusals
-pub mod SessionOwn
-pub mod SessionSized
-pub mod SessionKeeps

@@ -10,7 +10,7 @@ use lib.Dec.{eqb}
 use lib.ListN.{length, get_or, drop, length-drop, length-set, replicate}
 use borrow.Author.Tests.{lt-ltb, le-ltb, eq-eqb, ne_eqb}
 use Rattle.session_groups.specs.Groups.{free, mark, unit_at, units_from, next_size, group_key, group_size, groups_from}
-use Rattle.session_groups.specs.GroupLaws.{next_fits}
+use Rattle.session_groups.proofs.GroupLaws.{next_fits}
 
 -- ---- free
 

@@ -21,7 +21,7 @@ use Rattle.table.specs.Table.{last_of}
 use Rattle.session_groups.specs.Values.{pairs_bytes}
 use Rattle.session_logins.specs.declared.Choice.{Choice}
 use Rattle.session_logins.specs.declared.Bitfields.{Bitfields}
-use Rattle.session_logins.specs.LoginRequestLaws.{numbers_long, pairs_size, take-most, least-most}
+use Rattle.session_logins.proofs.LoginRequestLaws.{numbers_long, pairs_size, take-most, least-most}
 use Rattle.session_logins.specs.LoginRequests.{numbers_of, least, pairs_for, units_group, bits_group, part, units_part, bits_part, one, padded}
 
 -- ---- counts

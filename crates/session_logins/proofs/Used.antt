@@ -12,7 +12,7 @@ use Rattle.table.specs.declared.Table.{Table}
 use Rattle.table.specs.declared.Unit.{Unit}
 use Rattle.table.specs.Table.{last_of}
 use Rattle.session_logins.specs.LoginRequests.{only_if, is_used, used_from, filled, used_units}
-use Rattle.session_logins.specs.UsedUnits.{used-more, used_few}
+use Rattle.session_logins.proofs.UsedUnits.{used-more, used_few}
 
 abbrev unit : ℕ → Unit
 unit u = record { 0 = u }

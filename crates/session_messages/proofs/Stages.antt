@@ -14,13 +14,13 @@ use Rattle.kinds.specs.Kinds.{all_nul}
 use Rattle.numbers.specs.Numbers.{patched}
 use Rattle.numbers.proofs.Tail.{tail_is}
 use Rattle.wire.specs.Header.{header_bytes, type_of, unit_of, number_of, total_of}
-use Rattle.wire.specs.FrameLaws.{passed}
+use Rattle.wire.proofs.FrameLaws.{passed}
 use Rattle.block.specs.Slots.{zeros}
 use Rattle.block.specs.SlotLaws.{put_in_zeros}
 use Rattle.session_messages.specs.Sessions.{of_member, of_venue, unit_good, fixed_size, values_good, body_end, size_of, head_refusal, body_refusal, read_refusal, body_of, refuse, read_of, unused_refusal, held_refusal, write_refusal, write_buffer}
 use Rattle.session_messages.specs.ValueFields.{values_wrong}
-use Rattle.session_messages.specs.ValueFieldLaws.{values-found, values-within}
-use Rattle.session_messages.specs.SessionLaws.{body-ends}
+use Rattle.session_messages.proofs.ValueFieldLaws.{values-found, values-within}
+use Rattle.session_messages.proofs.SessionLaws.{body-ends}
 use Rattle.session_messages.specs.declared.Reading.{Reading}
 
 -- a chain that begins with 4 and 5: the head decides, or else what follows

@@ -4,25 +4,26 @@ ghost use Rattle.std.specs.Prelude.{◌≤◌, ◌≡◌, length};
 use crate::books;
 use asking::{words, writing};
 use kinds::Kind;
+use std::io;
 
 // Which call a word names, or 0.
 fn call_of(word: &[u8]) -> u8 {
-    if check::same(word, b"frame") {
+    if word == b"frame".as_slice() {
         return 1;
     }
-    if check::same(word, b"get") {
+    if word == b"get".as_slice() {
         return 2;
     }
-    if check::same(word, b"put") {
+    if word == b"put".as_slice() {
         return 3;
     }
-    if check::same(word, b"price") {
+    if word == b"price".as_slice() {
         return 4;
     }
-    if check::same(word, b"kind") {
+    if word == b"kind".as_slice() {
         return 5;
     }
-    if check::same(word, b"filled") {
+    if word == b"filled".as_slice() {
         return 6;
     }
     later_call_of(word)
@@ -30,19 +31,19 @@ fn call_of(word: &[u8]) -> u8 {
 
 // The same for the calls from `step` on.
 fn later_call_of(word: &[u8]) -> u8 {
-    if check::same(word, b"step") {
+    if word == b"step".as_slice() {
         return 7;
     }
-    if check::same(word, b"day") {
+    if word == b"day".as_slice() {
         return 8;
     }
-    if check::same(word, b"year") {
+    if word == b"year".as_slice() {
         return 9;
     }
-    if check::same(word, b"due") {
+    if word == b"due".as_slice() {
         return 10;
     }
-    if check::same(word, b"silent") {
+    if word == b"silent".as_slice() {
         return 11;
     }
     message_call_of(word)
@@ -50,16 +51,16 @@ fn later_call_of(word: &[u8]) -> u8 {
 
 // The same for the calls on messages.
 fn message_call_of(word: &[u8]) -> u8 {
-    if check::same(word, b"read") {
+    if word == b"read".as_slice() {
         return 12;
     }
-    if check::same(word, b"write") {
+    if word == b"write".as_slice() {
         return 13;
     }
-    if check::same(word, b"read-into") {
+    if word == b"read-into".as_slice() {
         return 19;
     }
-    if check::same(word, b"told") {
+    if word == b"told".as_slice() {
         return 20;
     }
     book_call_of(word)
@@ -67,19 +68,19 @@ fn message_call_of(word: &[u8]) -> u8 {
 
 // The same for the calls on the day book.
 fn book_call_of(word: &[u8]) -> u8 {
-    if check::same(word, b"open") {
+    if word == b"open".as_slice() {
         return 14;
     }
-    if check::same(word, b"restart") {
+    if word == b"restart".as_slice() {
         return 15;
     }
-    if check::same(word, b"append") {
+    if word == b"append".as_slice() {
         return 16;
     }
-    if check::same(word, b"close") {
+    if word == b"close".as_slice() {
         return 17;
     }
-    if check::same(word, b"list") {
+    if word == b"list".as_slice() {
         return 18;
     }
     last_call_of(word)
@@ -87,13 +88,13 @@ fn book_call_of(word: &[u8]) -> u8 {
 
 // The same for the questions for a unit's last message.
 fn last_call_of(word: &[u8]) -> u8 {
-    if check::same(word, b"last") {
+    if word == b"last".as_slice() {
         return 21;
     }
-    if check::same(word, b"last-state") {
+    if word == b"last-state".as_slice() {
         return 22;
     }
-    if check::same(word, b"last-line") {
+    if word == b"last-line".as_slice() {
         return 23;
     }
     0
@@ -110,249 +111,256 @@ fn words_of(call: u8) -> usize {
 }
 
 // Answers a line, if it is a question. `bytes` is room for a question's bytes.
-pub fn answered(line: &[u8], bytes: &mut [u8]) -> bool {
+pub fn answered(rt: &impl Print, line: &[u8], bytes: &mut [u8]) -> io::Result<bool> {
     let call = call_of(words::word(line, 0));
     if words::count(line) != words_of(call) {
-        return false;
+        return Ok(false);
     }
     match call {
-        1 => frame(line, bytes),
-        2 => get(line, bytes),
-        3 => put(line, bytes),
-        4 => price(line, bytes),
-        5 => kind(line, bytes, false),
-        6 => kind(line, bytes, true),
-        7 => step(line, bytes),
-        8 => day(line),
-        9 => year(line),
-        10 => due(line),
-        11 => silent(line),
-        12 => read(line, bytes),
-        13 => lent(line, bytes, false),
-        14 => books::open(line, bytes),
-        15 => books::restart(line, bytes),
-        16 => books::append(line, bytes),
-        17 => books::close(line),
-        18 => books::list(line, bytes),
-        19 => lent(line, bytes, true),
-        20 => told(line),
-        21 => books::last(line, bytes),
-        22 => books::last_state(line, bytes),
-        23 => books::last_line(line, bytes),
-        _ => false,
+        1 => frame(rt, line, bytes),
+        2 => get(rt, line, bytes),
+        3 => put(rt, line, bytes),
+        4 => price(rt, line, bytes),
+        5 => kind(rt, line, bytes, false),
+        6 => kind(rt, line, bytes, true),
+        7 => step(rt, line, bytes),
+        8 => day(rt, line),
+        9 => year(rt, line),
+        10 => due(rt, line),
+        11 => silent(rt, line),
+        12 => read(rt, line, bytes),
+        13 => lent(rt, line, bytes, false),
+        14 => books::open(rt, line, bytes),
+        15 => books::restart(rt, line, bytes),
+        16 => books::append(rt, line, bytes),
+        17 => books::close(rt, line),
+        18 => books::list(rt, line, bytes),
+        19 => lent(rt, line, bytes, true),
+        20 => told(rt, line),
+        21 => books::last(rt, line, bytes),
+        22 => books::last_state(rt, line, bytes),
+        23 => books::last_line(rt, line, bytes),
+        _ => Ok(false),
     }
 }
 
 // `frame BYTES`: the refusal, or 0 and the header of the first whole message.
-fn frame(line: &[u8], bytes: &mut [u8]) -> bool {
+fn frame(rt: &impl Print, line: &[u8], bytes: &mut [u8]) -> io::Result<bool> {
     let run = words::read_bytes(words::word(line, 1), bytes);
     if run.ok {
         let n = run.count;
-        framed(&bytes[0..n]);
-        return true;
+        framed(rt, &bytes[0..n])?;
+        return Ok(true);
     }
-    false
+    Ok(false)
 }
 
 // The answer to `frame` of the bytes.
-fn framed(s: &[u8]) {
+fn framed(rt: &impl Print, s: &[u8]) -> io::Result<()> {
     let refusal = wire::frame_refusal(s);
-    writing::refusal(refusal);
+    writing::refusal(rt, refusal)?;
     if refusal == 0 {
-        header(wire::frame(s));
+        header(rt, wire::frame(s))?;
     }
+    Ok(())
 }
 
 // A message's total, type, unit and number.
-fn header(m: &[u8]) {
-    writing::next_decimal(m.len() as u64);
-    writing::next_decimal(wire::header::type_of(m) as u64);
-    writing::next_decimal(wire::header::unit_of(m) as u64);
-    writing::next_decimal(wire::header::number_of(m) as u64);
+fn header(rt: &impl Print, m: &[u8]) -> io::Result<()> {
+    writing::next_decimal(rt, m.len() as u64)?;
+    writing::next_decimal(rt, wire::header::type_of(m) as u64)?;
+    writing::next_decimal(rt, wire::header::unit_of(m) as u64)?;
+    writing::next_decimal(rt, wire::header::number_of(m) as u64)
 }
 
 // `get WIDTH BYTES AT`: the number at a place.
-fn get(line: &[u8], bytes: &mut [u8]) -> bool {
+fn get(rt: &impl Print, line: &[u8], bytes: &mut [u8]) -> io::Result<bool> {
     let width = words::read_number(words::word(line, 1), 8);
     let run = words::read_bytes(words::word(line, 2), bytes);
     let at = words::read_number(words::word(line, 3), 18446744073709551615);
     if run.ok && at.ok {
         let n = run.count;
-        return got(width.value, &bytes[0..n], at.value as usize);
+        return got(rt, width.value, &bytes[0..n], at.value as usize);
     }
-    false
+    Ok(false)
 }
 
 // The answer to `get` by its width.
-fn got(width: u64, s: &[u8], at: usize) -> bool {
+fn got(rt: &impl Print, width: u64, s: &[u8], at: usize) -> io::Result<bool> {
     match width {
-        2 => writing::decimal(numbers::read_u16(s, at) as u64),
-        4 => writing::decimal(numbers::read_u32(s, at) as u64),
-        8 => writing::decimal(numbers::read_u64(s, at)),
-        _ => return false,
+        2 => writing::decimal(rt, numbers::read_u16(s, at) as u64)?,
+        4 => writing::decimal(rt, numbers::read_u32(s, at) as u64)?,
+        8 => writing::decimal(rt, numbers::read_u64(s, at))?,
+        _ => return Ok(false),
     }
-    true
+    Ok(true)
 }
 
 // `put WIDTH BYTES AT VALUE`: the refusal and the buffer after the call.
-fn put(line: &[u8], bytes: &mut [u8]) -> bool {
+fn put(rt: &impl Print, line: &[u8], bytes: &mut [u8]) -> io::Result<bool> {
     let width = words::read_number(words::word(line, 1), 8);
     let run = words::read_bytes(words::word(line, 2), bytes);
     let at = words::read_number(words::word(line, 3), 18446744073709551615);
     if run.ok && at.ok {
         let n = run.count;
         let value = words::word(line, 4);
-        return put_by(width.value, &mut bytes[0..n], at.value as usize, value);
+        return put_by(rt, width.value, &mut bytes[0..n], at.value as usize, value);
     }
-    false
+    Ok(false)
 }
 
 // The answer to `put` by its width.
-fn put_by(width: u64, out: &mut [u8], at: usize, value: &[u8]) -> bool {
+fn put_by(
+    rt: &impl Print,
+    width: u64,
+    out: &mut [u8],
+    at: usize,
+    value: &[u8],
+) -> io::Result<bool> {
     match width {
-        2 => put_16(out, at, words::read_number(value, 65535)),
-        4 => put_32(out, at, words::read_number(value, 4294967295)),
-        8 => put_64(out, at, words::read_number(value, 18446744073709551615)),
-        _ => false,
+        2 => put_16(rt, out, at, words::read_number(value, 65535)),
+        4 => put_32(rt, out, at, words::read_number(value, 4294967295)),
+        8 => put_64(rt, out, at, words::read_number(value, 18446744073709551615)),
+        _ => Ok(false),
     }
 }
 
 // The answer to `put` of two bytes.
-fn put_16(out: &mut [u8], at: usize, v: words::Number) -> bool
+fn put_16(rt: &impl Print, out: &mut [u8], at: usize, v: words::Number) -> io::Result<bool>
     requires { v.value ≤ 65535 }
 {
     if v.ok {
         let refusal = numbers::write_u16(out, at, v.value as u16);
-        refused(refusal, out);
-        return true;
+        refused(rt, refusal, out)?;
+        return Ok(true);
     }
-    false
+    Ok(false)
 }
 
 // The answer to `put` of four bytes.
-fn put_32(out: &mut [u8], at: usize, v: words::Number) -> bool
+fn put_32(rt: &impl Print, out: &mut [u8], at: usize, v: words::Number) -> io::Result<bool>
     requires { v.value ≤ 4294967295 }
 {
     if v.ok {
         let refusal = numbers::write_u32(out, at, v.value as u32);
-        refused(refusal, out);
-        return true;
+        refused(rt, refusal, out)?;
+        return Ok(true);
     }
-    false
+    Ok(false)
 }
 
 // The answer to `put` of eight bytes.
-fn put_64(out: &mut [u8], at: usize, v: words::Number) -> bool {
+fn put_64(rt: &impl Print, out: &mut [u8], at: usize, v: words::Number) -> io::Result<bool> {
     if v.ok {
         let refusal = numbers::write_u64(out, at, v.value);
-        refused(refusal, out);
-        return true;
+        refused(rt, refusal, out)?;
+        return Ok(true);
     }
-    false
+    Ok(false)
 }
 
 // A refusal and the buffer after the call.
-pub fn refused(refusal: u32, s: &[u8]) {
-    writing::refusal(refusal);
-    writing::text(b" ");
-    writing::hex(s);
+pub fn refused(rt: &impl Print, refusal: u32, s: &[u8]) -> io::Result<()> {
+    writing::refusal(rt, refusal)?;
+    writing::text(rt, b" ")?;
+    writing::hex(rt, s)
 }
 
 // `price BYTES`: the price with its four decimals.
-fn price(line: &[u8], bytes: &mut [u8]) -> bool {
+fn price(rt: &impl Print, line: &[u8], bytes: &mut [u8]) -> io::Result<bool> {
     let run = words::read_bytes(words::word(line, 1), bytes);
     if run.ok && run.count == 8 {
-        writing::price(numbers::prices::read_price(bytes, 0));
-        return true;
+        writing::price(rt, numbers::prices::read_price(bytes, 0))?;
+        return Ok(true);
     }
-    false
+    Ok(false)
 }
 
 // `kind KIND BYTES`, and `filled KIND BYTES` for a field that is never blank: whether the bytes agree with the kind.
-fn kind(line: &[u8], bytes: &mut [u8], never_blank: bool) -> bool {
+fn kind(rt: &impl Print, line: &[u8], bytes: &mut [u8], never_blank: bool) -> io::Result<bool> {
     let letter = words::word(line, 1);
     let run = words::read_bytes(words::word(line, 2), bytes);
     if letter.len() == 1 && run.ok {
         let n = run.count;
-        return of_kind(letter[0], &bytes[0..n], never_blank);
+        return of_kind(rt, letter[0], &bytes[0..n], never_blank);
     }
-    false
+    Ok(false)
 }
 
 // The answer to `kind` and `filled` by the kind's letter.
-fn of_kind(letter: u8, s: &[u8], never_blank: bool) -> bool {
+fn of_kind(rt: &impl Print, letter: u8, s: &[u8], never_blank: bool) -> io::Result<bool> {
     match letter {
-        b'A' => agreed(Kind::Letters, s, never_blank),
-        b'N' => agreed(Kind::Alphanumeric, s, never_blank),
-        b'T' => agreed(Kind::Text, s, never_blank),
-        b'I' => agreed(Kind::Identifier, s, never_blank),
-        b'B' => agreed(Kind::Binary, s, never_blank),
-        b'P' => agreed(Kind::Price, s, never_blank),
-        b'F' => agreed(Kind::FilledText, s, never_blank),
-        b'D' => agreed(Kind::Day, s, never_blank),
-        _ => return false,
+        b'A' => agreed(rt, Kind::Letters, s, never_blank)?,
+        b'N' => agreed(rt, Kind::Alphanumeric, s, never_blank)?,
+        b'T' => agreed(rt, Kind::Text, s, never_blank)?,
+        b'I' => agreed(rt, Kind::Identifier, s, never_blank)?,
+        b'B' => agreed(rt, Kind::Binary, s, never_blank)?,
+        b'P' => agreed(rt, Kind::Price, s, never_blank)?,
+        b'F' => agreed(rt, Kind::FilledText, s, never_blank)?,
+        b'D' => agreed(rt, Kind::Day, s, never_blank)?,
+        _ => return Ok(false),
     }
-    true
+    Ok(true)
 }
 
 // Whether a field's bytes agree with its kind: 1 or 0.
-fn agreed(kind: Kind, s: &[u8], never_blank: bool) {
+fn agreed(rt: &impl Print, kind: Kind, s: &[u8], never_blank: bool) -> io::Result<()> {
     if never_blank {
-        writing::yes_or_no(kinds::agrees_filled(kind, s));
+        writing::yes_or_no(rt, kinds::agrees_filled(kind, s))
     } else {
-        writing::yes_or_no(kinds::agrees(kind, s));
+        writing::yes_or_no(rt, kinds::agrees(kind, s))
     }
 }
 
 // `step BYTES UNIT NUMBER`: the refusal and the table's bytes after the call.
-fn step(line: &[u8], bytes: &mut [u8]) -> bool {
+fn step(rt: &impl Print, line: &[u8], bytes: &mut [u8]) -> io::Result<bool> {
     let run = words::read_bytes(words::word(line, 1), bytes);
     let unit = words::read_number(words::word(line, 2), 255);
     let number = words::read_number(words::word(line, 3), 4294967295);
     if run.ok && unit.ok && number.ok {
         let n = run.count;
-        stepped(&mut bytes[0..n], unit.value as u8, number.value as u32);
-        return true;
+        stepped(rt, &mut bytes[0..n], unit.value as u8, number.value as u32)?;
+        return Ok(true);
     }
-    false
+    Ok(false)
 }
 
 // The answer to `step` of a table's bytes.
-fn stepped(entries: &mut [u8], unit: u8, number: u32) {
+fn stepped(rt: &impl Print, entries: &mut [u8], unit: u8, number: u32) -> io::Result<()> {
     let refusal = gateway::boe_table_step(unit, number, entries);
-    refused(refusal, entries);
+    refused(rt, refusal, entries)
 }
 
 // `day NUMBER`: the refusal of a date.
-fn day(line: &[u8]) -> bool {
+fn day(rt: &impl Print, line: &[u8]) -> io::Result<bool> {
     let date = words::read_number(words::word(line, 1), 4294967295);
     if date.ok {
-        writing::refusal(calendar::day_refusal(date.value as u32));
-        return true;
+        writing::refusal(rt, calendar::day_refusal(date.value as u32))?;
+        return Ok(true);
     }
-    false
+    Ok(false)
 }
 
 // `told TYPE`: what becomes of a message of a type from the venue.
-fn told(line: &[u8]) -> bool {
+fn told(rt: &impl Print, line: &[u8]) -> io::Result<bool> {
     let message = words::read_number(words::word(line, 1), 255);
     if message.ok {
-        writing::decimal(gateway::boe_told(message.value as u8) as u64);
-        return true;
+        writing::decimal(rt, gateway::boe_told(message.value as u8) as u64)?;
+        return Ok(true);
     }
-    false
+    Ok(false)
 }
 
 // `year NUMBER`: which dates of a year are days.
-fn year(line: &[u8]) -> bool {
+fn year(rt: &impl Print, line: &[u8]) -> io::Result<bool> {
     let y = words::read_number(words::word(line, 1), 9999);
     if y.ok {
         let mut out = [0u8; 462];
         year_of(y.value as u32, &mut out);
-        writing::text(&out);
-        return true;
+        writing::text(rt, &out)?;
+        return Ok(true);
     }
-    false
+    Ok(false)
 }
 
 // For the months 0 to 13 and the days 0 to 32 of a year, 1 for a day and 0 for none.
@@ -376,54 +384,57 @@ fn mark_of(yes: bool) -> u8 {
 }
 
 // `due NOW THEN`: whether a heartbeat is due.
-fn due(line: &[u8]) -> bool {
+fn due(rt: &impl Print, line: &[u8]) -> io::Result<bool> {
     let now = words::read_number(words::word(line, 1), 4294967295);
     let then = words::read_number(words::word(line, 2), 4294967295);
     if now.ok && then.ok {
-        writing::yes_or_no(pulse::heartbeat_due(now.value as u32, then.value as u32));
-        return true;
+        writing::yes_or_no(
+            rt,
+            pulse::heartbeat_due(now.value as u32, then.value as u32),
+        )?;
+        return Ok(true);
     }
-    false
+    Ok(false)
 }
 
 // `silent NOW THEN`: whether the peer is silent.
-fn silent(line: &[u8]) -> bool {
+fn silent(rt: &impl Print, line: &[u8]) -> io::Result<bool> {
     let now = words::read_number(words::word(line, 1), 4294967295);
     let then = words::read_number(words::word(line, 2), 4294967295);
     if now.ok && then.ok {
-        writing::yes_or_no(pulse::peer_silent(now.value as u32, then.value as u32));
-        return true;
+        writing::yes_or_no(rt, pulse::peer_silent(now.value as u32, then.value as u32))?;
+        return Ok(true);
     }
-    false
+    Ok(false)
 }
 
 // `read DIRECTION BYTES`: the refusal, or 0 and the record.
-fn read(line: &[u8], bytes: &mut [u8]) -> bool {
+fn read(rt: &impl Print, line: &[u8], bytes: &mut [u8]) -> io::Result<bool> {
     let direction = words::read_number(words::word(line, 1), 255);
     let run = words::read_bytes(words::word(line, 2), bytes);
     if direction.ok && run.ok {
         let n = run.count;
-        read_by(direction.value as u8, &bytes[0..n]);
-        return true;
+        read_by(rt, direction.value as u8, &bytes[0..n])?;
+        return Ok(true);
     }
-    false
+    Ok(false)
 }
 
 // The answer to `read` of the bytes.
-fn read_by(direction: u8, s: &[u8]) {
+fn read_by(rt: &impl Print, direction: u8, s: &[u8]) -> io::Result<()> {
     let mut out = [0u8; session_messages::RECORD];
     let refusal = gateway::boe_read(direction, s, &mut out);
     if refusal != 0 {
-        writing::refusal(refusal);
+        writing::refusal(rt, refusal)
     } else if orders::is_known(out[0]) {
-        refused(0, &out[0..block::RECORD]);
+        refused(rt, 0, &out[0..block::RECORD])
     } else {
-        refused(0, &out);
+        refused(rt, 0, &out)
     }
 }
 
 // `write DIRECTION RECORD BYTES`, `read-into DIRECTION BYTES BUFFER`: the refusal and the buffer after the call.
-fn lent(line: &[u8], bytes: &mut [u8], reads: bool) -> bool {
+fn lent(rt: &impl Print, line: &[u8], bytes: &mut [u8], reads: bool) -> io::Result<bool> {
     let direction = words::read_number(words::word(line, 1), 255);
     let mut given = [0u8; 4096];
     let order = words::read_bytes(words::word(line, 2), &mut given);
@@ -431,19 +442,31 @@ fn lent(line: &[u8], bytes: &mut [u8], reads: bool) -> bool {
     if direction.ok && order.ok && run.ok {
         let k = order.count;
         let n = run.count;
-        lent_by(direction.value as u8, &given[0..k], &mut bytes[0..n], reads);
-        return true;
+        lent_by(
+            rt,
+            direction.value as u8,
+            &given[0..k],
+            &mut bytes[0..n],
+            reads,
+        )?;
+        return Ok(true);
     }
-    false
+    Ok(false)
 }
 
 // The answer to `read-into` of a message's bytes, and to `write` of a record's.
-fn lent_by(direction: u8, given: &[u8], out: &mut [u8], reads: bool) {
+fn lent_by(
+    rt: &impl Print,
+    direction: u8,
+    given: &[u8],
+    out: &mut [u8],
+    reads: bool,
+) -> io::Result<()> {
     if reads {
         let read = gateway::boe_read(direction, given, out);
-        refused(read, out);
-        return;
+        refused(rt, read, out)?;
+        return Ok(());
     }
     let refusal = gateway::boe_write(direction, given, out);
-    refused(refusal, out);
+    refused(rt, refusal, out)
 }

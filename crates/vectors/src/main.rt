@@ -5,20 +5,22 @@ mod answers;
 mod books;
 
 use asking::writing;
+use std::io;
+use std::io::Read;
 
 // The most characters of a line.
 const LONGEST: usize = 8000;
 
 // One question's answer, with its line end.
-fn answer(line: &[u8], len: usize, bytes: &mut [u8]) {
+fn answer(rt: &impl Print, line: &[u8], len: usize, bytes: &mut [u8]) -> io::Result<()> {
     if LONGEST < len || line.len() < len {
-        writing::unknown();
-        return;
+        writing::unknown(rt)?;
+        return Ok(());
     }
-    if answers::answered(&line[0..len], bytes) {
-        writing::line_end();
+    if answers::answered(rt, &line[0..len], bytes)? {
+        writing::line_end(rt)
     } else {
-        writing::unknown();
+        writing::unknown(rt)
     }
 }
 
@@ -32,49 +34,61 @@ fn longer(line: &mut [u8], len: usize, b: u8) -> usize {
 }
 
 // The characters of a piece of input: each line end has the line before it answered. Answers the length of the line begun.
-fn feed(piece: &[u8], line: &mut [u8], len: usize, bytes: &mut [u8]) -> usize {
+fn feed(
+    rt: &impl Print,
+    piece: &[u8],
+    line: &mut [u8],
+    len: usize,
+    bytes: &mut [u8],
+) -> io::Result<usize> {
     let mut n = len;
     let mut i: usize = 0;
     while i < piece.len() {
-        n = fed(piece[i], line, n, bytes);
+        n = fed(rt, piece[i], line, n, bytes)?;
         i += 1;
     }
-    n
+    Ok(n)
 }
 
 // One character of input.
-fn fed(b: u8, line: &mut [u8], len: usize, bytes: &mut [u8]) -> usize {
+fn fed(rt: &impl Print, b: u8, line: &mut [u8], len: usize, bytes: &mut [u8]) -> io::Result<usize> {
     if b == b'\n' {
-        answer(line, len, bytes);
-        return 0;
+        answer(rt, line, len, bytes)?;
+        return Ok(0);
     }
-    longer(line, len, b)
+    Ok(longer(line, len, b))
 }
 
 // One read of standard input. Answers the length of the line begun, or the largest number where the input is over.
-fn turn(line: &mut [u8], len: usize, bytes: &mut [u8]) -> usize {
+fn turn(
+    rt: &(impl Print + Input),
+    line: &mut [u8],
+    len: usize,
+    bytes: &mut [u8],
+) -> io::Result<usize> {
     let mut piece = [0u8; 4096];
-    let got = libc::read(0, &mut piece);
-    if got <= 0 {
-        return usize::MAX;
+    let n = rt.reader().read(&mut piece)?;
+    if n == 0 {
+        return Ok(usize::MAX);
     }
-    let n = io::count(got, &piece);
-    feed(&piece[0..n], line, len, bytes)
+    feed(rt, &piece[0..n], line, len, bytes)
 }
 
-// Reads to the end of the input. A proved loop has to end, so it counts its turns down from a number that no run uses up.
-fn run(line: &mut [u8], bytes: &mut [u8]) {
-    let mut turns = u64::MAX;
+// Reads to the end of the input. A proved loop has to end, so it has as many turns as no run uses up.
+fn run(rt: &(impl Print + Input), line: &mut [u8], bytes: &mut [u8]) -> io::Result<()> {
     let mut len: usize = 0;
-    while turns > 0 && len < usize::MAX {
-        len = turn(line, len, bytes);
-        turns -= 1;
+    for _ in 0..u64::MAX {
+        if len == usize::MAX {
+            break;
+        }
+        len = turn(rt, line, len, bytes)?;
     }
+    Ok(())
 }
 
 // Room for a line and for a question's bytes, and the questions answered.
-fn main() {
+fn main(rt: HostRuntime) -> io::Result<()> {
     let mut line = [0u8; 8001];
     let mut bytes = [0u8; 4096];
-    run(&mut line, &mut bytes);
+    run(&rt, &mut line, &mut bytes)
 }

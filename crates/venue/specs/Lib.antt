@@ -2,15 +2,8 @@ pub mod Venues
 pub mod VenueStages
 pub mod Seeks
 pub mod LoginLaws
-pub mod VenueLaws
 pub mod Responses
 pub mod Thresholds
-pub mod Markets
-pub mod Readable
-pub mod Logs
-pub mod Logged
-pub mod Replays
-pub mod Asked
 pub mod VenueDay
 pub mod VenueView
 pub mod VenueRuns
@@ -23,9 +16,4 @@ pub mod VenueSent
 pub mod VenueTaken
 pub mod VenueLogin
 pub mod MeetsVenue
-pub mod VenueLive
-pub mod VenueMust
 pub mod Brings
-pub mod BringsLaws
-pub mod VenueExample
-pub mod SameReplay

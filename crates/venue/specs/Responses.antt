@@ -17,14 +17,14 @@ use Rattle.block.specs.Slots.{zeros}
 use Rattle.block.specs.SlotLaws.{length-zeros, zeros_are_nul}
 use Rattle.table.specs.declared.Table.{Table}
 use Rattle.session_groups.specs.Groups.{units_from, pairs_good, key_of, group_key, next_size, mark, groups_from, groups_end}
-use Rattle.session_groups.specs.GroupLaws.{first_of, taken_of, groups_steady}
+use Rattle.session_groups.proofs.GroupLaws.{first_of, taken_of, groups_steady}
 use Rattle.session_groups.specs.Values.{pairs_bytes}
 use Rattle.session_messages.specs.declared.Record.{Record}
 use Rattle.session_messages.specs.Sessions.{fixed_size, flag_good, values_good, after, response_end, lists_end, body_end, size_of, read_refusal, body_of, record_of, write_refusal, record_refusal, session_bytes}
-use Rattle.session_messages.specs.SessionLaws.{After, after_of, body-steady, good}
-use Rattle.session_messages.specs.SessionTrip.{Sound}
+use Rattle.session_messages.proofs.SessionLaws.{After, after_of, body-steady, good}
+use Rattle.session_messages.proofs.SessionTrip.{Sound}
 use Rattle.session_logins.specs.LoginRequests.{up_from, pairs_for, padded}
-use Rattle.session_logins.specs.LoginRequestLaws.{pairs_size}
+use Rattle.session_logins.proofs.LoginRequestLaws.{pairs_size}
 use Rattle.session_fields.specs.SessionFields.{group_is, group_from, request_group, group_flag}
 use Rattle.session_fields.specs.GroupFieldLaws.{same_step}
 use Rattle.venue.specs.declared.Venue.{Venue}

@@ -9,7 +9,7 @@ use Rattle.std.proofs.Common.{sym, ◌∙◌}
 use Rattle.std.proofs.Math.Path.{ap}
 use native.Mathlib.Omega.{arith}
 use Rattle.table.specs.declared.UnitNumber.{UnitNumber}
-use Rattle.table.specs.TableLaws.{unit-taken}
+use Rattle.table.proofs.TableLaws.{unit-taken}
 use Rattle.session_messages.specs.declared.Record.{Record}
 use Rattle.session_logins.specs.LoginRequests.{up_from}
 use Rattle.session_fields.specs.SessionFields.{group_flag, group_listed}

@@ -4,16 +4,16 @@ use Rattle.std.proofs.Common.{arith, inl, inr, ⊎_elim, sym, ap, ◌∙◌, app
 use Rattle.std.proofs.lemmas.Bool.{false≢true, eqb-false}
 use Rattle.wire.specs.Header.{type_of, length_of, number_of, total_of}
 use Rattle.wire.specs.Frame.{not_ba, starts_bad, length_bad, cut_short, frame_refusal, framed}
-use Rattle.wire.specs.FrameLaws.{framed_accepted, framed-again}
+use Rattle.wire.proofs.FrameLaws.{framed_accepted, framed-again}
 use Rattle.block.specs.SlotLaws.{both_true}
 use Rattle.orders.specs.Shapes.{sequenced, unsequenced}
 use Rattle.orders.specs.Orders as orders
 use Rattle.session_messages.specs.Sessions as sessions
-use Rattle.orders.specs.OrderLaws.{either}
+use Rattle.orders.proofs.OrderLaws.{either}
 use Rattle.messages.specs.Messages.{is_session, carries, heard, own_refusal, read_refusal}
-use Rattle.messages.specs.MessageLaws.{own_refusal_lem}
+use Rattle.messages.proofs.MessageLaws.{own_refusal_lem}
 use Rattle.book.specs.Books.{message_refusal}
-use Rattle.book.specs.BookLaws.{frames}
+use Rattle.book.proofs.BookLaws.{frames}
 use Rattle.day_model.specs.Model.{Sent, response, message, complete, aside, logout}
 use Rattle.day_model.specs.Story.{Bytes}
 use Rattle.day_line.specs.Lines.{msg_of, says, Fine}

@@ -11,10 +11,10 @@ use Rattle.std.proofs.Math.Seq.{take-length}
 use Rattle.wire.specs.Header.{type_of}
 use Rattle.wire.specs.Frame.{frame_refusal, framed}
 use Rattle.table.specs.Table.{unit_refusal}
-use Rattle.table.specs.TableLaws.{unit_in_range}
+use Rattle.table.proofs.TableLaws.{unit_in_range}
 use Rattle.session_messages.specs.declared.Record.{Record}
 use Rattle.session_messages.specs.Sessions as logins
-use Rattle.session_messages.specs.SessionTrip.{Sound, read_accepts, framed-after, framed_as_written}
+use Rattle.session_messages.proofs.SessionTrip.{Sound, read_accepts, framed-after, framed_as_written}
 use Rattle.session_logins.specs.LoginRequests.{login_record}
 use Rattle.day_model.specs.Model.{Msg, Table, count, Venue, took}
 use Rattle.day_model.specs.Story.{Bytes}

@@ -19,12 +19,12 @@ use Rattle.session_groups.specs.Values.{pairs_bytes}
 use Rattle.orders.specs.Orders as orders
 use Rattle.session_messages.specs.declared.Record.{Record}
 use Rattle.session_messages.specs.Sessions as logins
-use Rattle.session_messages.specs.SessionLaws.{Fit, fit, body-ends}
-use Rattle.session_messages.specs.SessionTrip.{Sound, bytes-length, read_accepts, framed-after, framed_as_written}
+use Rattle.session_messages.proofs.SessionLaws.{Fit, fit, body-ends}
+use Rattle.session_messages.proofs.SessionTrip.{Sound, bytes-length, read_accepts, framed-after, framed_as_written}
 use Rattle.session_logins.specs.LoginRequests.{up_from, pairs_for}
-use Rattle.session_logins.specs.LoginRequestLaws.{pairs_size}
+use Rattle.session_logins.proofs.LoginRequestLaws.{pairs_size}
 use Rattle.messages.specs.Messages.{carries, is_session, own_refusal, read_refusal}
-use Rattle.messages.specs.MessageLaws.{own_refusal_lem}
+use Rattle.messages.proofs.MessageLaws.{own_refusal_lem}
 use Rattle.day_model.specs.Model.{response}
 use Rattle.day_model.specs.Story.{Bytes}
 use Rattle.day_line.specs.Lines.{says, Fine}

@@ -1,5 +1,5 @@
 -- `block::has_required` meets its contract: an arm a message. Assumes nothing.
-use Rattle.dictionary.specs.NewOrders.{a-new_order, no_new_order}
+use Rattle.dictionary.proofs.NewOrders.{a-new_order, no_new_order}
 use Rattle.block.specs.Places.{has_required}
 use borrow.Author.Tests.{ne_eqb}
 use Rattle.block.proofs.has_required.Goals as goal

@@ -2,7 +2,7 @@
 -- all eight; what was found before them is asked at the end. The measure is the count of bits that are left. Assumes nothing.
 use Rattle.block.specs.Loops.{bit-turn, bits_end_lem}
 use Rattle.block.specs.Walk.{Judging, judge_here}
-use Rattle.block.specs.OneByte.{judge_byte}
+use Rattle.block.proofs.OneByte.{judge_byte}
 use Rattle.block_judge.specs.State.{judging}
 use native.Mathlib.Omega.{arith}
 use Prim.Native.Nat.{ℕ, ◌-◌}

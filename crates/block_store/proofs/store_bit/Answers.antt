@@ -4,7 +4,7 @@ use mathlib.Core.Path.{refl, sym, ◌∙◌}
 use native.Mathlib.Omega.{arith}
 use borrow.Author.Tests.{eq-eqb, ne_eqb}
 use Rattle.dictionary.specs.Dictionary.{entry_of}
-use Rattle.block.specs.Dictionaries.{field_fits}
+use Rattle.block.proofs.Dictionaries.{field_fits}
 use Rattle.block.specs.Loops.{bit-set, bit_unset}
 use Rattle.block.specs.Walk.{store_entry}
 use Rattle.block_store.specs.State.{storing}

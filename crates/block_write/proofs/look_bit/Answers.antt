@@ -3,7 +3,7 @@
 use mathlib.Core.Path.{refl, sym, ◌∙◌}
 use native.Mathlib.Omega.{arith}
 use borrow.Author.Tests.{eq-eqb, ne_eqb}
-use Rattle.block.specs.Dictionaries.{field_fits}
+use Rattle.block.proofs.Dictionaries.{field_fits}
 use Rattle.block.specs.Loops.{bit-set, bit_unset}
 use Rattle.block.specs.Walk.{look_here}
 use Rattle.block_write.specs.State.{looking}

@@ -5,7 +5,7 @@ use Prim.Native.Nat.{ℕ, ◌-◌}
 use native.Mathlib.Omega.{arith}
 use Rattle.block.specs.Loops.{bit-turn, bits_end_lem}
 use Rattle.block.specs.Walk.{Looking, look_here}
-use Rattle.block.specs.OneByte.{look_byte}
+use Rattle.block.proofs.OneByte.{look_byte}
 use Rattle.block_write.specs.State.{looking}
 use Rattle.block_write.proofs.look_bits.Goals as goal
 

@@ -3,7 +3,7 @@ use mathlib.Core.Path.{sym, ap, ◌∙◌}
 use lib.ListN.{length}
 use borrow.Author.Tests.{ne_eqb}
 use Rattle.calendar.specs.Calendar.{is_day}
-use Rattle.kinds.specs.KindLaws.{day_is}
+use Rattle.kinds.proofs.KindLaws.{day_is}
 use Rattle.kinds.proofs.day_agrees.Goals as goal
 
 pub returns-then-n-ne4 : goal.returns-then-n-ne4

@@ -2,7 +2,7 @@
 -- returned. A field of another length is tested as one that is never blank. Assumes nothing.
 use mathlib.Core.Path.{sym}
 use native.Mathlib.Omega.{arith}
-use Rattle.kinds.specs.KindLaws.{first_nul}
+use Rattle.kinds.proofs.KindLaws.{first_nul}
 use Rattle.kinds.proofs.Walk.{nul_no}
 use Rattle.kinds.proofs.identifies.Goals as goal
 

@@ -5,7 +5,7 @@ use mathlib.Core.Bool.{◌&&◌, and-true}
 use Prim.Native.Nat.{◌-◌}
 use native.Mathlib.Omega.{arith}
 use Rattle.kinds.specs.Kinds.{follows, steady}
-use Rattle.kinds.specs.KindLaws.{steady_text}
+use Rattle.kinds.proofs.KindLaws.{steady_text}
 use Rattle.kinds.proofs.Walk.{goes_on, walk_end}
 use Rattle.kinds.proofs.is_name.Goals as goal
 

@@ -3,7 +3,7 @@
 use mathlib.Core.Path.{sym, ap, ◌∙◌}
 use native.Mathlib.Omega.{arith}
 use Rattle.kinds.specs.Kinds.{agrees_of}
-use Rattle.kinds.specs.KindLaws.{one_agrees, one_byte}
+use Rattle.kinds.proofs.KindLaws.{one_agrees, one_byte}
 use Rattle.kinds.proofs.sized_agrees.Goals as goal
 
 pub returns-then-n-eq1 : goal.returns-then-n-eq1

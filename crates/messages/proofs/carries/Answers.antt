@@ -1,6 +1,6 @@
 -- `messages::carries` meets its contract. Assumes nothing.
 use mathlib.Core.Path.{sym, ◌∙◌}
-use Rattle.messages.specs.MessageLaws.{or_yes, or_no, from_member, from_venue, from_options_member, from_none}
+use Rattle.messages.proofs.MessageLaws.{or_yes, or_no, from_member, from_venue, from_options_member, from_none}
 use Rattle.messages.proofs.carries.Goals as goal
 
 pub returns-then-direction-eq0 : goal.returns-then-direction-eq0

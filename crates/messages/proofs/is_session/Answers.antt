@@ -1,6 +1,6 @@
 -- `messages::is_session` meets its contract. Assumes nothing.
 use mathlib.Core.Path.{sym, ◌∙◌}
-use Rattle.messages.specs.MessageLaws.{or_yes, or_no}
+use Rattle.messages.proofs.MessageLaws.{or_yes, or_no}
 use Rattle.messages.proofs.is_session.Goals as goal
 
 pub returns-then-of_member : goal.returns-then-of_member

@@ -1,6 +1,6 @@
 -- `messages::of_member` meets its contract. Assumes nothing.
 use mathlib.Core.Path.{sym, ◌∙◌}
-use Rattle.messages.specs.MessageLaws.{or_yes, or_no}
+use Rattle.messages.proofs.MessageLaws.{or_yes, or_no}
 use Rattle.messages.proofs.of_member.Goals as goal
 
 pub returns-then-of_market : goal.returns-then-of_market

@@ -8,8 +8,8 @@ use Rattle.block.specs.Sizes.{record_size}
 use Rattle.messages.specs.Messages.{is_session, carries, session_record_bytes}
 use Rattle.messages.specs.Stages.{placed_refusal, placed_record}
 use Rattle.orders.specs.Markets.{typed}
-use Rattle.messages.specs.Heard.{long_enough, as_typed, heard_type, named, session_heard}
-use Rattle.messages.specs.MessageLaws.{frame_stops, type_stops, session_reads, order_reads}
+use Rattle.messages.proofs.Heard.{long_enough, as_typed, heard_type, named, session_heard}
+use Rattle.messages.proofs.MessageLaws.{frame_stops, type_stops, session_reads, order_reads}
 use mathlib.Core.List.{List}
 use lib.ListN.{length}
 use Prim.Native.Nat.{ℕ}

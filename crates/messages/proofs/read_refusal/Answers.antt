@@ -6,8 +6,8 @@ use Rattle.orders.specs.Orders as orders
 use Rattle.orders.specs.Markets.{typed}
 use Rattle.session_messages.specs.Sessions as sessions
 use Rattle.messages.specs.Messages.{is_session, carries}
-use Rattle.messages.specs.Heard.{long_enough, as_typed, heard_type, named, session_heard}
-use Rattle.messages.specs.MessageLaws.{frame_refuses, type_refuses, session_refuses, order_refuses}
+use Rattle.messages.proofs.Heard.{long_enough, as_typed, heard_type, named, session_heard}
+use Rattle.messages.proofs.MessageLaws.{frame_refuses, type_refuses, session_refuses, order_refuses}
 use Rattle.messages.proofs.read_refusal.Goals as goal
 
 pub returns-then-refusal-ne0 : goal.returns-then-refusal-ne0

@@ -1,5 +1,5 @@
 -- `messages::write` meets its contract. Assumes nothing.
-use Rattle.messages.specs.MessageLaws.{write_empty, write_stops, session_writes, order_writes}
+use Rattle.messages.proofs.MessageLaws.{write_empty, write_stops, session_writes, order_writes}
 use mathlib.Core.Path.{sym, ◌∙◌}
 use Rattle.messages.proofs.write.Goals as goal
 

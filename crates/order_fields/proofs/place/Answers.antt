@@ -1,6 +1,6 @@
 -- `order_fields::place` meets its contract. Assumes nothing.
 use Rattle.order_fields.specs.NamedLaws.{placed, misplaced, unlisted}
-use Rattle.block.specs.Dictionaries.{field_fits}
+use Rattle.block.proofs.Dictionaries.{field_fits}
 use mathlib.Core.Path.{sym, ◌∙◌}
 use native.Mathlib.Omega.{arith}
 use Rattle.order_fields.proofs.place.Goals as goal

@@ -5,8 +5,8 @@ use Rattle.refusals.specs.Told.{told}
 use Rattle.numbers.proofs.Tail.{tail_is}
 use Rattle.orders.specs.Shapes.{count_at}
 use Rattle.orders.specs.FixedFields.{fixed_wrong}
-use Rattle.orders.specs.OrderLaws.{count_bounds}
-use Rattle.orders.specs.FixedFieldLaws.{fixed-within}
+use Rattle.orders.proofs.OrderLaws.{count_bounds}
+use Rattle.orders.proofs.FixedFieldLaws.{fixed-within}
 use Rattle.order_reader.specs.Stages.{value_refusal, judged_of}
 use borrow.Author.Tests.{eq-eqb, ne_eqb}
 use lib.ListN.{length, drop}

@@ -1,7 +1,7 @@
 -- `order_reader::order_refusal` meets its contract: a message under its own type is the message. Assumes nothing.
 use Rattle.order_reader.proofs.Heads.{no_type}
 use Rattle.orders.specs.Markets.{typed}
-use Rattle.orders.specs.MarketLaws.{same_but}
+use Rattle.orders.proofs.MarketLaws.{same_but}
 use Rattle.orders.specs.Orders.{read_refusal}
 use mathlib.Core.Path.{ap, ◌∙◌}
 use Prim.Native.Nat.{ℕ}

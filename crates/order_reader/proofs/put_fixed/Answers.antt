@@ -1,5 +1,5 @@
 -- `order_reader::put_fixed` meets its contract: in each arm the place of the count is the type's. Assumes nothing.
-use Rattle.orders.specs.OrderLaws.{in_new_order, in_cancel_order, in_acknowledgment, in_execution, in_modify_order, in_purge_orders, in_others}
+use Rattle.orders.proofs.OrderLaws.{in_new_order, in_cancel_order, in_acknowledgment, in_execution, in_modify_order, in_purge_orders, in_others}
 use Rattle.numbers.specs.Numbers.{patched}
 use Rattle.block.specs.Slots.{zeros}
 use native.Mathlib.Omega.{arith}

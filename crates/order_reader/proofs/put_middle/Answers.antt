@@ -1,7 +1,7 @@
 -- `order_reader::put_middle` meets its contract: the middle in the tail after the fixed part. Assumes nothing.
 use Rattle.numbers.proofs.Tail.{tail_is, lent-patched}
 use Rattle.numbers.specs.Numbers.{patched}
-use Rattle.orders.specs.OrderLaws.{count_bounds}
+use Rattle.orders.proofs.OrderLaws.{count_bounds}
 use native.Mathlib.Omega.{arith}
 use Prim.Native.Nat.{ℕ, ◌-◌}
 use lib.ListN.{length, take, length-drop}

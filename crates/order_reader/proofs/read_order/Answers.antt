@@ -3,7 +3,7 @@ use Rattle.order_reader.proofs.Heads.{no_type}
 use Rattle.order_reader.proofs.Readings.{refused-keeps}
 use Rattle.order_reader.specs.Stages.{read_record}
 use Rattle.orders.specs.Markets.{typed}
-use Rattle.orders.specs.MarketLaws.{same_but}
+use Rattle.orders.proofs.MarketLaws.{same_but}
 use Rattle.orders.specs.Orders.{read_refusal}
 use mathlib.Core.Path.{◌≡◌, ap, ◌∙◌}
 use mathlib.Core.List.{List}

@@ -1,7 +1,7 @@
 -- `order_reader::value_refusal` meets its contract. Assumes nothing.
 use Rattle.refusals.specs.Names.{bad_value}
 use Rattle.refusals.specs.Told.{told}
-use Rattle.orders.specs.OrderLaws.{count_bounds}
+use Rattle.orders.proofs.OrderLaws.{count_bounds}
 use Rattle.order_reader.specs.Stages.{value_refusal}
 use borrow.Author.Tests.{eq-eqb, ne_eqb}
 use native.Mathlib.Omega.{arith}

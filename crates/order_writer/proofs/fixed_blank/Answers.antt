@@ -9,7 +9,7 @@ use Rattle.kinds.specs.Kinds.{all_nul}
 use Rattle.block.specs.Sizes.{fixed_size}
 use Rattle.orders.specs.Shapes.{count_at}
 use Rattle.orders.specs.Middle.{middle_size, middle_good}
-use Rattle.orders.specs.OrderLaws.{in_new_order, in_cancel_order, in_acknowledgment, in_execution, in_modify_order, in_others}
+use Rattle.orders.proofs.OrderLaws.{in_new_order, in_cancel_order, in_acknowledgment, in_execution, in_modify_order, in_others}
 use Rattle.order_writer.proofs.Held.{unused_is, unused_windows}
 use Rattle.order_writer.proofs.fixed_blank.Goals as goal
 

@@ -6,7 +6,7 @@ use lib.ListN.{length, drop}
 use Rattle.numbers.proofs.Tail.{tail_is}
 use Rattle.kinds.specs.Kinds.{all_nul}
 use Rattle.orders.specs.Middle.{middle_size}
-use Rattle.orders.specs.OrderLaws.{in_purge_orders, middle-fits}
+use Rattle.orders.proofs.OrderLaws.{in_purge_orders, middle-fits}
 use Rattle.order_writer.proofs.Held.{blank-after}
 use Rattle.order_writer.proofs.purge_blank.Goals.{After-middle_size-from}
 use Rattle.order_writer.proofs.purge_blank.Goals as goal

@@ -1,6 +1,6 @@
 -- `order_writer::put_fixed` meets its contract: the number in each arm is what the message's fixed part has. Assumes nothing.
 use native.Mathlib.Omega.{arith}
-use Rattle.orders.specs.OrderLaws.{in_new_order, in_cancel_order, in_acknowledgment, in_execution, in_modify_order, in_purge_orders, in_others}
+use Rattle.orders.proofs.OrderLaws.{in_new_order, in_cancel_order, in_acknowledgment, in_execution, in_modify_order, in_purge_orders, in_others}
 use Rattle.order_writer.proofs.put_fixed.Goals as goal
 
 pub put_part-requires : goal.put_part-requires

@@ -8,7 +8,7 @@ use Rattle.numbers.specs.NumberLaws.{put_stores}
 use Rattle.numbers.proofs.Tail.{puts_then, tail_length}
 use Rattle.wire.specs.Header.{header_bytes}
 use Rattle.orders.specs.Markets.{wire_type}
-use Rattle.orders.specs.OrderLaws.{count_bounds}
+use Rattle.orders.proofs.OrderLaws.{count_bounds}
 use Rattle.order_writer.specs.Stages.{rest_bytes}
 use Rattle.order_writer.proofs.Puts.{rest-length}
 use Rattle.order_writer.proofs.put_order.Goals.{After-write_header, Start}

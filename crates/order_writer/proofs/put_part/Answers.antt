@@ -1,6 +1,6 @@
 -- `order_writer::put_part` meets its contract: the part that is moved is the front of the fixed part. Assumes nothing.
 use Rattle.orders.specs.Shapes.{count_at}
-use Rattle.orders.specs.OrderLaws.{count_bounds}
+use Rattle.orders.proofs.OrderLaws.{count_bounds}
 use Rattle.numbers.specs.Numbers.{patched}
 use native.Mathlib.Omega.{arith}
 use lib.ListN.{length, take}

@@ -8,7 +8,7 @@ use lib.Seq.{length-take-le}
 use Rattle.numbers.proofs.Tail.{puts_then, tail_length}
 use Rattle.numbers.specs.Numbers.{patched}
 use Rattle.orders.specs.Shapes.{count_at}
-use Rattle.orders.specs.OrderLaws.{count_bounds}
+use Rattle.orders.proofs.OrderLaws.{count_bounds}
 use Rattle.order_writer.specs.Stages.{field_bytes, rest_bytes}
 use Rattle.order_writer.proofs.Held.{held_low, held-there, held_is_lem}
 use Rattle.order_writer.proofs.Puts.{fields-length}

@@ -10,7 +10,7 @@ use Rattle.block.specs.Sizes.{fixed_end}
 use Rattle.refusals.specs.Names.{unlisted_bit, not_selected}
 use Rattle.refusals.specs.Told.{told}
 use Rattle.orders.specs.Shapes.{count_at}
-use Rattle.orders.specs.OrderLaws.{count_bounds}
+use Rattle.orders.proofs.OrderLaws.{count_bounds}
 use Rattle.order_writer.specs.Stages.{value_refusal, seen_refusal}
 use Rattle.order_writer.proofs.Held.{held_low, held-there, held_is_lem}
 use Rattle.order_writer.proofs.Writing.{middle_good_lem}

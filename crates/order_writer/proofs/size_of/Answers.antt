@@ -4,7 +4,7 @@ use Prim.Native.Nat.{ℕ, ◌+◌, ◌≤◌}
 use native.Mathlib.Omega.{arith}
 use Rattle.block.specs.Sizes.{fixed_end}
 use Rattle.orders.specs.Middle.{middle_size}
-use Rattle.orders.specs.OrderLaws.{count_bounds}
+use Rattle.orders.proofs.OrderLaws.{count_bounds}
 use Rattle.order_writer.proofs.Held.{held_low, held-there, held_is_lem}
 use Rattle.order_writer.proofs.size_of.Goals.{After-count_at-at}
 use Rattle.order_writer.proofs.size_of.Goals as goal

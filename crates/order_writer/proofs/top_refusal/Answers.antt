@@ -5,7 +5,7 @@ use Rattle.refusals.specs.Names.{too_many_bitfields}
 use Rattle.refusals.specs.Told.{told}
 use Rattle.order_writer.specs.Stages.{top_refusal}
 use Rattle.orders.specs.Shapes.{most_of}
-use Rattle.orders.specs.OrderLaws.{count_bounds}
+use Rattle.orders.proofs.OrderLaws.{count_bounds}
 use native.Mathlib.Omega.{arith}
 use Rattle.order_writer.proofs.top_refusal.Goals as goal
 

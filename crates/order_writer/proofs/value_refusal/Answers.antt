@@ -7,8 +7,8 @@ use native.Mathlib.Omega.{arith}
 use Rattle.block.specs.Sizes.{fixed_end}
 use Rattle.refusals.specs.Names.{bad_value}
 use Rattle.refusals.specs.Told.{told}
-use Rattle.orders.specs.OrderLaws.{count_bounds}
-use Rattle.orders.specs.FixedFieldLaws.{fixed-within}
+use Rattle.orders.proofs.OrderLaws.{count_bounds}
+use Rattle.orders.proofs.FixedFieldLaws.{fixed-within}
 use Rattle.order_writer.specs.Stages.{value_refusal}
 use Rattle.order_writer.proofs.value_refusal.Goals.{After-count_at}
 use Rattle.order_writer.proofs.value_refusal.Goals as goal

@@ -10,7 +10,7 @@ use Rattle.block_write.specs.State.{looking, unseen, look_walk}
 use Rattle.orders.specs.Shapes.{count_at}
 use Rattle.orders.specs.Middle.{middle_good}
 use Rattle.orders.specs.Orders.{write_slots, write_rest, size_of, write_refusal}
-use Rattle.orders.specs.OrderLaws.{middle-fits}
+use Rattle.orders.proofs.OrderLaws.{middle-fits}
 use lib.Dec.{ltb}
 use lib.ListN.{length, drop}
 use borrow.Author.Tests.{lt-ltb, le-ltb}

@@ -1,7 +1,7 @@
 -- `orders::count_at` meets its contract. Assumes nothing.
 use Rattle.orders.specs.Shapes.{count_at}
 use borrow.Author.Tests.{ne_eqb}
-use Rattle.dictionary.specs.NewOrders.{a-new_order, no_new_order}
+use Rattle.dictionary.proofs.NewOrders.{a-new_order, no_new_order}
 use Rattle.orders.proofs.count_at.Goals as goal
 
 pub returns-in-56 : goal.returns-in-56

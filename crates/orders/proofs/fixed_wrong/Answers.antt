@@ -1,6 +1,6 @@
 -- `orders::fixed_wrong` meets its contract: that of Purge Orders has nothing to test; every other one is its identifier and, in six types, more to test. Assumes nothing.
 use Rattle.dictionary.specs.Dictionary.{is_new_order}
-use Rattle.dictionary.specs.NewOrders.{a-new_order, no_new_order}
+use Rattle.dictionary.proofs.NewOrders.{a-new_order, no_new_order}
 use Rattle.orders.specs.Shapes.{count_at}
 use Rattle.orders.specs.FixedFields.{new_order_fields, cancel_order_fields, modify_order_fields, acknowledgment_fields, execution_fields, rejection_fields, fixed_fields, fixed_wrong}
 use Rattle.refusals.specs.FirstBad.{first_bad}
@@ -15,7 +15,7 @@ use native.Mathlib.Omega.{arith}
 use lib.Dec.{eqb}
 use lib.ListN.{take, drop}
 use borrow.Author.Tests.{ne_eqb, eqb-true}
-use Rattle.orders.specs.OrderLaws.{in_new_order, in_execution, in_modify_order, in_others}
+use Rattle.orders.proofs.OrderLaws.{in_new_order, in_execution, in_modify_order, in_others}
 use Rattle.orders.proofs.fixed_wrong.Goals as goal
 
 -- the identifier lies within the fixed part

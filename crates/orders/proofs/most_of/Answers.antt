@@ -1,7 +1,7 @@
 -- `orders::most_of` meets its contract. Assumes nothing.
 use Rattle.orders.specs.Shapes.{most_of}
 use borrow.Author.Tests.{ne_eqb}
-use Rattle.dictionary.specs.NewOrders.{a-new_order, no_new_order}
+use Rattle.dictionary.proofs.NewOrders.{a-new_order, no_new_order}
 use Rattle.orders.proofs.most_of.Goals as goal
 
 pub returns-in-56 : goal.returns-in-56

@@ -1,6 +1,6 @@
 -- `orders::of_member` meets its contract. Assumes nothing.
 use borrow.Author.Tests.{ne_eqb}
-use Rattle.dictionary.specs.NewOrders.{a-new_order, no_new_order}
+use Rattle.dictionary.proofs.NewOrders.{a-new_order, no_new_order}
 use Rattle.orders.proofs.of_member.Goals as goal
 
 pub returns-in-56 : goal.returns-in-56

@@ -1,5 +1,5 @@
 -- `session::gate` meets its contract. Assumes nothing.
-use Rattle.session.specs.OrderLaws.{not_live, used_up, short, no_order, an_order}
+use Rattle.session.proofs.OrderLaws.{not_live, used_up, short, no_order, an_order}
 use mathlib.Core.Path.{sym, ◌∙◌}
 use Rattle.session.proofs.gate.Goals as goal
 

@@ -1,7 +1,7 @@
 -- `session::response_refusal` meets its contract. Assumes nothing.
 use Rattle.wire.specs.Header.{type_of}
 use Rattle.session_messages.specs.Sessions.{read_refusal}
-use Rattle.session.specs.ReadingLaws.{response_unframed, response_foreign, response_judged}
+use Rattle.session.proofs.ReadingLaws.{response_unframed, response_foreign, response_judged}
 use mathlib.Core.Path.{sym, ap, ◌∙◌}
 use Rattle.session.proofs.response_refusal.Goals as goal
 

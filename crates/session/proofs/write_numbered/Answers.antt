@@ -4,7 +4,7 @@ use Rattle.numbers.specs.Numbers.{bytes_of, put_buffer}
 use Rattle.order_records.specs.Records.{record_at}
 use Rattle.orders.specs.declared.Record.{Record}
 use Rattle.orders.specs.Orders.{write_refusal, write_buffer}
-use Rattle.session.specs.OrderLaws.{numbered_is}
+use Rattle.session.proofs.OrderLaws.{numbered_is}
 use mathlib.Core.Path.{refl, ap, ◌∙◌}
 use native.Mathlib.Omega.{arith}
 use lib.ListN.{length}

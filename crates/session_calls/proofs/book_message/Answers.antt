@@ -2,7 +2,7 @@
 use mathlib.Core.Path.{sym, ◌∙◌}
 use lib.ListN.{length}
 use Rattle.session_calls.specs.SessionBytes.{session_of}
-use Rattle.session_calls.specs.SessionBytesLaws.{booked-there, unbooked}
+use Rattle.session_calls.proofs.SessionBytesLaws.{booked-there, unbooked}
 use Rattle.session_calls.proofs.book_message.Goals as goal
 
 pub returns-then-refusal-ne0 : goal.returns-then-refusal-ne0

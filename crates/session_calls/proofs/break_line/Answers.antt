@@ -2,10 +2,10 @@
 use mathlib.Core.Path.{refl, sym, ap, ◌∙◌}
 use Rattle.session.specs.declared.Phase.{Phase}
 use Rattle.session.specs.Sessions.{is_closed, in_phase}
-use Rattle.session.specs.SessionLaws.{stays_closed, breaks}
+use Rattle.session.proofs.SessionLaws.{stays_closed, breaks}
 use Rattle.numbers.specs.Numbers.{patched}
 use Rattle.session_calls.specs.SessionBytes.{session_of, session_bytes}
-use Rattle.session_calls.specs.SessionBytesLaws.{short-called, short_back, short-kept, long_called, long_back, broken-there}
+use Rattle.session_calls.proofs.SessionBytesLaws.{short-called, short_back, short-kept, long_called, long_back, broken-there}
 use Rattle.session_calls.proofs.break_line.Goals as goal
 
 pub returns-then-state-lt278 : goal.returns-then-state-lt278

@@ -1,5 +1,5 @@
 -- `session_calls::closed_after` meets its contract. Assumes nothing.
-use Rattle.session_calls.specs.SessionBytesLaws.{closed_not, closed_put}
+use Rattle.session_calls.proofs.SessionBytesLaws.{closed_not, closed_put}
 use Rattle.session_calls.proofs.closed_after.Goals as goal
 
 pub returns-then-refusal-ne0 : goal.returns-then-refusal-ne0

@@ -1,6 +1,6 @@
 -- `session_calls::end` meets its contract. Assumes nothing.
 use lib.ListN.{length}
-use Rattle.session_calls.specs.SessionBytesLaws.{ended-there, closed_buffer}
+use Rattle.session_calls.proofs.SessionBytesLaws.{ended-there, closed_buffer}
 use Rattle.session_calls.proofs.end.Goals as goal
 
 pub returns : goal.returns

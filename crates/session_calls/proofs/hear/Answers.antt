@@ -4,7 +4,7 @@ use Rattle.numbers.specs.Numbers.{patched}
 use Rattle.session.specs.declared.Phase.{Phase}
 use Rattle.session.specs.declared.Session.{Session}
 use Rattle.session.specs.Sessions.{in_phase}
-use Rattle.session.specs.SessionLaws.{hears_response, hears_complete, hears_logout, hears_else}
+use Rattle.session.proofs.SessionLaws.{hears_response, hears_complete, hears_logout, hears_else}
 use Rattle.session_calls.specs.SessionBytes.{session_of, session_bytes}
 use Rattle.session_calls.proofs.hear.Goals as goal
 

@@ -2,9 +2,9 @@
 use mathlib.Core.Path.{sym, ap, ◌∙◌}
 use Rattle.session.specs.declared.Answer.{Answer}
 use Rattle.session.specs.Sessions.{is_open}
-use Rattle.session.specs.SessionLaws.{beats, no_beat}
+use Rattle.session.proofs.SessionLaws.{beats, no_beat}
 use Rattle.session_calls.specs.SessionBytes.{session_of}
-use Rattle.session_calls.specs.SessionBytesLaws.{short-called, short_back, long_called, long_back}
+use Rattle.session_calls.proofs.SessionBytesLaws.{short-called, short_back, long_called, long_back}
 use Rattle.session_calls.proofs.heartbeat.Goals as goal
 
 pub returns-then-state-lt278 : goal.returns-then-state-lt278

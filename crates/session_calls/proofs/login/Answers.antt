@@ -5,10 +5,10 @@ use native.Mathlib.Omega.{arith}
 use Rattle.book_calls.specs.BookBytes.{book_of}
 use Rattle.session.specs.declared.Phase.TheVariants.{Asked}
 use Rattle.session.specs.Sessions.{is_closed, in_phase, login_of}
-use Rattle.session.specs.SessionLaws.{no_login, login-refused, logs_in_lem}
+use Rattle.session.proofs.SessionLaws.{no_login, login-refused, logs_in_lem}
 use Rattle.session_calls.specs.LoginBytes.{given_record}
 use Rattle.session_calls.specs.SessionBytes.{session_of}
-use Rattle.session_calls.specs.SessionBytesLaws.{short-called, short_back, short-kept, none-called, none-back, none_kept, given_back_lem, given_leaves, leaves_refused, leaves_stored}
+use Rattle.session_calls.proofs.SessionBytesLaws.{short-called, short_back, short-kept, none-called, none-back, none_kept, given_back_lem, given_leaves, leaves_refused, leaves_stored}
 use Rattle.session_calls.proofs.login.Goals as goal
 
 pub returns-then-state-lt278 : goal.returns-then-state-lt278

@@ -1,5 +1,5 @@
 -- `session_calls::open` meets its contract. Assumes nothing.
-use Rattle.session_calls.specs.SessionBytesLaws.{short-called, short_back, short-kept, opened-there}
+use Rattle.session_calls.proofs.SessionBytesLaws.{short-called, short_back, short-kept, opened-there}
 use Rattle.session_calls.proofs.open.Goals as goal
 
 pub returns-then-state-lt278 : goal.returns-then-state-lt278

@@ -5,9 +5,9 @@ use native.Mathlib.Omega.{arith}
 use Prim.Native.Nat.{ℕ, ◌+◌}
 use Rattle.orders.specs.Orders.{write_refusal, write_buffer}
 use Rattle.session.specs.Sessions.{numbered, order_of}
-use Rattle.session.specs.OrderLaws.{admitted, gate_stops, writer_stops, goes-out}
+use Rattle.session.proofs.OrderLaws.{admitted, gate_stops, writer_stops, goes-out}
 use Rattle.session_calls.specs.SessionBytes.{session_of}
-use Rattle.session_calls.specs.SessionBytesLaws.{short-called, short_back, short-kept, long_back, long_leaves, leaves_refused, leaves_stored, gate_is, sent-there}
+use Rattle.session_calls.proofs.SessionBytesLaws.{short-called, short_back, short-kept, long_back, long_leaves, leaves_refused, leaves_stored, gate_is, sent-there}
 use Rattle.session_calls.proofs.order.Goals as goal
 
 pub returns-then-state-lt278 : goal.returns-then-state-lt278

@@ -1,5 +1,5 @@
 -- `session_calls::phase` meets its contract. Assumes nothing.
-use Rattle.session_calls.specs.SessionBytesLaws.{no_phase, phase_told}
+use Rattle.session_calls.proofs.SessionBytesLaws.{no_phase, phase_told}
 use Rattle.session_calls.proofs.phase.Goals as goal
 
 pub returns-then-state-lt278 : goal.returns-then-state-lt278

@@ -5,10 +5,10 @@ use native.Mathlib.Omega.{arith}
 use Prim.Native.Nat.{ℕ}
 use Rattle.wire.specs.Frame.{framed}
 use Rattle.session.specs.Sessions.{is_closed, told_of, receive_of}
-use Rattle.session.specs.SessionLaws.{deaf, unreadable}
+use Rattle.session.proofs.SessionLaws.{deaf, unreadable}
 use Rattle.session_calls.specs.Judged.{type_in-bytes}
 use Rattle.session_calls.specs.SessionBytes.{session_of, told_number}
-use Rattle.session_calls.specs.SessionBytesLaws.{short-called, short_back, short-kept, long_back, long_leaves, leaves_refused, told-kept, told-put, told_is}
+use Rattle.session_calls.proofs.SessionBytesLaws.{short-called, short_back, short-kept, long_back, long_leaves, leaves_refused, told-kept, told-put, told_is}
 use Rattle.session_calls.proofs.receive.Goals as goal
 
 pub returns-then-state-lt278 : goal.returns-then-state-lt278

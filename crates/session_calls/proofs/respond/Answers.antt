@@ -7,9 +7,9 @@ use Rattle.orders.specs.declared.Market.{Market}
 use Rattle.session.specs.declared.Phase.TheVariants.{Replaying}
 use Rattle.session.specs.declared.Session.{Session}
 use Rattle.session.specs.Sessions.{status_in, received_in}
-use Rattle.session.specs.SessionLaws.{allowed, denied}
+use Rattle.session.proofs.SessionLaws.{allowed, denied}
 use Rattle.session_calls.specs.SessionBytes.{outgoing_at, beside_bytes, session_of, session_bytes}
-use Rattle.session_calls.specs.SessionBytesLaws.{beside_alone}
+use Rattle.session_calls.proofs.SessionBytesLaws.{beside_alone}
 use Rattle.session_calls.proofs.respond.Goals as goal
 
 pub returns-then-byte_at-ne65 : goal.returns-then-byte_at-ne65

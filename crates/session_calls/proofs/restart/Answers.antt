@@ -1,5 +1,5 @@
 -- `session_calls::restart` meets its contract. Assumes nothing.
-use Rattle.session_calls.specs.SessionBytesLaws.{short-called, short-kept, restarted-there}
+use Rattle.session_calls.proofs.SessionBytesLaws.{short-called, short-kept, restarted-there}
 use Rattle.session_calls.proofs.restart.Goals as goal
 
 pub returns-then-state-lt278 : goal.returns-then-state-lt278

@@ -1,6 +1,6 @@
 -- `session_calls::set_phase` meets its contract. Assumes nothing.
 use native.Mathlib.Omega.{arith}
-use Rattle.session_calls.specs.SessionBytesLaws.{phase_set}
+use Rattle.session_calls.proofs.SessionBytesLaws.{phase_set}
 use Rattle.session_calls.proofs.set_phase.Goals as goal
 
 pub returns : goal.returns

@@ -8,9 +8,9 @@ use Rattle.wire.specs.Header.{type_of}
 use Rattle.orders.specs.Shapes.{sequenced}
 use Rattle.session.specs.Sessions.{is_closed, passes}
 use Rattle.session.specs.Stages.{heard_by, heard_buffer}
-use Rattle.session.specs.SessionLaws.{untimely, by_message, by_session}
+use Rattle.session.proofs.SessionLaws.{untimely, by_message, by_session}
 use Rattle.session_calls.specs.SessionBytes.{session_of, session_bytes}
-use Rattle.session_calls.specs.SessionBytesLaws.{leaves_refused, leaves_stored, good_leaves, good_buffer_lem}
+use Rattle.session_calls.proofs.SessionBytesLaws.{leaves_refused, leaves_stored, good_leaves, good_buffer_lem}
 use Prim.Native.Nat.{ℕ}
 use mathlib.Core.List.{List}
 use Rattle.session.specs.declared.Phase.{Phase}

@@ -1,6 +1,6 @@
 -- `session_groups::next_group` meets its contract. Assumes nothing.
 use Rattle.session_groups.proofs.Walk.{next_no, next-yes}
-use Rattle.session_groups.specs.GroupLaws.{key_long}
+use Rattle.session_groups.proofs.GroupLaws.{key_long}
 use Rattle.session_groups.proofs.Walk.{free-zero, free_came, free-yes}
 use Rattle.session_groups.specs.Groups.{group_size}
 use Prim.Native.Nat.{ℕ}

@@ -1,6 +1,6 @@
 -- `session_logins::choice_of` meets its contract. Assumes nothing.
 use mathlib.Core.Path.{◌∙◌}
-use Rattle.session_logins.specs.LoginRequestLaws.{choice_default, choice_kept}
+use Rattle.session_logins.proofs.LoginRequestLaws.{choice_default, choice_kept}
 use Rattle.session_logins.proofs.choice_of.Goals as goal
 
 pub used_units-requires : goal.used_units-requires

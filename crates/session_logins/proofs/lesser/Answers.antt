@@ -1,6 +1,6 @@
 -- `session_logins::lesser` meets its contract. Assumes nothing.
 use Rattle.session_logins.proofs.Parts.{least_second}
-use Rattle.session_logins.specs.LoginRequestLaws.{least_first}
+use Rattle.session_logins.proofs.LoginRequestLaws.{least_first}
 use Rattle.session_logins.proofs.lesser.Goals as goal
 
 pub returns-then-n-most : goal.returns-then-n-most

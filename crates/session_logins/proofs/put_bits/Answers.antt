@@ -8,7 +8,7 @@ use Rattle.numbers.proofs.Tail.{puts_then, tail_length}
 use Rattle.numbers.specs.Numbers.{bytes_of, patched}
 use Rattle.session_logins.specs.LoginRequests.{least}
 use Rattle.session_logins.proofs.Parts.{no_bits, bits_there, nothing_put, bits_size}
-use Rattle.session_logins.specs.LoginRequestLaws.{least-most, take-most}
+use Rattle.session_logins.proofs.LoginRequestLaws.{least-most, take-most}
 use borrow.Author.Rules.{rules}
 use borrow.Author.Tests.{not-true, not-false}
 use Rattle.session_logins.proofs.put_bits.Goals as goal

@@ -9,7 +9,7 @@ use Rattle.numbers.specs.Numbers.{patched}
 use Rattle.numbers.proofs.Tail.{puts_then, tail_length}
 use Rattle.session_logins.specs.LoginRequests.{groups_part}
 use Rattle.session_logins.proofs.Parts.{counted}
-use Rattle.session_logins.specs.LoginRequestLaws.{groups_most}
+use Rattle.session_logins.proofs.LoginRequestLaws.{groups_most}
 use Rattle.session_logins.proofs.put_body.Goals as goal
 
 pub slice_bounds-put_groups-count : goal.slice_bounds-put_groups-count

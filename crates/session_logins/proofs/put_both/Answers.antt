@@ -4,7 +4,7 @@ use native.Mathlib.Omega.{arith}
 use Rattle.numbers.proofs.Tail.{puts_then, tail_length}
 use Rattle.session_logins.specs.LoginRequests.{bits_part}
 use Rattle.session_logins.proofs.Parts.{first-there}
-use Rattle.session_logins.specs.LoginRequestLaws.{bits_most}
+use Rattle.session_logins.proofs.LoginRequestLaws.{bits_most}
 use Rattle.session_logins.proofs.put_both.Goals as goal
 
 pub slice_bounds-put_bits-count : goal.slice_bounds-put_bits-count

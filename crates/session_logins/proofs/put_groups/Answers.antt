@@ -5,7 +5,7 @@ use native.Mathlib.Omega.{arith}
 use Rattle.numbers.proofs.Tail.{puts_then, tail_length}
 use Rattle.session_logins.specs.LoginRequests.{units_part, bits_part}
 use Rattle.session_logins.proofs.Parts.{first-there}
-use Rattle.session_logins.specs.LoginRequestLaws.{units_most, both_most}
+use Rattle.session_logins.proofs.LoginRequestLaws.{units_most, both_most}
 use Rattle.session_logins.proofs.put_groups.Goals as goal
 
 pub slice_bounds-put_both-count : goal.slice_bounds-put_both-count

@@ -13,7 +13,7 @@ use Rattle.table.specs.declared.Unit.{Unit}
 use Rattle.table.specs.Table.{last_of}
 use Rattle.session_logins.specs.LoginRequests.{numbers_of, pairs_for}
 use Rattle.session_logins.proofs.Parts.{unmapped, number_at, pairs_more, pair_put, nothing_put}
-use Rattle.session_logins.specs.LoginRequestLaws.{numbers_long, pairs_size}
+use Rattle.session_logins.proofs.LoginRequestLaws.{numbers_long, pairs_size}
 use borrow.Author.Rules.{rules}
 use Rattle.session_logins.proofs.put_pairs.Goals as goal
 

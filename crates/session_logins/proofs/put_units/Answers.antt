@@ -9,7 +9,7 @@ use Rattle.numbers.specs.Numbers.{bytes_of, patched}
 use Rattle.session_groups.specs.Values.{pairs_bytes}
 use Rattle.session_logins.specs.LoginRequests.{numbers_of, least, pairs_for}
 use Rattle.session_logins.proofs.Parts.{unmapped, no_units, units_there, nothing_put, pairs_room, group_is_lem, group-size}
-use Rattle.session_logins.specs.LoginRequestLaws.{least-most}
+use Rattle.session_logins.proofs.LoginRequestLaws.{least-most}
 use borrow.Author.Rules.{rules}
 use Rattle.session_logins.proofs.put_units.Goals as goal
 

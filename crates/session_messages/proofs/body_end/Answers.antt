@@ -1,7 +1,7 @@
 -- `session_messages::body_end` meets its contract. Assumes nothing.
 use Rattle.session_messages.proofs.Ends.{after_none, after_more, alone, bad_flag, by_lists}
 use Rattle.session_messages.specs.Sessions.{lists_end}
-use Rattle.session_messages.specs.SessionLaws.{steady_small, fixed_small, lists-steady}
+use Rattle.session_messages.proofs.SessionLaws.{steady_small, fixed_small, lists-steady}
 use native.Mathlib.Omega.{arith}
 use mathlib.Core.Path.{sym, ◌∙◌}
 use Rattle.session_messages.proofs.body_end.Goals as goal

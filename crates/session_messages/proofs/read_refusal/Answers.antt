@@ -1,6 +1,6 @@
 -- `session_messages::read_refusal` meets its contract. Assumes nothing.
 use Rattle.session_messages.proofs.Stages.{head_stops, too_short, by_body}
-use Rattle.session_messages.specs.SessionLaws.{fixed_small}
+use Rattle.session_messages.proofs.SessionLaws.{fixed_small}
 use mathlib.Core.Path.{◌∙◌}
 use native.Mathlib.Omega.{arith}
 use Rattle.session_messages.proofs.read_refusal.Goals as goal

@@ -1,8 +1,8 @@
 -- `session_messages::read_session` meets its contract. Assumes nothing.
 use Rattle.session_messages.proofs.Stages.{read_refused, read_accepted}
 use Rattle.session_messages.specs.Sessions.{read_refusal}
-use Rattle.session_messages.specs.SessionLaws.{good}
-use Rattle.session_messages.specs.SessionTrip.{body_small}
+use Rattle.session_messages.proofs.SessionLaws.{good}
+use Rattle.session_messages.proofs.SessionTrip.{body_small}
 use Rattle.numbers.proofs.Tail.{tail_is}
 use lib.ListN.{length}
 use Prim.Native.Nat.{◌≤◌}

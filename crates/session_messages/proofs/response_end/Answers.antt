@@ -1,9 +1,9 @@
 -- `session_messages::response_end` meets its contract. Assumes nothing.
 use Rattle.session_messages.proofs.Ends.{after_none, after_more, no_pairs, no_count, by_groups}
 use Rattle.session_messages.specs.Sessions.{pairs_end}
-use Rattle.session_messages.specs.SessionLaws.{steady_small}
+use Rattle.session_messages.proofs.SessionLaws.{steady_small}
 use Rattle.session_groups.specs.Groups.{groups_end}
-use Rattle.session_groups.specs.GroupLaws.{groups_steady, pairs_steady}
+use Rattle.session_groups.proofs.GroupLaws.{groups_steady, pairs_steady}
 use native.Mathlib.Omega.{arith}
 use mathlib.Core.Path.{◌∙◌}
 use Rattle.session_messages.proofs.response_end.Goals as goal

@@ -1,5 +1,5 @@
 -- `wire::frame` meets its contract. Assumes nothing.
-use Rattle.wire.specs.FrameLaws.{whole, framed_is, refused_is_empty}
+use Rattle.wire.proofs.FrameLaws.{whole, framed_is, refused_is_empty}
 use Rattle.wire.specs.Frame.{frame_refusal}
 use lib.Seq.{length-take-le}
 use lib.ListN.{take}

@@ -1,9 +1,7 @@
 -- `asking::words::all_hex` meets its contract. The loop's invariant: what is left has hex digits alone where the word has. The measure is what is
 -- left. Assumes nothing.
-use Prim.Native.Nat.{◌-◌}
 use mathlib.Core.Path.{refl, sym, ap, ◌∙◌}
 use native.Mathlib.Omega.{arith}
-use borrow.Author.Tests.{not-true, not-false}
 use lib.ListN.{drop_of_length-le}
 use Rattle.asking.specs.Words.{all_hex}
 use Rattle.asking.specs.WordLaws.{hex_read, no_hex, all_hex_read}

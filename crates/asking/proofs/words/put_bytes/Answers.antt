@@ -1,6 +1,6 @@
 -- `asking::words::put_bytes` meets its contract. The loop's invariant: the first `i` of the bytes stand in the buffer's front, and the rest of it is
 -- as it was. The measure is the number of pairs that are left. Assumes nothing.
-use Prim.Native.Nat.{ℕ, ◌+◌, ◌*◌, ◌-◌}
+use Prim.Native.Nat.{ℕ, ◌+◌, ◌*◌}
 use mathlib.Core.Path.{◌≡◌, refl, sym, ap, ap₂, ◌∙◌}
 use mathlib.Core.List.{List}
 use native.Mathlib.Omega.{arith}

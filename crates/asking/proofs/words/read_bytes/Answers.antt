@@ -1,7 +1,7 @@
 -- `asking::words::read_bytes` meets its contract: the word is judged, and then the room, before a byte is stored. Assumes nothing.
 use mathlib.Core.Path.{sym, ◌∙◌}
-use borrow.Author.Tests.{not-true, not-false}
-use Rattle.asking.specs.WordLaws.{refused-bytes, not-bytes, no_room, bytes-taken}
+use Rattle.asking.specs.WordLaws.{not-bytes, no_room}
+use Rattle.asking.proofs.StoringLaws.{refused-bytes, bytes-taken}
 use Rattle.asking.proofs.words.read_bytes.Goals as goal
 
 pub is_bytes-requires : goal.is_bytes-requires

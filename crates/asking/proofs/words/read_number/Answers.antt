@@ -5,7 +5,6 @@ use Prim.Native.Nat.{◌+◌, ◌*◌, ◌-◌, ◌<◌}
 use mathlib.Core.Path.{sym, ap, ◌∙◌}
 use native.Mathlib.Omega.{arith}
 use lib.ListN.{drop, get_or, drop_of_length-le}
-use borrow.Author.Tests.{not-true, not-false}
 use Rattle.asking.specs.WordLaws.{number_from, reading_begins, too_short, too_long, refused_number, digit_from, digit_read, no_digit, too_great, all_read}
 use Rattle.asking.proofs.words.read_number.Goals as goal
 

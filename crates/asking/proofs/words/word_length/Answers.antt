@@ -1,6 +1,5 @@
 -- `asking::words::word_length` meets its contract. The loop's invariant: the bytes passed, with the first word of what is left, are as many as the
 -- first word has. The measure is what is left. Assumes nothing.
-use Prim.Native.Nat.{◌-◌}
 use mathlib.Core.Path.{ap, ◌∙◌}
 use native.Mathlib.Omega.{arith}
 use lib.ListN.{length, drop_of_length-le}

@@ -3,13 +3,12 @@
 use Prim.Native.Nat.{ℕ, ◌+◌, ◌-◌}
 use mathlib.Core.Path.{◌≡◌, refl, sym, ap, ◌∙◌}
 use mathlib.Core.List.{[]}
-use mathlib.Core.Logic.{⊎_elim}
 use native.Mathlib.Omega.{arith}
 use lib.ListN.{drop, drop_of_length-le}
 use Rattle.asking.specs.Words.{word_of}
 use Rattle.asking.specs.WordLaws.{space_passed, other_passed, nothing_left}
-use Rattle.asking.proofs.words.word_start.Goals.{then-line-i-eq32, else-line-i-eq32}
 use Rattle.asking.proofs.words.word_start.Goals as goal
+use Rattle.asking.proofs.words.word_start.Goals.{then-line-i-eq32, else-line-i-eq32}
 
 pub loop-i-init : goal.loop-i-init
 loop-i-init c = (omega arith, refl)
@@ -40,10 +39,9 @@ loop-i-preserved c =
     let left = at.loop-i.left in
     let l = c.loop-i-test.true in
     let some = c.if-left-eq0.false in
+    let one : left - 1 + 1 ≡ left = omega (arith, some) in
     elim c.if-line-i-eq32.branch [
-      | then-line-i-eq32 w ↦
-          let one : left - 1 + 1 ≡ left = omega (arith, some) in
-          (omega arith, ap (λ (n : ℕ). word_of n (drop (i + 1) line)) w.left-is ∙ sym (space_passed line i l w.if-line-i-eq32.true (left - 1)) ∙ ap (λ (n : ℕ). word_of n (drop i line)) one ∙ at.loop-i.invariant.1)
+      | then-line-i-eq32 w ↦ (omega arith, ap (λ (n : ℕ). word_of n (drop (i + 1) line)) w.left-is ∙ sym (space_passed line i l w.if-line-i-eq32.true (left - 1)) ∙ ap (λ (n : ℕ). word_of n (drop i line)) one ∙ at.loop-i.invariant.1)
       | else-line-i-eq32 w ↦ (omega arith, ap (λ (n : ℕ). word_of n (drop (i + 1) line)) w.left-is ∙ sym (other_passed line i l w.if-line-i-eq32.false left (omega (arith, some))) ∙ at.loop-i.invariant.1)
     ]
 

@@ -1,6 +1,6 @@
 -- `asking::writing::spell` meets its contract. The loop's invariant: the digits of the first `i` bytes stand in the buffer's front, and the rest of
 -- it is as it was. That each half of a byte is below 16 follows from the byte's range. The measure is what is left of the bytes. Assumes nothing.
-use Prim.Native.Nat.{ℕ, ◌+◌, ◌*◌, ◌-◌}
+use Prim.Native.Nat.{ℕ, ◌+◌, ◌*◌}
 use mathlib.Core.Path.{◌≡◌, refl, sym, ap, ◌∙◌}
 use mathlib.Core.List.{List, ◌++◌}
 use native.Mathlib.Omega.{arith}

@@ -1,5 +1,5 @@
 -- `session::Session::after_reading` meets its contract. Assumes nothing.
-use Rattle.session.specs.ReadingLaws.{shut, unread, goes_on}
+use Rattle.session.proofs.ReadingLaws.{shut, unread, goes_on}
 use mathlib.Core.Path.{sym, ◌∙◌}
 use Rattle.session.proofs.Session.after_reading.Goals as goal
 

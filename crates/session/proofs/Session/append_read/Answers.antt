@@ -1,6 +1,6 @@
 -- `session::Session::append_read` meets its contract: what the venue's reader takes the book need not judge. Assumes nothing.
 use Rattle.session.specs.Stages.{booked_as}
-use Rattle.session.specs.SessionLaws.{read_is_good}
+use Rattle.session.proofs.SessionLaws.{read_is_good}
 use mathlib.Core.Path.{ap, ◌∙◌}
 use Rattle.session.proofs.Session.append_read.Goals as goal
 

@@ -1,5 +1,5 @@
 -- `session::Session::broken` meets its contract. Assumes nothing.
-use Rattle.session.specs.SessionLaws.{stays_closed, breaks}
+use Rattle.session.proofs.SessionLaws.{stays_closed, breaks}
 use mathlib.Core.Path.{sym, ◌∙◌}
 use Rattle.session.proofs.Session.broken.Goals as goal
 

@@ -1,6 +1,6 @@
 -- `session::Session::heard` meets its contract. Assumes nothing.
 use Rattle.session.specs.Sessions.{responded_by, responded_buffer}
-use Rattle.session.specs.SessionLaws.{hears_response, hears_complete, hears_logout, hears_else}
+use Rattle.session.proofs.SessionLaws.{hears_response, hears_complete, hears_logout, hears_else}
 use mathlib.Core.Path.{sym, ap, ap₂, ◌∙◌}
 use lib.ListN.{length}
 use Prim.Native.Nat.{ℕ}

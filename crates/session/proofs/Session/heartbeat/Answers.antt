@@ -1,5 +1,5 @@
 -- `session::Session::heartbeat` meets its contract. Assumes nothing.
-use Rattle.session.specs.SessionLaws.{beats, no_beat}
+use Rattle.session.proofs.SessionLaws.{beats, no_beat}
 use mathlib.Core.Path.{sym, ◌∙◌}
 use Rattle.session.proofs.Session.heartbeat.Goals as goal
 

@@ -1,6 +1,6 @@
 -- `session::Session::login` meets its contract. Assumes nothing.
 use Rattle.session_logins.specs.LoginRequests.{login_record}
-use Rattle.session.specs.SessionLaws.{login-refused, logs_in_lem, no_login}
+use Rattle.session.proofs.SessionLaws.{login-refused, logs_in_lem, no_login}
 use mathlib.Core.Path.{sym, ◌∙◌}
 use Rattle.session.proofs.Session.login.Goals as goal
 

@@ -1,5 +1,5 @@
 -- `session::Session::message` meets its contract. Assumes nothing.
-use Rattle.session.specs.ReadingLaws.{told_by, after_is_message, good_is_read}
+use Rattle.session.proofs.ReadingLaws.{told_by, after_is_message, good_is_read}
 use mathlib.Core.Path.{sym, ◌∙◌}
 use Rattle.session.proofs.Session.message.Goals as goal
 

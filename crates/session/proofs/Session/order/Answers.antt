@@ -1,5 +1,5 @@
 -- `session::Session::order` meets its contract. Assumes nothing.
-use Rattle.session.specs.OrderLaws.{admitted, gate_stops, writer_stops, goes-out}
+use Rattle.session.proofs.OrderLaws.{admitted, gate_stops, writer_stops, goes-out}
 use mathlib.Core.Path.{sym, ◌∙◌}
 use native.Mathlib.Omega.{arith}
 use Rattle.session.proofs.Session.order.Goals as goal

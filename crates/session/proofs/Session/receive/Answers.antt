@@ -1,6 +1,6 @@
 -- `session::Session::receive` meets its contract. Assumes nothing.
 use Rattle.session.specs.Sessions.{received_with}
-use Rattle.session.specs.ReadingLaws.{told_by, after_is_receive}
+use Rattle.session.proofs.ReadingLaws.{told_by, after_is_receive}
 use mathlib.Core.Path.{sym, ap₂, ◌∙◌}
 use Rattle.session.proofs.Session.receive.Goals as goal
 

@@ -1,5 +1,5 @@
 -- `session::Session::responded` meets its contract. Assumes nothing.
-use Rattle.session.specs.SessionLaws.{allowed, denied}
+use Rattle.session.proofs.SessionLaws.{allowed, denied}
 use Rattle.session.proofs.Session.responded.Goals as goal
 
 pub returns-then-status-eq65 : goal.returns-then-status-eq65

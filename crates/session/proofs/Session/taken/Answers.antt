@@ -3,7 +3,7 @@ use Rattle.wire.specs.Header.{type_of}
 use Rattle.orders.specs.Shapes.{sequenced}
 use Rattle.session.specs.Stages.{heard_by, heard_buffer}
 use Rattle.session.specs.Sessions.{passes}
-use Rattle.session.specs.SessionLaws.{untimely, by_message, by_session}
+use Rattle.session.proofs.SessionLaws.{untimely, by_message, by_session}
 use mathlib.Core.Path.{sym, ap, ◌∙◌}
 use lib.ListN.{length}
 use Rattle.session.proofs.Session.taken.Goals as goal

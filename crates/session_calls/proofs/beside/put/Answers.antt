@@ -1,5 +1,5 @@
 -- `session_calls::beside::put` meets its contract. Assumes nothing.
-use Rattle.session_calls.specs.SessionBytesLaws.{beside_put}
+use Rattle.session_calls.proofs.SessionBytesLaws.{beside_put}
 use Rattle.session_calls.proofs.beside.put.Goals as goal
 
 pub returns : goal.returns

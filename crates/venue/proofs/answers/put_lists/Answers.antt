@@ -2,7 +2,7 @@
 use Rattle.numbers.proofs.Tail.{puts_then}
 use Rattle.session_groups.specs.Values.{pairs_bytes}
 use Rattle.session_logins.specs.LoginRequests.{up_from, pairs_for}
-use Rattle.session_logins.specs.LoginRequestLaws.{pairs_size}
+use Rattle.session_logins.proofs.LoginRequestLaws.{pairs_size}
 use Rattle.venue.proofs.answers.put_lists.Goals as goal
 
 pub returns : goal.returns

@@ -1,5 +1,5 @@
 -- `venue_calls::bytes::load` meets its contract: part by part. Assumes nothing.
-use Rattle.venue_calls.specs.VenueBytesLaws.{venue_read}
+use Rattle.venue_calls.proofs.VenueBytesLaws.{venue_read}
 use Rattle.venue_calls.proofs.bytes.load.Goals as goal
 
 pub returns : goal.returns

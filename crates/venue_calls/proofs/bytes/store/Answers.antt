@@ -2,7 +2,7 @@
 use native.Mathlib.Omega.{arith}
 use mathlib.Core.Path.{◌∙◌}
 use lib.ListN.{length-set}
-use Rattle.venue_calls.specs.VenueBytesLaws.{venue_put}
+use Rattle.venue_calls.proofs.VenueBytesLaws.{venue_put}
 use Rattle.venue_calls.proofs.bytes.store.Goals as goal
 
 pub bounds-state-401 : goal.bounds-state-401

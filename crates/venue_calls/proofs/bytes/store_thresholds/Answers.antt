@@ -2,7 +2,7 @@
 use native.Mathlib.Omega.{arith}
 use mathlib.Core.Path.{refl, ◌∙◌}
 use Prim.Native.Nat.{◌-◌}
-use Rattle.venue_calls.specs.VenueBytesLaws.{wants-start, wants_go_on, wants_end}
+use Rattle.venue_calls.proofs.VenueBytesLaws.{wants-start, wants_go_on, wants_end}
 use Rattle.venue_calls.proofs.bytes.store_thresholds.Goals as goal
 
 pub loop-i-init : goal.loop-i-init

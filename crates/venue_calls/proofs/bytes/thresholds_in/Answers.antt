@@ -1,7 +1,7 @@
 -- `venue_calls::bytes::thresholds_in` meets its contract: unit after unit, each with its number. Assumes nothing.
 use Prim.Native.Nat.{◌-◌}
 use native.Mathlib.Omega.{arith}
-use Rattle.venue_calls.specs.VenueBytesLaws.{wants-more, wants_loaded}
+use Rattle.venue_calls.proofs.VenueBytesLaws.{wants-more, wants_loaded}
 use Rattle.venue_calls.proofs.bytes.thresholds_in.Goals as goal
 
 pub new-t-requires : goal.new-t-requires

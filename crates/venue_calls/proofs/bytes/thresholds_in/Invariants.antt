@@ -1,7 +1,7 @@
 use mathlib.Core.Path.{◌≡◌}
 use Prim.Native.Nat.{◌-◌, ◌≤◌}
 use Rattle.venue.specs.LoginLaws.{filled}
-use Rattle.venue_calls.specs.VenueBytesLaws.{want_in}
+use Rattle.venue_calls.proofs.VenueBytesLaws.{want_in}
 use Rattle.venue_calls.proofs.bytes.thresholds_in.Given as goal
 
 abbrev pub invariant-loop-i : goal.invariant-loop-i

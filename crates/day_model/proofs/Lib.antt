@@ -1,0 +1,4 @@
+pub mod BringsCalls
+pub mod BringsLaws
+pub mod Example
+pub mod SameReplay

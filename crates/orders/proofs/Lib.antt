@@ -1,0 +1,6 @@
+pub mod FixedFieldLaws
+pub mod LateOrder
+pub mod LateSums
+pub mod MarketLaws
+pub mod OrderLaws
+pub mod RoundTrip

@@ -1,0 +1,13 @@
+pub mod AnyRest
+pub mod Handed
+pub mod MarketKept
+pub mod MeetsMember
+pub mod MemberGets
+pub mod MemberKinds
+pub mod MemberSteps
+pub mod OrderLaws
+pub mod OwnCalls
+pub mod ReadingLaws
+pub mod SessionLaws
+pub mod SessionSteps
+pub mod Unchanged

@@ -1,0 +1,12 @@
+pub mod Asked
+pub mod BringsLaws
+pub mod Logged
+pub mod Logs
+pub mod Markets
+pub mod Readable
+pub mod Replays
+pub mod SameReplay
+pub mod VenueExample
+pub mod VenueLaws
+pub mod VenueLive
+pub mod VenueMust

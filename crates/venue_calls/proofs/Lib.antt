@@ -1,0 +1,5 @@
+pub mod VenueAgain
+pub mod VenueBytesLaws
+pub mod VenueOwn
+pub mod VenueRefusals
+pub mod VenueSized
