@@ -11,7 +11,7 @@ use Rattle.block.specs.Slots.{zeros}
 use Rattle.block.specs.SlotLaws.{length-zeros}
 
 -- a buffer of so many bytes, with the kept bytes in its front as far as it reaches, and zeros after them: what stands there plays no part
--- (session/specs/AnyRest.antt)
+-- (session/proofs/AnyRest.antt)
 abbrev pub lent : ℕ → List ℕ → List ℕ
 lent room bytes = take room (bytes ++ zeros room)
 

@@ -42,8 +42,8 @@ use Rattle.session.proofs.MeetsMember.{opens_well, opened-empty, entries_fit, lo
 use Rattle.book.proofs.Sequenced.{booked_is_sequenced}
 use Rattle.venue.specs.VenueDay.{our_venue, messages_in}
 use Rattle.venue.specs.VenueView.{Wholly}
-use Rattle.venue.specs.VenueRuns.{messages_all}
-use Rattle.venue.specs.MeetsVenue.{meets, steps_told}
+use Rattle.venue.proofs.VenueRuns.{messages_all}
+use Rattle.venue.proofs.MeetsVenue.{meets, steps_told}
 use Rattle.day_proved.specs.Words.{Bytes, in_book, of_unit, keep_item, within}
 use Rattle.day_proved.specs.WordLaws.{unit-bodies, take-bodies, bodies_long, booked-unit, within_all, cut_keeps, made_sequenced}
 use Rattle.day_proved.specs.Demand3.{SuchAVenue, day_of, Event, Moment, after, then, book, HoldsFirsts, AtEveryMoment, Restarts, EachRestart, Completes, WhenAReplayCompletes, Valid, Asks, ALoginIsWritten, Taken, AVenueTakesIt, TheReplayCompletes, OnlySequenced, OnlySequencedInTheBook, OnlySequencedInTheLog, TheBenchIsSuchAVenue}

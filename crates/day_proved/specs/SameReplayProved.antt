@@ -12,7 +12,7 @@ use Rattle.day_line.specs.Lines.{Fields, our_line, lists, OurLogin}
 use Rattle.session.specs.declared.Phase.TheVariants.{Closed}
 use Rattle.session.specs.MemberDay.{phase_of, login_bytes}
 use Rattle.session.proofs.MeetsMember.{our_login, our_login_lists}
-use Rattle.venue.specs.VenueLine.{spoken}
+use Rattle.venue.proofs.VenueLine.{spoken}
 use Rattle.venue.proofs.SameReplay.{fine-clear}
 use Rattle.day_proved.specs.Words.{Bytes}
 use Rattle.day_proved.specs.Demand3.{SuchAVenue, day_of, Event, Moment, after, then, Valid, logged_in, TheSameReplay}

@@ -18,8 +18,8 @@ use Rattle.session_messages.specs.Sessions.{read_refusal, body_of, record_of}
 use Rattle.session_fields.specs.AskedFor.{asked_above}
 use Rattle.session_fields.specs.AskedLaws.{record_asked}
 use Rattle.venue.specs.Venues.{thresholds_of, wanted_above}
-use Rattle.venue.specs.Responses.{login_long, login-short, groups_end_lem}
-use Rattle.venue.specs.Thresholds.{threshold_at}
+use Rattle.venue.proofs.Responses.{login_long, login-short, groups_end_lem}
+use Rattle.venue.proofs.ThresholdLaws.{threshold_at}
 
 module _ (m : List ℕ) (bytes : Bytes m) (typed : type_of m ≡ 0x37) (reads : read_refusal m ≡ 0) where
   later-bytes : (i : ℕ) → get_or (drop 29 m) i 0 < 256

@@ -34,15 +34,15 @@ use Rattle.session_fields.specs.AskedFor.{units_at}
 use Rattle.venue.specs.Venues.{pick_answer, refused, response_record, logged_in, login_refusal, login_of, complete_bytes, next_bytes, next_venue, send_of, step_of}
 use Rattle.venue.specs.VenueDay.{Bench, our_venue, empty, messages_in, accepts, takes_login, step_to, step_sends}
 use Rattle.venue.specs.VenueView.{view_v, GoodV}
-use Rattle.venue.specs.VenueRuns.{messages_all, map_long, count_mono}
-use Rattle.venue.specs.VenueWalk.{ltb-min, counts}
-use Rattle.venue.specs.VenueCalls.{view_is, empty_good, hears_good, stop_good}
-use Rattle.venue.specs.VenueAdds.{adds_good}
-use Rattle.venue.specs.VenueLine.{spoken, Clear}
-use Rattle.venue.specs.VenueSent.{steps, steps_as_told}
-use Rattle.venue.specs.VenueLogin.{takes_good, lowest, strays_is}
+use Rattle.venue.proofs.VenueRuns.{messages_all, map_long, count_mono}
+use Rattle.venue.proofs.VenueWalk.{ltb-min, counts}
+use Rattle.venue.proofs.VenueCalls.{view_is, empty_good, hears_good, stop_good}
+use Rattle.venue.proofs.VenueAdds.{adds_good}
+use Rattle.venue.proofs.VenueLine.{spoken, Clear}
+use Rattle.venue.proofs.VenueSent.{steps, steps_as_told}
+use Rattle.venue.proofs.VenueLogin.{takes_good, lowest, strays_is}
 use Rattle.venue.proofs.VenueMust as must
-use Rattle.venue.specs.MeetsVenue.{meets}
+use Rattle.venue.proofs.MeetsVenue.{meets}
 use Rattle.venue.specs.Brings.{wants, only_if, wanted_of, list_for, Use, call, login, breaks, used, used_all, bench, OnItsLine}
 
 -- ---- the states that the bench can come to are good

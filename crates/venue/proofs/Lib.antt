@@ -10,3 +10,17 @@ pub mod VenueExample
 pub mod VenueLaws
 pub mod VenueLive
 pub mod VenueMust
+pub mod LoginLaws
+pub mod MeetsVenue
+pub mod Responses
+pub mod Seeks
+pub mod ThresholdLaws
+pub mod VenueAdds
+pub mod VenueCalls
+pub mod VenueLine
+pub mod VenueLogin
+pub mod VenueRuns
+pub mod VenueSent
+pub mod VenueSteps
+pub mod VenueTaken
+pub mod VenueWalk

@@ -25,7 +25,7 @@ use Rattle.messages.specs.Messages as messages
 use Rattle.venue.specs.declared.Venue.{Venue}
 use Rattle.venue.specs.Venues.{login_read_refusal, response_record, login_refusal, held, place_of, tells_at, complete_bytes, bytes_at, next_bytes}
 use Rattle.venue.specs.VenueStages.{lists_part}
-use Rattle.venue.specs.Responses.{login-short, response_refusal_lem, response_sound, response_bytes}
+use Rattle.venue.proofs.Responses.{login-short, response_refusal_lem, response_sound, response_bytes}
 
 -- a session message of the venue's that its own reader takes is read by the member's
 read_by_member : (b t : List ℕ) → frame_refusal (b ++ t) ≡ 0 → framed (b ++ t) ≡ b → logins.of_venue (type_of b) ≡ true → logins.read_refusal b ≡ 0 → messages.read_refusal 1 (b ++ t) ≡ 0

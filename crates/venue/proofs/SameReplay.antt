@@ -35,8 +35,8 @@ use Rattle.day_line.specs.OurLogins.{our_asked, our_record}
 use Rattle.venue.specs.declared.Thresholds.{Thresholds}
 use Rattle.venue.specs.Venues.{numbers_for, thresholds_of, complete_bytes}
 use Rattle.venue.specs.VenueDay.{Bench, with, our_venue, accepts, takes_login}
-use Rattle.venue.specs.VenueLine.{spoken, read_frames}
-use Rattle.venue.specs.VenueLogin.{logged_in_lem, our_whole}
+use Rattle.venue.proofs.VenueLine.{spoken, read_frames}
+use Rattle.venue.proofs.VenueLogin.{logged_in_lem, our_whole}
 
 -- ---- the thresholds
 

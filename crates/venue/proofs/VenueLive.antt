@@ -10,9 +10,9 @@ use Rattle.day_model.specs.Halves.{Line, VenueCode, MeetsVenue, StepsAsTold}
 use Rattle.day_line.specs.Lines.{our_line, msg_of}
 use Rattle.venue.specs.VenueDay.{Bench, our_venue, accepts, takes_login, messages_in}
 use Rattle.venue.specs.VenueView.{GoodV}
-use Rattle.venue.specs.VenueRuns.{map_long}
-use Rattle.venue.specs.VenueWalk.{step-tells, step-sends, step-passes}
-use Rattle.venue.specs.MeetsVenue.{meets, steps_told}
+use Rattle.venue.proofs.VenueRuns.{map_long}
+use Rattle.venue.proofs.VenueWalk.{step-tells, step-sends, step-passes}
+use Rattle.venue.proofs.MeetsVenue.{meets, steps_told}
 
 -- ---- one step of a venue in a replay: it tells, or comes further
 

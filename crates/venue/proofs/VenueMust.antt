@@ -29,12 +29,12 @@ use Rattle.session_fields.specs.AskedFor.{units_at, asked_above}
 use Rattle.venue.specs.Venues.{log_book}
 use Rattle.venue.specs.VenueDay.{Bench, alone, adds, accepts, takes_login, step_sends}
 use Rattle.venue.specs.VenueView.{view_v, GoodV}
-use Rattle.venue.specs.VenueRuns.{fewer, map_long}
-use Rattle.venue.specs.VenueWalk.{step-sends, step-passes, step-tells}
-use Rattle.venue.specs.VenueCalls.{view_is}
-use Rattle.venue.specs.VenueAdds.{adds_is, alone_is}
-use Rattle.venue.specs.VenueSent.{steps_as_told}
-use Rattle.venue.specs.VenueLogin.{strays_is, threshold_at}
+use Rattle.venue.proofs.VenueRuns.{fewer, map_long}
+use Rattle.venue.proofs.VenueWalk.{step-sends, step-passes, step-tells}
+use Rattle.venue.proofs.VenueCalls.{view_is}
+use Rattle.venue.proofs.VenueAdds.{adds_is, alone_is}
+use Rattle.venue.proofs.VenueSent.{steps_as_told}
+use Rattle.venue.proofs.VenueLogin.{strays_is, threshold_at}
 use Rattle.venue.proofs.VenueLive.{at_message, past}
 
 -- ---- the log

@@ -5,7 +5,7 @@ use native.Mathlib.Omega.{arith}
 use Rattle.numbers.proofs.Tail.{puts_then}
 use Rattle.venue.specs.Venues.{accepted_text}
 use Rattle.venue.specs.VenueStages.{counted_part}
-use Rattle.venue.specs.LoginLaws.{lists_long}
+use Rattle.venue.proofs.LoginLaws.{lists_long}
 use Rattle.venue.proofs.answers.put_answer.Goals as goal
 
 pub returns : goal.returns

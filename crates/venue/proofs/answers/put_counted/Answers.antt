@@ -7,7 +7,7 @@ use Rattle.numbers.specs.Numbers.{bytes_of}
 use Rattle.numbers.specs.NumberLaws.{patched-length}
 use Rattle.numbers.proofs.Tail.{puts_then, tail_length}
 use Rattle.venue.specs.VenueStages.{lists_part}
-use Rattle.venue.specs.LoginLaws.{head_kept, head_put, lists_long}
+use Rattle.venue.proofs.LoginLaws.{head_kept, head_put, lists_long}
 use Rattle.venue.proofs.answers.put_counted.Goals as goal
 
 pub bounds-tail-5 : goal.bounds-tail-5

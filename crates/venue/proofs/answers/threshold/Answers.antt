@@ -1,5 +1,5 @@
 -- `venue::answers::threshold` meets its contract. Assumes nothing.
-use Rattle.venue.specs.LoginLaws.{listed_number, none-wanted, all_wanted}
+use Rattle.venue.proofs.LoginLaws.{listed_number, none-wanted, all_wanted}
 use Rattle.venue.proofs.answers.threshold.Goals as goal
 
 pub returns-then-listed : goal.returns-then-listed

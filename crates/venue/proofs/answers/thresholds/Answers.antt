@@ -2,7 +2,7 @@
 use Prim.Native.Nat.{◌-◌}
 use native.Mathlib.Omega.{arith}
 use Rattle.session_fields.specs.AskedFor.{asked_above}
-use Rattle.venue.specs.LoginLaws.{fill_more, fill_done}
+use Rattle.venue.proofs.LoginLaws.{fill_more, fill_done}
 use Rattle.venue.proofs.answers.thresholds.Goals as goal
 
 pub new-t-requires : goal.new-t-requires

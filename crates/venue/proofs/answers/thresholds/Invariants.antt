@@ -1,7 +1,7 @@
 use mathlib.Core.Path.{◌≡◌}
 use Prim.Native.Nat.{◌-◌, ◌≤◌}
 use Rattle.session_fields.specs.AskedFor.{asked_above}
-use Rattle.venue.specs.LoginLaws.{filled}
+use Rattle.venue.proofs.LoginLaws.{filled}
 use Rattle.venue.proofs.answers.thresholds.Given as goal
 
 abbrev pub invariant-loop-i : goal.invariant-loop-i

@@ -1,6 +1,6 @@
 use mathlib.Core.Path.{◌≡◌}
 use Prim.Native.Nat.{◌-◌, ◌≤◌}
-use Rattle.venue.specs.LoginLaws.{filled}
+use Rattle.venue.proofs.LoginLaws.{filled}
 use Rattle.venue_calls.proofs.VenueBytesLaws.{want_in}
 use Rattle.venue_calls.proofs.bytes.thresholds_in.Given as goal
 

@@ -5,12 +5,12 @@ use Rattle.day_model.specs.Halves.{MeetsVenue, StepsAsTold}
 use Rattle.day_line.specs.Lines.{our_line, says}
 use Rattle.venue.specs.VenueDay.{our_venue}
 use Rattle.venue.specs.VenueView.{view_v, GoodV}
-use Rattle.venue.specs.VenueCalls.{empty_good, empty_is, hears_good, hears_is, stop_good, stop_is}
-use Rattle.venue.specs.VenueAdds.{readable, adds_good, adds_is}
-use Rattle.venue.specs.VenueLine.{aside_fine, aside_says, bye_fine, bye_says, no_fine, no_says}
-use Rattle.venue.specs.VenueSent.{steps, steps_as_told}
-use Rattle.venue.specs.VenueTaken.{taken, answer-fine, answer-says, answer-sent}
-use Rattle.venue.specs.VenueLogin.{takes_good, lowest, strays_is, takes_is, accepts-ours}
+use Rattle.venue.proofs.VenueCalls.{empty_good, empty_is, hears_good, hears_is, stop_good, stop_is}
+use Rattle.venue.proofs.VenueAdds.{readable, adds_good, adds_is}
+use Rattle.venue.proofs.VenueLine.{aside_fine, aside_says, bye_fine, bye_says, no_fine, no_says}
+use Rattle.venue.proofs.VenueSent.{steps, steps_as_told}
+use Rattle.venue.proofs.VenueTaken.{taken, answer-fine, answer-says, answer-sent}
+use Rattle.venue.proofs.VenueLogin.{takes_good, lowest, strays_is, takes_is, accepts-ours}
 
 -- THE BENCH VENUE IS SUCH A VENUE
 unfoldable pub meets : MeetsVenue our_line our_venue

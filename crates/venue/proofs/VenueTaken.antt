@@ -31,9 +31,9 @@ use Rattle.day_line.specs.Lines.{says, Fine}
 use Rattle.venue.specs.declared.Venue as state
 use Rattle.venue.specs.declared.Answer.{Answer}
 use Rattle.venue.specs.Venues.{pick_answer, refused, login_read_refusal, said_of, response_record, logged_in, login_refusal, login_of, login_out}
-use Rattle.venue.specs.Responses.{login_long, login-short, response_refusal_lem}
+use Rattle.venue.proofs.Responses.{login_long, login-short, response_refusal_lem}
 use Rattle.venue.specs.VenueDay.{Bench, unless, sent_of, accepts}
-use Rattle.venue.specs.VenueSent.{sent_front}
+use Rattle.venue.proofs.VenueSent.{sent_front}
 
 -- ---- what was read
 

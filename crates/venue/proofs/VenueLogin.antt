@@ -24,13 +24,13 @@ use Rattle.venue.specs.declared.Thresholds.{Thresholds}
 use Rattle.venue.specs.declared.Answer.{Answer}
 use Rattle.session_fields.specs.AskedFor.{asked_above}
 use Rattle.venue.specs.Venues.{thresholds_of, wanted_above, logged_in}
-use Rattle.venue.specs.LoginLaws.{none_above}
-use Rattle.venue.specs.Thresholds as thresholds
+use Rattle.venue.proofs.LoginLaws.{none_above}
+use Rattle.venue.proofs.ThresholdLaws as thresholds
 use Rattle.venue.specs.VenueDay.{Bench, with, accepts, takes_login}
 use Rattle.venue.specs.VenueView.{low, view_v, GoodV}
-use Rattle.venue.specs.VenueRuns.{map_long, place_all}
-use Rattle.venue.specs.VenueCalls.{view_is}
-use Rattle.venue.specs.VenueTaken.{Login, taken, login-answer, takes_it_lem}
+use Rattle.venue.proofs.VenueRuns.{map_long, place_all}
+use Rattle.venue.proofs.VenueCalls.{view_is}
+use Rattle.venue.proofs.VenueTaken.{Login, taken, login-answer, takes_it_lem}
 
 -- ---- any login
 

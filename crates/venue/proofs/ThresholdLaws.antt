@@ -15,7 +15,7 @@ use Rattle.session_logins.specs.LoginRequests.{up_from}
 use Rattle.session_fields.specs.SessionFields.{group_flag, group_listed}
 use Rattle.session_fields.specs.AskedFor.{units_at, asked_above}
 use Rattle.venue.specs.Venues.{numbers_for, thresholds_of, wanted_above}
-use Rattle.venue.specs.LoginLaws.{listed_number, none-wanted, all_wanted, above_is}
+use Rattle.venue.proofs.LoginLaws.{listed_number, none-wanted, all_wanted, above_is}
 
 -- ---- the thresholds
 
