@@ -7,6 +7,16 @@ def norm(x):
     x = re.sub(r"^(overflow|nonzero|slice-bounds|offset-bounds)-", "", x)
     return x
 
+def nots(t):
+    for w in ("true", "false"):
+        path = r"((?:[\w'-]+\.)*[\w'-]+\.if-not-[\w'-]+\." + w + r")"
+        t = re.sub(r"\(not-" + w + r" (?:[\w'.-]+|\([^()]*\)) " + path + r"\)", r"\1", t)
+        t = re.sub(r"not-" + w + r" (?:[\w'.-]+|\([^()]*\)) " + path + r"(?![\w.])", r"\1", t)
+    return t.replace(".in_default.rest", ".in_default.in_default-own.rest")
+
+def norm_field(x):
+    return re.sub(r"[-_]", "", x)
+
 def blocks(t):
     lines = t.split("\n"); out = []; cur = []
     for l in lines:
@@ -86,25 +96,49 @@ def convert(crate, fnpath, entry, t, report):
                     ofs = re.escape(of).replace("_", "[-_]")
                     if path:
                         body = re.sub(r"\." + ofs + "".join(r"\." + re.escape(q).replace("_", "[-_]") for q in path) + r"(?![\w-])", f".{a[0]}.{new}", body)
+        table = {}
         for p in place_list:
             old, new = places[p][2]
-            if not old: continue
-            callee = places[p][3]
-            olds = "[-_]?".join(re.escape(x) for x in re.split(r"[-_]", old))
-            if callee and callee in params:
-                ps = params[callee]
-                def auto(m):
-                    k = m.group(1).count(".1")
-                    return f".{new}.auto.{ps[k]}" if k < len(ps) else m.group(0)
-                body = re.sub(r"\." + olds + r"\.auto((?:\.1)*)\.0(?![\w-])", auto, body)
-            alias = set(re.findall(r"let ([\w'-]+) = [^\n]*?\.args in", body)) | {"args", "new", "auto", "a"} 
-            body = re.sub(r"([\w'-]+)?\." + olds + r"(?=\.)", lambda m: m.group(0) if m.group(1) in alias else (m.group(1) or "") + "." + new, body)
+            if old: table.setdefault(norm_field(old), (new, params.get(places[p][3])))
+        alias = set(re.findall(r"let ([\w'-]+) = [^\n]*?\.args in", body)) | {"args", "new", "auto", "a", "ranges", "type_inv", "requires"}
+        def before(m):
+            return re.search(r"[\w'-]*$", m.string[: m.start()]).group(0)
+        def found(name):
+            k = norm_field(name)
+            if k in table: return table[k]
+            if name.endswith("_lem") and norm_field(name[:-4]) in table: return table[norm_field(name[:-4])]
+            if k == "typesize" and "sizeof" in table: return table["sizeof"]
+            if k == "entryisplace" and "entryplace" in table: return table["entryplace"]
+            for q in table:
+                if q.lower() == k.lower(): return table[q]
+        def auto(m):
+            f = found(m.group(1))
+            if f and f[1] and before(m) not in alias:
+                ps = f[1]; k = m.group(3).count(".1")
+                if k < len(ps): return f".{m.group(1)}.{m.group(2)}.{ps[k]}"
+            return m.group(0)
+        body = re.sub(r"\.([A-Za-z_][\w'-]*)\.(auto|new)((?:\.1)*)\.0(?![\w-])", auto, body)
+        roots = {"c"}
+        for m in re.finditer(r"let ([\w'-]+) = ([\w'-]+) in", body):
+            if m.group(2) in roots: roots.add(m.group(1))
+        def field(m):
+            f = found(m.group(1))
+            if not f or before(m) in alias: return m.group(0)
+            nxt = m.string[m.end(): m.end() + 1]
+            if nxt == "." or before(m) in roots or "-" in m.group(1): return "." + f[0]
+            return m.group(0)
+        body = re.sub(r"\.([A-Za-z_][\w'-]*)", field, body)
         return body
 
     def common(body):
+        for o, n in entry["args"]:
+            o = re.sub(r"^\.[\w-]+ ", "", o); n = re.sub(r"^\.[\w-]+ ", "", n)
+            if re.match(r"\.t\d+$", o): body = re.sub(re.escape(o) + r"(?![\w-])", n, body)
         if re.search(r"(^|\.)[A-Z]\w*\.", fnpath + "."): body = re.sub(r"\.t1(?![\w-])", ".self", body)
         body = re.sub(r"\.before\b", "", body)
-        body = body.replace(".in_default.rest", ".in_default-own.rest")
+        body = re.sub(r"\.in_default\.rest(?![\w-])", ".in_default.in_default-own.rest", body)
+        body = re.sub(r"\.pre(?=\.)", ".requires", body); body = re.sub(r"\.pre(?![\w-])", ".requires", body)
+        body = re.sub(r"\.fits(?=\.)", ".ranges", body)
         body = body.replace(".type-inv", ".type_inv").replace(".well-formed", ".well_formed")
         return body
 
@@ -131,7 +165,7 @@ def convert(crate, fnpath, entry, t, report):
         args = args.replace(" κs", "").replace("κs ", "")
         if term.strip() == "search rules" and not unf:
             continue
-        term = fields(chain(need_place.get(n)) if need_place.get(n) else every, common(term))
+        term = nots(fields(chain(need_place.get(n)) if need_place.get(n) else every, common(term)))
         rename[w] = n
         out_answers.append((n, cm, unf, args, term))
     loops = {norm(l[0][0]): l for l in entry["loops"]}
@@ -199,19 +233,78 @@ def main(names, crate_dir, only):
         head, uses, helpers, answers, invs, rename, every, fields, common = convert(crate, fn, e, t, report)
         path = f"Rattle.{crate}.proofs.{fn}"
         def ren(s): return re.sub(r"(?<![\w.'◌-])([A-Za-z_][\w'₀-₉-]*)", lambda k: rename.get(k.group(1), k.group(1)), s)
-        hs = []
+        hs, imports, lemma, drops = [], set(), {}, []
+        newname = dict(zip([q[0] for q in e["places"]], e["places_by_name"]))
+        normal = {norm_field(k): v for k, v in newname.items()}
         for h in helpers:
-            hs.append(h if h.startswith("-- LEFT") else fields(every, common(h)))
+            if h.startswith("-- LEFT"):
+                report.append(h); continue
+            m = re.search(r"^(?:abbrev )?([\w'-]+) : tie\.([\w-]+)[^\n]* → tie\.[\w-]+[^\n]*$", h, re.M)
+            if m and "(" not in m.group(0):
+                drops.append(m.group(1)); continue
+            k = nots(fields(every, common(h)))
+            m = re.search(r"^(?:abbrev )?([\w'-]+) : (?:\((\w+) : )?tie\.([\w-]+)((?: (?:invariant|decreases)-\w+)*)", k, re.M)
+            if m and norm_field(m.group(3)) in normal:
+                nn = normal[norm_field(m.group(3))]
+                k = k[: m.start()] + m.group(0).replace("tie." + m.group(3) + m.group(4), nn) + k[m.end():]
+                imports.add(nn); lemma[m.group(1)] = nn
+            hs.append(k)
+        def inline(s):
+            for _ in range(4):
+                for d in drops:
+                    s = re.sub(r"\(" + re.escape(d) + r" ([\w.'-]+)\)", r"\1", s)
+                    s = re.sub(r"(?<![\w.'-])" + re.escape(d) + r" ([\w.'-]+)(?= in)", r"\1", s)
+            return s
+        hs = [inline(h) for h in hs]
+        # a lemma in a lemma, and a word in all: by what it says
+        said = {}
+        def unsaid(s, only=None):
+            for _ in range(3):
+                for d, (binder, body, word) in said.items():
+                    if only == "words" and not word: continue
+                    s = re.sub(r"\(" + re.escape(d) + r" ([\w'.-]+)\)", lambda m: "(" + re.sub(r"(?<![\w.'-])" + re.escape(binder) + r"(?![\w'-])", m.group(1), body) + ")", s)
+                    s = re.sub(r"(?<![\w.'-])" + re.escape(d) + r" ([a-z][\w'.-]*)(?![\w'-])(?! :)(?! =)", lambda m: "(" + re.sub(r"(?<![\w.'-])" + re.escape(binder) + r"(?![\w'-])", m.group(1), body) + ")", s)
+            return s
+        kept = []
+        for h in hs:
+            cm = [l for l in h.split("\n") if l.startswith("--")]; ls = [l for l in h.split("\n") if not l.startswith("--")]
+            m = re.match(r"(?:abbrev )?([\w'-]+) :", ls[0]) if ls else None
+            if not m or m.group(1) not in lemma:
+                kept.append(unsaid(h)); continue
+            nm = m.group(1)
+            k = next((i for i, l in enumerate(ls) if re.match(re.escape(nm) + r" [\w'-]+ =", l)), None)
+            if k is None:
+                kept.append(h); continue
+            headl = "\n".join(ls[:k]); body = "\n".join(ls[k:])
+            bm = re.match(re.escape(nm) + r" ([\w'-]+) =\s*(.*)", body, re.S)
+            word = ls[0].startswith("abbrev")
+            headl, inner = unsaid(headl), unsaid(bm.group(2))
+            one = re.sub(r"\s*\n\s*", " ", inner.strip())
+            if not word:
+                ty = re.sub(r"\s*\n\s*", " ", headl)
+                tm = re.match(r"[\w'-]+ : \((\w+) : [\w-]+\) → (.*?)(?: unfolding .*)?$", ty)
+                if tm: one = f"let said : {re.sub(r'(?<![^ (]){}(?![a-zA-Z0-9_-])'.format(re.escape(tm.group(1))), bm.group(1), tm.group(2))} = {one} in said"
+            said[nm] = (bm.group(1), one, word)
+            if word:
+                lemma.pop(nm); continue
+            kept.append("\n".join(cm + [headl, f"{nm} {bm.group(1)} =\n    {inner.strip()}" if "\n" in inner else f"{nm} {bm.group(1)} = {inner.strip()}"]))
+        hs = kept
+        def pass_on(n, s):
+            s = unsaid(inline(s), "words")
+            for l, nn in lemma.items():
+                s = re.sub(r"(?<![\w.'-])" + re.escape(l) + r" ([a-z][\w'-]*)(?![\w.'-])", lambda m: f"{l} (goal.at.{n} c).{nn}", s)
+            return s
+        answers = [(n, cm, unf, args, pass_on(n, term)) for n, cm, unf, args, term in answers]
         atext = "\n\n".join([*(h for h in hs), *(
             (cm + "\n" if cm else "") + f"pub {n} : goal.{n}\n" + "".join(u + "\n" for u in unf) + f"{n} {args}={term}" for n, cm, unf, args, term in answers)])
         itext = "\n\n".join((cm + "\n" if cm else "") + f"abbrev pub {n} : goal.{n}\n" + "".join(u + "\n" for u in unf) + f"{n} l ={term}" for n, cm, unf, term in invs)
         for h in hs:
-            if "tie." in h: report.append(f"{fn}: helper with tie: {h.splitlines()[0]}")
+            if "tie." in h: report.append(f"{fn}: helper with tie: " + next((l for l in h.splitlines() if "tie." in l), ""))
         headtext = "\n".join(head)
         d = os.path.dirname(p)
         if answers:
             us = clean_uses(uses, atext, path, crate)
-            open(os.path.join(d, "Answers.antt"), "w", encoding="utf-8").write((headtext + "\n" if headtext else "") + "\n".join(us + [f"use {path}.Goals as goal"]) + "\n\n" + atext + "\n")
+            open(os.path.join(d, "Answers.antt"), "w", encoding="utf-8").write((headtext + "\n" if headtext else "") + "\n".join(us + ([f"use {path}.Goals.{{{', '.join(sorted(imports))}}}"] if imports else []) + [f"use {path}.Goals as goal"]) + "\n\n" + atext + "\n")
         if invs:
             us = clean_uses(uses, itext, path, crate)
             open(os.path.join(d, "Invariants.antt"), "w", encoding="utf-8").write((headtext + "\n" if headtext and not answers else "") + "\n".join(us + [f"use {path}.Given as goal"]) + "\n\n" + itext + "\n")
