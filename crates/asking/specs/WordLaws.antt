@@ -1,12 +1,15 @@
 -- What is true of a question's words: what one byte more of a line, of a number or of hex digits does. Assumes nothing.
-use Rattle.std.specs.Prelude.{◌≡◌, refl, Bool, true, false, ◌&&◌, ◌||◌, ◌⊎◌, ℕ, zero, suc, ◌+◌, ◌-◌, ◌*◌, ◌/◌, ◌%◌, ◌≤◌, ◌<◌, eqb, leb, length, take, drop}
+use Rattle.std.specs.Prelude.{◌≡◌, refl, Bool, true, false, ◌&&◌, ◌||◌, ◌⊎◌, ℕ, zero, suc, ◌+◌, ◌-◌, ◌*◌, ◌/◌, ◌%◌, ◌≤◌, ◌<◌, cond, eqb, leb, length, take, drop, Option, Some, None}
 use Rattle.std.proofs.Common.{sym, ap₂, ◌∙◌, true≢false, inl, inr, ⊎_elim, add-one, arith, length-drop, drop-cons, take_all, eq-eqb, ne_eqb, le-leb, leb-true}
 use Rattle.std.proofs.Math.Path.{ap}
 use mathlib.Core.List.{List, [], ◌∷◌}
 use Rattle.std.proofs.Math.ListN.{get_or}
 use Rattle.std.proofs.lemmas.Bool.{lt-leb}
-use Rattle.asking.specs.declared.words.Number.{Number}
-use Rattle.asking.specs.Words.{cut, words_of, word_of, is_digit, all_digits, decimal_from, is_number, numbered, number_of, is_hex, nibble_of, all_hex, bytes_in, is_bytes, fits}
+use Rattle.std.specs.Bool.{then_some}
+use Rattle.std.specs.List.{slice_split, onto_first, list_all, slice_get}
+use Rattle.std.proofs.lemmas.Option.{get_or_from_slice_get, unwrap_or-slice_get}
+use Rattle.std.specs.Option.{unwrap_or}
+use Rattle.asking.specs.Words.{cut, words_of, word_of, is_digit, all_digits, decimal_from, is_number, number_of, is_hex, nibble_of, all_hex, bytes_in, is_bytes, fits}
 
 -- what is left at a place is its byte and what is left after it
 pub next_byte : (s : List ℕ) (i : ℕ) → i < length s → drop i s ≡ get_or s i 0 ∷ drop (i + 1) s
@@ -45,6 +48,31 @@ module _ (b : ℕ) where
   later_same ws zero h = absurd (omega (arith, h))
   later_same [] (suc k) h = refl
   later_same (w ∷ ws) (suc k) h = refl
+
+-- they are the parts of a split at each space
+pub words_are_parts : (s : List ℕ) → words_of s ≡ slice_split (λ (b : ℕ). eqb b 32) s
+unfolding words_of
+words_are_parts [] = refl
+words_are_parts (b ∷ s) = by (eqb b 32) (words_of s) (slice_split (λ (x : ℕ). eqb x 32) s) (words_are_parts s)
+  where
+    by : (t : Bool) (ws parts : List (List ℕ)) → ws ≡ parts → cut t b ws ≡ cond t ([] ∷ parts) (onto_first b parts)
+    by true ws parts e = ap (λ (l : List (List ℕ)). [] ∷ l) e
+    by false ws parts e = rw e (onto parts)
+      where
+        onto : (l : List (List ℕ)) → cut false b l ≡ onto_first b l
+        onto [] = refl
+        onto (w ∷ l) = refl
+
+-- a part of the split is a word, and where it has no such part the word is empty
+pub found_word : (line : List ℕ) (k : ℕ) (w : List ℕ) → Some w ≡ slice_get (slice_split (λ (b : ℕ). eqb b 32) line) k → w ≡ word_of k line
+unfolding word_of
+found_word line k w e = sym (get_or_from_slice_get (words_of line) k w [] (ap (λ (ws : List (List ℕ)). slice_get ws k) (words_are_parts line) ∙ sym e))
+
+pub no_such_word : (line : List ℕ) (k : ℕ) → None ≡ slice_get (slice_split (λ (b : ℕ). eqb b 32) line) k → [] ≡ word_of k line
+unfolding word_of
+no_such_word line k e =
+    ap (λ (o : Option (List ℕ)). unwrap_or o []) (e ∙ sym (ap (λ (ws : List (List ℕ)). slice_get ws k) (words_are_parts line)))
+    ∙ unwrap_or-slice_get (words_of line) k []
 
 pub no_more_words : length (words_of []) ≡ 1
 unfolding words_of
@@ -113,8 +141,8 @@ word_from s at n h e =
 -- ---- numbers
 
 -- the answer that digits after the number v give
-unfoldable pub number_from : ℕ → ℕ → List ℕ → Number
-number_from most v s = numbered (all_digits s && leb (decimal_from v s) most) (decimal_from v s)
+unfoldable pub number_from : ℕ → ℕ → List ℕ → Option ℕ
+number_from most v s = then_some (all_digits s && leb (decimal_from v s) most) (decimal_from v s)
 
 -- digits do not make a number less
 pub not_less : (s : List ℕ) (v : ℕ) → v ≤ decimal_from v s
@@ -131,17 +159,13 @@ pub reading_begins : (w : List ℕ) (most : ℕ) → 1 ≤ length w → length w
 unfolding number_from number_of is_number
 reading_begins w most h l = rw (le-leb _ _ h, le-leb _ _ l)
 
-pub too_short : (w : List ℕ) (most : ℕ) → length w ≡ 0 → number_of w most ≡ numbered false 0
+pub too_short : (w : List ℕ) (most : ℕ) → length w ≡ 0 → number_of w most ≡ None
 unfolding number_of is_number
 too_short w most h = rw (lt-leb 1 (length w) (omega arith))
 
-pub too_long : (w : List ℕ) (most : ℕ) → 20 < length w → number_of w most ≡ numbered false 0
+pub too_long : (w : List ℕ) (most : ℕ) → 20 < length w → number_of w most ≡ None
 unfolding number_of is_number
 too_long w most h = rw (le-leb 1 (length w) (omega arith), lt-leb (length w) 20 h)
-
--- what is no number is answered so
-pub refused_number : (w : List ℕ) (most : ℕ) {r : Number} → r ≡ numbered false 0 → number_of w most ≡ numbered false 0 → (r ≡ number_of w most) × (r.value ≤ most)
-refused_number w most {r} e n = (e ∙ sym n, omega (arith, ap (λ (x : Number). x.value) e))
 
 module _ (most v : ℕ) (w : List ℕ) (i : ℕ) (h : i < length w) where
   -- one digit more
@@ -150,19 +174,19 @@ module _ (most v : ℕ) (w : List ℕ) (i : ℕ) (h : i < length w) where
   digit_read e = ap (number_from most v) (next_byte w i h) ∙ rw e
 
   -- what is no digit
-  pub no_digit : is_digit (get_or w i 0) ≡ false → number_from most v (drop i w) ≡ numbered false 0
+  pub no_digit : is_digit (get_or w i 0) ≡ false → number_from most v (drop i w) ≡ None
   unfolding number_from all_digits decimal_from
   no_digit e = ap (number_from most v) (next_byte w i h) ∙ rw e
 
 -- a number that is too great stays so
-pub too_great : (most v : ℕ) (s : List ℕ) → most < v → number_from most v s ≡ numbered false 0
+pub too_great : (most v : ℕ) (s : List ℕ) → most < v → number_from most v s ≡ None
 unfolding number_from
 too_great most v s h = rw (lt-leb (decimal_from v s) most (omega (arith, not_less s v)), never)
 
--- all digits are read
-pub all_read : (most v : ℕ) → v ≤ most → number_from most v [] ≡ numbered true v
+-- all digits are read: the number is told where it is not too great
+pub all_read : (most v : ℕ) → then_some (leb v most) v ≡ number_from most v []
 unfolding number_from all_digits decimal_from
-all_read most v h = rw (le-leb v most h)
+all_read most v = refl
 
 -- ---- bytes
 
@@ -173,6 +197,12 @@ hex_read w i h e = ap all_hex (next_byte w i h) ∙ rw e
 pub no_hex : (w : List ℕ) (i : ℕ) → i < length w → is_hex (get_or w i 0) ≡ false → all_hex (drop i w) ≡ false
 unfolding all_hex
 no_hex w i h e = ap all_hex (next_byte w i h) ∙ rw e
+
+-- hex digits alone are what std's word for all of a list says
+pub all_hex_listed : (w : List ℕ) → all_hex w ≡ list_all (λ (b : ℕ). is_hex b) w
+unfolding all_hex
+all_hex_listed [] = refl
+all_hex_listed (b ∷ w) = ap (λ (t : Bool). is_hex b && t) (all_hex_listed w)
 
 pub all_hex_read : all_hex [] ≡ true
 unfolding all_hex

@@ -1,8 +1,7 @@
 -- The words of a question, as second/README.md gives them: numbers and bytes. Definitions alone. Assumes nothing.
-use Rattle.std.specs.Prelude.{ℕ, ◌+◌, ◌-◌, ◌*◌, ◌/◌, ◌%◌, Bool, true, false, cond, ◌&&◌, ◌||◌, List, [], ◌∷◌, eqb, leb, length, get_or}
+use Rattle.std.specs.Prelude.{ℕ, ◌+◌, ◌-◌, ◌*◌, ◌/◌, ◌%◌, Bool, true, false, cond, ◌&&◌, ◌||◌, List, [], ◌∷◌, Option, eqb, leb, length, get_or}
+use Rattle.std.specs.Bool.{then_some}
 use Rattle.numbers.specs.Numbers.{patched}
-use Rattle.asking.specs.declared.words.Number.{Number}
-use Rattle.asking.specs.declared.words.Run.{Run}
 
 -- ---- words
 
@@ -41,12 +40,9 @@ decimal_from v (b ∷ s) = decimal_from (v * 10 + (b - 48)) s
 unfoldable pub is_number : List ℕ → ℕ → Bool
 is_number w most = leb 1 (length w) && (leb (length w) 20 && (all_digits w && leb (decimal_from 0 w) most))
 
--- a number's value, and 0 for what is no number
-abbrev pub numbered : Bool → ℕ → Number
-numbered ok v = record { ok = ok; value = cond ok v 0 }
-
-unfoldable pub number_of : List ℕ → ℕ → Number
-number_of w most = numbered (is_number w most) (decimal_from 0 w)
+-- a number's value, and none for what is no number
+unfoldable pub number_of : List ℕ → ℕ → Option ℕ
+number_of w most = then_some (is_number w most) (decimal_from 0 w)
 
 -- ---- bytes
 
@@ -76,12 +72,9 @@ is_bytes w = (eqb (length w) 1 && eqb (get_or w 0 0) 45) || (leb 1 (length w) &&
 unfoldable pub fits : List ℕ → ℕ → Bool
 fits w room = is_bytes w && leb (length w / 2) room
 
--- how many bytes stand in the buffer's front, and 0 where none are taken
-abbrev pub ran : Bool → ℕ → Run
-ran ok n = record { ok = ok; count = cond ok n 0 }
-
-unfoldable pub run_of : List ℕ → ℕ → Run
-run_of w room = ran (fits w room) (length w / 2)
+-- how many bytes stand in the buffer's front, and none where the word is refused
+unfoldable pub run_of : List ℕ → ℕ → Option ℕ
+run_of w room = then_some (fits w room) (length w / 2)
 
 -- the buffer after it: a word that is refused changes nothing
 unfoldable pub run_buffer : List ℕ → List ℕ → List ℕ

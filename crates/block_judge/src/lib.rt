@@ -73,16 +73,14 @@ fn judge_bits(message: u8, byte: u8, end: u8, value: u8, msg: &[u8], t: Judged) 
 {
     let n = end + 8 - 8 * byte;
     let mut x = value;
-    let mut bit: u8 = 0;
     let mut r = Judged {
         at: t.at,
         wrong: t.wrong,
         bad: 0,
     };
-    while bit < n {
+    for bit in 0..n {
         r = judge_bit(message, byte, bit, x, msg, r);
         x = x / 2;
-        bit += 1;
     }
     Judged {
         at: r.at,
@@ -202,12 +200,9 @@ fn judge_loop(message: u8, bits: &[u8], count: u8, msg: &[u8], t: Judged) -> Jud
     requires { (count ≤ length bits.now) × (count ≤ most_bitfields) × (t.at ≡ 0) }
     ensures { judging result ≡ judge_walk message count bits.now msg.now all_places 0 (judging t) }
 {
-    let mut j: u8 = 0;
     let mut r = t;
-    while j < count {
-        let value = bits[j as usize];
-        j += 1;
-        r = judge_any(message, j, value, msg, r);
+    for j in 0..count {
+        r = judge_any(message, j + 1, bits[j as usize], msg, r);
     }
     r
 }

@@ -69,12 +69,10 @@ fn store_bits(
 {
     let n = end + 8 - 8 * byte;
     let mut x = value;
-    let mut bit: u8 = 0;
     let mut at = start;
-    while bit < n {
+    for bit in 0..n {
         at = store_bit(message, byte, bit, x, msg, at, layout);
         x = x / 2;
-        bit += 1;
     }
     at
 }
@@ -155,12 +153,9 @@ fn store_loop(message: u8, bits: &[u8], count: u8, msg: &[u8], layout: &mut [u8]
     requires { (length layout.old ≡ layout_size) × (length bits.now ≡ count) × (count ≤ most_bitfields) × (left message count bits.now all_places 0 ≤ length msg.now) }
     ensures { storing result layout.new ≡ store_walk message count bits.now msg.now all_places 0 (storing 0 layout.old) }
 {
-    let mut j: u8 = 0;
     let mut at: usize = 0;
-    while j < count {
-        let value = bits[j as usize];
-        j += 1;
-        at = store_any(message, j, value, msg, at, layout);
+    for j in 0..count {
+        at = store_any(message, j + 1, bits[j as usize], msg, at, layout);
     }
     at
 }

@@ -66,12 +66,10 @@ fn give_bits(
 {
     let n = end + 8 - 8 * byte;
     let mut x = value;
-    let mut bit: u8 = 0;
     let mut at = start;
-    while bit < n {
+    for bit in 0..n {
         at = give_bit(message, byte, bit, x, layout, out, at);
         x = x / 2;
-        bit += 1;
     }
     at
 }
@@ -165,12 +163,9 @@ fn give_loop(
     requires { (length layout.now ≡ layout_size) × (count ≤ length bits.now) × (count ≤ most_bitfields) × (start + left message count bits.now all_places 0 ≤ length out.old) }
     ensures { giving result out.new ≡ give_walk message count bits.now layout.now all_places 0 (giving start out.old) }
 {
-    let mut j: u8 = 0;
     let mut at = start;
-    while j < count {
-        let value = bits[j as usize];
-        j += 1;
-        at = give_any(message, j, value, layout, out, at);
+    for j in 0..count {
+        at = give_any(message, j + 1, bits[j as usize], layout, out, at);
     }
     at
 }

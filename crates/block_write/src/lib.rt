@@ -66,16 +66,14 @@ fn look_bits(message: u8, byte: u8, end: u8, value: u8, rest: &mut [u8], s: Seen
 {
     let n = end + 8 - 8 * byte;
     let mut x = value;
-    let mut bit: u8 = 0;
     let mut r = Seen {
         total: s.total,
         wrong: s.wrong,
         bad: 0,
     };
-    while bit < n {
+    for bit in 0..n {
         r = look_bit(message, byte, bit, x, rest, r);
         x = x / 2;
-        bit += 1;
     }
     Seen {
         total: r.total,
@@ -117,12 +115,9 @@ fn look_loop(message: u8, from: u8, bits: &[u8], count: u8, rest: &mut [u8], s: 
     requires { Midway count bits.now from s.total rest.old }
     ensures { looking result rest.new ≡ look_walk message count bits.now (all_places - 8 * from) (8 * from) (looking s rest.old) }
 {
-    let mut j = from;
     let mut r = s;
-    while j < count {
-        let value = bits[j as usize];
-        j += 1;
-        r = look_any(message, j, value, rest, r);
+    for j in from..count {
+        r = look_any(message, j + 1, bits[j as usize], rest, r);
     }
     r
 }

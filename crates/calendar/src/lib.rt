@@ -3,6 +3,9 @@
 
 ghost use Rattle.std.specs.Prelude.{◌≡◌};
 ghost use Rattle.calendar.specs.Calendar.{leap, days_in, is_day, day_refusal};
+ghost use Rattle.refusals.specs.Outcomes.{outcome};
+
+use refusals::{Reason, Refusal};
 
 // Whether a year has a 29th of February.
 fn is_leap(year: u32) -> bool
@@ -58,12 +61,13 @@ pub fn is_day(date: u32) -> bool
     day <= days_in(year, month)
 }
 
-// 0 for a day, 19 for any other number.
-pub fn day_refusal(date: u32) -> u32
-    ensures { result ≡ day_refusal date }
+// Ok for a day, 19 for any other number.
+#[tactic(auto, unfolding(refusals::specs::Outcomes::outcome_with, crate::specs::Calendar::day_refusal))]
+pub fn check_day(date: u32) -> Result<(), Refusal>
+    ensures { result ≡ outcome (day_refusal date) }
 {
     if is_day(date) {
-        return 0;
+        return Ok(());
     }
-    refusals::NOT_A_DAY
+    Err(Refusal::new(Reason::NotADay))
 }

@@ -21,7 +21,7 @@ use Rattle.session_logins.specs.declared.Choice.{Choice}
 use Rattle.session_logins.specs.LoginRequests.{whole_table, pick_choice, used_units, choice_of, said_of, padded, login_record}
 use Rattle.calendar.specs.Calendar.{is_day, day_refusal}
 use Rattle.book.specs.declared.Book.{Book}
-use Rattle.book.specs.declared.Answer as book_answers
+use Rattle.book.specs.Answer as book_answers
 use Rattle.book.specs.Books.{answer, blank_book, opened_book, mark_bytes, open_refusal, open_of, open_buffer, appended_by}
 use Rattle.book_restart.specs.Restarts.{restart_of}
 use Rattle.book_restart.proofs.Cut.{Made, opens}

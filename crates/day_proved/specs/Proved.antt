@@ -17,7 +17,7 @@ use Rattle.session_logins.specs.LoginRequests.{whole_table, choice_of}
 use Rattle.session_logins.proofs.LoginRequestLaws.{said-most, whole_is_written}
 use Rattle.calendar.specs.Calendar.{is_day}
 use Rattle.calendar.specs.CalendarLaws.{day_in_range}
-use Rattle.book.specs.declared.Answer as book_answers
+use Rattle.book.specs.Answer as book_answers
 use Rattle.book.specs.declared.Book.{Book}
 use Rattle.book.specs.Books.{answer}
 use Rattle.book_restart.specs.Restarts.{restart_of}
@@ -31,7 +31,7 @@ use Rattle.day_model.specs.Halves.{VenueCode, both}
 use Rattle.day_line.specs.Lines.{Fields, our_line, lists, login_of_table}
 use Rattle.session.specs.declared.Phase as phases
 use Rattle.session.specs.declared.Phase.TheVariants.{Closed, Asked, Replaying, Live}
-use Rattle.session.specs.declared.Answer as session_answers
+use Rattle.session.specs.Answer as session_answers
 use Rattle.session.proofs.SessionSteps.{login_asks}
 use Rattle.session.specs.MemberDay.{Desk, opened, restarted_by, phase_of, writes, login_bytes, our_member}
 use Rattle.session.specs.Booked.{items}

@@ -211,10 +211,6 @@ word_of k s h bs = ap (agrees_text k) (padded 8 s h bs) ∙ text_then_nul k s _ 
 
 -- ---- the word at a place of a field
 
--- where a word of a tail that is lent is its front, the field from there on is the word's bytes and the rest
-pub front_is : (s : List ℕ) (i w : ℕ) → i ≤ length s → bytes_of 8 w ≡ take 8 (take (length s - i) (drop i s)) → drop i s ≡ bytes_of 8 w ++ drop (i + 8) s
-front_is s i w h e = sym (take-append-drop 8 (drop i s)) ∙ ap₂ ◌++◌ (sym (e ∙ ap (take 8) (tail_is s i h))) (drop-drop 8 i s)
-
 -- the rest of a field, of fewer than eight bytes, is tested as the word at its place
 pub rest_is : (k : Kind) (s : List ℕ) (i : ℕ) → i ≤ length s → length s - i < 8 → ((j : ℕ) → get_or s j 0 < 256) → agrees_text k (bytes_of 8 (number_at 8 i s)) ≡ agrees_text k (drop i s)
 rest_is k s i h l bs =

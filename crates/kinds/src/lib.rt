@@ -98,11 +98,9 @@ fn is_allowed(kind: Kind, b: u8) -> bool
 pub fn is_blank(s: &[u8]) -> bool
     ensures { result ≡ all_nul s.now }
 {
-    let mut i: usize = 0;
     let mut ok = true;
-    while i < s.len() {
-        ok = both(s[i] == 0, ok);
-        i += 1;
+    for byte in s {
+        ok = both(*byte == 0, ok);
     }
     ok
 }
@@ -121,14 +119,11 @@ fn fine(prev: u8, b: u8) -> bool
 fn is_name(s: &[u8]) -> bool
     ensures { result ≡ agrees_text Kind.Identifier s.now }
 {
-    let mut i: usize = 0;
     let mut prev: u8 = 1;
     let mut ok = true;
-    while i < s.len() {
-        let b = s[i];
-        ok = both(fine(prev, b), ok);
-        prev = b;
-        i += 1;
+    for byte in s {
+        ok = both(fine(prev, *byte), ok);
+        prev = *byte;
     }
     ok
 }
@@ -234,33 +229,32 @@ fn pair_agrees(plain: Plain, x: u64, y: u64) -> bool
     both(word_agrees(plain, x), word_agrees(plain, y))
 }
 
-// The same for any field, word after word. Bytes past the end are read as NUL.
+// The same for any field, word after word. Bytes past the end are read as NUL. What is left after a word decides too, so the walk goes by that, and not by
+// chunks.
 fn long_agrees(plain: Plain, s: &[u8]) -> bool
     ensures { result ≡ agrees_text (kind_of plain) s.now }
 {
-    let mut i: usize = 0;
-    while 8 <= s.len() - i {
-        let x = word(&s[i..]);
-        i += 8;
+    let mut rest = s;
+    while 8 <= rest.len() {
+        let x = word(rest);
+        rest = &rest[8..];
         if x < 0x100000000000000 {
-            return both(word_agrees(plain, x), is_blank(&s[i..]));
+            return both(word_agrees(plain, x), is_blank(rest));
         }
         if !word_agrees(plain, x) {
             return false;
         }
     }
-    word_agrees(plain, numbers::read_u64(s, i))
+    word_agrees(plain, numbers::read_u64(rest, 0))
 }
 
 // Whether a kind allows every byte of a field.
 fn every(kind: Kind, s: &[u8]) -> bool
     ensures { result ≡ all_allowed kind s.now }
 {
-    let mut i: usize = 0;
     let mut ok = true;
-    while i < s.len() {
-        ok = both(is_allowed(kind, s[i]), ok);
-        i += 1;
+    for byte in s {
+        ok = both(is_allowed(kind, *byte), ok);
     }
     ok
 }

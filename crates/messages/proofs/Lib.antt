@@ -1,3 +1,4 @@
+pub mod Passing
 pub mod Puts
 pub mod Stages
 pub mod ChosenFields

@@ -6,7 +6,7 @@ use Rattle.std.proofs.Math.Bool.{true, false, cond}
 use Rattle.std.proofs.Math.Dec.{ltb}
 use Rattle.numbers.specs.Numbers.{patched}
 use Rattle.wire.specs.Header.{type_of}
-use Rattle.wire.specs.Frame.{frame_refusal, framed}
+use Rattle.wire.specs.Frame.{frame_refusal}
 use Rattle.orders.specs.Shapes as order_types
 use Rattle.orders.specs.declared.Market.TheVariants.{Equities, Options}
 use Rattle.orders.specs.Markets.{of_market, on_wire}

@@ -13,7 +13,7 @@ use Rattle.numbers.specs.NumberLaws.{number_after, number_back, number_fits, byt
 use Rattle.wire.specs.Header.{type_of, number_of, total_of}
 use Rattle.wire.specs.HeaderLaws.{Bytes}
 use Rattle.wire.specs.Frame.{frame_refusal, framed}
-use Rattle.wire.proofs.FrameLaws.{Whole, whole, framed_is, framed-length, framed_accepted, framed-again}
+use Rattle.wire.proofs.FrameLaws.{Whole, whole, framed_is, framed-length}
 use Rattle.block.specs.Slots.{zeros}
 use Rattle.block.specs.SlotLaws.{length-zeros}
 use Rattle.orders.specs.Markets.{on_wire}

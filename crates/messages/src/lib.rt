@@ -1,5 +1,6 @@
 // The directions: one reader and one writer each, over all types of that direction. Direction 0 is from the member of an equities market, 1 from the venue,
 // 2 from the member of an options market. New Order has the type 38 in both markets; the record of the options' one has the type B8.
+// A direction is a number and no enum: C gives any number, and the definitions of reading and writing answer 4 in a direction that is none of these.
 // A record is the first bytes of a lent buffer, as many as its type's record has: session_messages::RECORD of a session message, block::RECORD of an order.
 #![tactic(auto)]
 
@@ -14,8 +15,10 @@ ghost use Rattle.session_messages.specs.Sessions as sessions;
 ghost use Rattle.session_messages.specs.Sizes.{session_record_size};
 ghost use Rattle.messages.specs.Messages.{is_session, carries, type_in, session_record_bytes, session_at, read_refusal, read_call, read_record, write_call, write_out};
 ghost use Rattle.messages.specs.Stages.{placed_refusal, placed_record, size_refusal, size_out};
+ghost use Rattle.refusals.specs.Outcomes.{outcome};
 
 use orders::Market;
+use refusals::{Reason, Refusal};
 
 // Whether a type is a session message's.
 fn is_session(message: u8) -> bool
@@ -89,49 +92,39 @@ fn put_session(m: &[u8], buffer: &mut [u8])
 }
 
 // Reads a session message, as framing answers it, into a buffer: its refusal, then 13 for a buffer under its record's size.
-fn read_session(m: &[u8], buffer: &mut [u8]) -> u32
-    ensures { (result ≡ placed_refusal (sessions.read_refusal m.now) session_record_size (length buffer.old)) × (buffer.new ≡ placed_record (sessions.read_refusal m.now) session_record_size (session_record_bytes (sessions.record_of m.now)) buffer.old) }
+fn read_session(m: &[u8], buffer: &mut [u8]) -> Result<(), Refusal>
+    ensures { (result ≡ outcome (placed_refusal (sessions.read_refusal m.now) session_record_size (length buffer.old))) × (buffer.new ≡ placed_record (sessions.read_refusal m.now) session_record_size (session_record_bytes (sessions.record_of m.now)) buffer.old) }
 {
-    let refusal = session_messages::read_refusal(m);
-    if refusal != 0 {
-        return refusal;
-    }
+    session_messages::check_session(m)?;
     if buffer.len() < session_messages::RECORD {
-        return refusals::NO_ROOM;
+        return Err(Refusal::new(Reason::NoRoom));
     }
     put_session(m, buffer);
-    0
+    Ok(())
 }
 
 // The same of an order message, under its record's type.
-fn read_order(message: u8, m: &[u8], buffer: &mut [u8]) -> u32
+fn read_order(message: u8, m: &[u8], buffer: &mut [u8]) -> Result<(), Refusal>
     requires { 5 ≤ length m.now }
-    ensures { (result ≡ placed_refusal (orders.read_refusal (typed message m.now)) record_size (length buffer.old)) × (buffer.new ≡ placed_record (orders.read_refusal (typed message m.now)) record_size (record_bytes (orders.record_of (typed message m.now))) buffer.old) }
+    ensures { (result ≡ outcome (placed_refusal (orders.read_refusal (typed message m.now)) record_size (length buffer.old))) × (buffer.new ≡ placed_record (orders.read_refusal (typed message m.now)) record_size (record_bytes (orders.record_of (typed message m.now))) buffer.old) }
 {
     if block::RECORD <= buffer.len() {
         return order_reader::read_as(message, m, buffer);
     }
-    let refusal = order_reader::refusal_as(message, m);
-    if refusal != 0 {
-        return refusal;
-    }
-    refusals::NO_ROOM
+    order_reader::check_as(message, m)?;
+    Err(Refusal::new(Reason::NoRoom))
 }
 
-// Reads the first whole message of any bytes into a record's buffer: 0, and the record stands in the front of the buffer; or the refusal, 1
-// to 11, and after these 13 for a buffer under the size of this message's record, and the buffer is as it was. Bytes after the message play
-// no part.
-pub fn read(direction: u8, bytes: &[u8], buffer: &mut [u8]) -> u32
-    ensures { (result ≡ read_call direction bytes.now (length buffer.old)) × (buffer.new ≡ read_record direction bytes.now buffer.old) }
+// Reads the first whole message of any bytes into a record's buffer: Ok, and the record stands in the front of the buffer; or the refusal, 1 to 11, and
+// after these 13 for a buffer under the size of this message's record, and the buffer is as it was. Bytes after the message play no part.
+pub fn read(direction: u8, bytes: &[u8], buffer: &mut [u8]) -> Result<(), Refusal>
+    ensures { (result ≡ outcome (read_call direction bytes.now (length buffer.old))) × (buffer.new ≡ read_record direction bytes.now buffer.old) }
 {
-    let refusal = wire::frame_refusal(bytes);
-    if refusal != 0 {
-        return refusal;
-    }
+    wire::check_frame(bytes)?;
     let m = wire::frame(bytes);
     let message = type_in(direction, wire::header::type_of(m));
     if !carries(direction, message) {
-        return refusals::UNKNOWN_TYPE;
+        return Err(Refusal::new(Reason::UnknownType));
     }
     if is_session(message) {
         return read_session(m, buffer);
@@ -139,31 +132,29 @@ pub fn read(direction: u8, bytes: &[u8], buffer: &mut [u8]) -> u32
     read_order(message, m, buffer)
 }
 
-// The refusal of the first whole message of any bytes (1 to 11, 23), or 0, judged where it stands. Bytes after it play no part.
-pub fn read_refusal(direction: u8, bytes: &[u8]) -> u32
-    ensures { result ≡ read_refusal direction bytes.now }
+// Ok where the first whole message of any bytes is accepted, or its refusal (1 to 11, 23), judged where it stands. Bytes after it play no part.
+#[tactic(auto, using(refusals::specs::OutcomeLaws::passed_on), unfolding(crate::specs::Messages::read_refusal))]
+pub fn check_message(direction: u8, bytes: &[u8]) -> Result<(), Refusal>
+    ensures { result ≡ outcome (read_refusal direction bytes.now) }
 {
-    let refusal = wire::frame_refusal(bytes);
-    if refusal != 0 {
-        return refusal;
-    }
+    wire::check_frame(bytes)?;
     let m = wire::frame(bytes);
     let message = type_in(direction, wire::header::type_of(m));
     if !carries(direction, message) {
-        return refusals::UNKNOWN_TYPE;
+        return Err(Refusal::new(Reason::UnknownType));
     }
     if is_session(message) {
-        return session_messages::read_refusal(m);
+        return session_messages::check_session(m);
     }
-    order_reader::refusal_as(message, m)
+    order_reader::check_as(message, m)
 }
 
 // Writes a session message's record: 13 for one under its size, then its own refusals.
-fn write_session(given: &[u8], out: &mut [u8]) -> u32
-    ensures { (result ≡ size_refusal session_record_size (length given.now) (sessions.record_refusal (session_at given.now) (length out.old))) × (out.new ≡ size_out session_record_size (length given.now) (sessions.record_buffer (session_at given.now) out.old) out.old) }
+fn write_session(given: &[u8], out: &mut [u8]) -> Result<(), Refusal>
+    ensures { (result ≡ outcome (size_refusal session_record_size (length given.now) (sessions.record_refusal (session_at given.now) (length out.old)))) × (out.new ≡ size_out session_record_size (length given.now) (sessions.record_buffer (session_at given.now) out.old) out.old) }
 {
     if given.len() < session_messages::RECORD {
-        return refusals::NO_ROOM;
+        return Err(Refusal::new(Reason::NoRoom));
     }
     let number = numbers::read_u32(given, 2);
     session_messages::write_body(
@@ -176,26 +167,26 @@ fn write_session(given: &[u8], out: &mut [u8]) -> u32
 }
 
 // The same of an order's record.
-fn write_order(given: &[u8], out: &mut [u8]) -> u32
-    ensures { (result ≡ size_refusal record_size (length given.now) (orders.write_refusal (record_at given.now) (length out.old))) × (out.new ≡ size_out record_size (length given.now) (orders.write_buffer (record_at given.now) out.old) out.old) }
+fn write_order(given: &[u8], out: &mut [u8]) -> Result<(), Refusal>
+    ensures { (result ≡ outcome (size_refusal record_size (length given.now) (orders.write_refusal (record_at given.now) (length out.old)))) × (out.new ≡ size_out record_size (length given.now) (orders.write_buffer (record_at given.now) out.old) out.old) }
 {
     if given.len() < block::RECORD {
-        return refusals::NO_ROOM;
+        return Err(Refusal::new(Reason::NoRoom));
     }
     order_writer::write_order(given, out)
 }
 
-// Writes a record: 0, and the buffer begins with the message's bytes and is otherwise as it was; or the refusal, and the buffer is as it was:
-// 13 for an empty record, which has no type, 4, 13 for a record under its type's size, and then its own, 5, 7 to 13.
-pub fn write(direction: u8, given: &[u8], out: &mut [u8]) -> u32
-    ensures { (result ≡ write_call direction given.now (length out.old)) × (out.new ≡ write_out direction given.now out.old) }
+// Writes a record: Ok, and the buffer begins with the message's bytes and is otherwise as it was; or the refusal, and the buffer is as it was: 13 for an
+// empty record, which has no type, 4, 13 for a record under its type's size, and then its own, 5, 7 to 13.
+pub fn write(direction: u8, given: &[u8], out: &mut [u8]) -> Result<(), Refusal>
+    ensures { (result ≡ outcome (write_call direction given.now (length out.old))) × (out.new ≡ write_out direction given.now out.old) }
 {
     if given.len() == 0 {
-        return refusals::NO_ROOM;
+        return Err(Refusal::new(Reason::NoRoom));
     }
     let message = given[0];
     if !carries(direction, message) {
-        return refusals::UNKNOWN_TYPE;
+        return Err(Refusal::new(Reason::UnknownType));
     }
     if is_session(message) {
         return write_session(given, out);

@@ -14,28 +14,14 @@ mod modify_order;
 mod modify_rejection;
 mod new_order;
 mod options_order;
-mod order_values;
 mod purge_orders;
 mod rejection;
-mod session_values;
+mod values;
+
+use refusals::{Reason, Refusal};
 
 // The first number of a session message's field.
 const FIRST_OF_SESSION: u32 = 640;
-
-// A field's value: whether it is selected, and its bytes, the lowest of a number first, with zeros after them.
-#[derive(Clone, Copy)]
-pub struct Value {
-    pub selected: bool,
-    pub bytes: [u8; 64],
-}
-
-// What a number answers that no field has.
-fn nothing() -> Value {
-    Value {
-        selected: false,
-        bytes: [0; 64],
-    }
-}
 
 // Bytes into the front of a buffer that has room for them.
 fn fill(from: &[u8], to: &mut [u8]) {
@@ -58,19 +44,19 @@ fn session_of(s: &[u8]) -> session_messages::Record {
     }
 }
 
-// A session record into the front of a buffer: 0; or 13 for one that has no room for it.
-fn put_session(r: session_messages::Record, out: &mut [u8]) -> u32 {
+// A session record into the front of a buffer; or 13 for one that has no room for it.
+fn put_session(r: session_messages::Record, out: &mut [u8]) -> Result<(), Refusal> {
     if out.len() < session_messages::RECORD {
-        return refusals::NO_ROOM;
+        return Err(Refusal::new(Reason::NoRoom));
     }
     let body = r.body;
     order_records::put_head(r.message, r.unit, r.number, out);
     fill(&body, &mut out[6..]);
-    0
+    Ok(())
 }
 
-// A field's value in an order's record.
-fn order_value(field: u32, id: u8, r: orders::Record) -> Value {
+// A field's value in an order's record, where it is selected: its bytes, with zeros after them.
+fn order_value(field: u32, id: u8, r: orders::Record) -> Option<[u8; 64]> {
     let own = field % 64;
     match field / 64 {
         0 => new_order::get(own, r),
@@ -83,7 +69,7 @@ fn order_value(field: u32, id: u8, r: orders::Record) -> Value {
         7 => rejection::get(own, r),
         8 => cancel_rejection::get(own, r),
         9 => modify_rejection::get(own, r),
-        _ => nothing(),
+        _ => None,
     }
 }
 
@@ -106,13 +92,13 @@ fn order_with(field: u32, id: u8, value: [u8; 64], r: orders::Record) -> orders:
 }
 
 // A field's value in a session record.
-fn session_value(field: u32, r: session_messages::Record) -> Value {
+fn session_value(field: u32, r: session_messages::Record) -> Option<[u8; 64]> {
     let own = field % 64;
     match field / 64 {
         10 => login_request::get(own, r),
         11 => login_response::get(own, r),
         12 => logout::get(own, r),
-        _ => nothing(),
+        _ => None,
     }
 }
 
@@ -132,37 +118,41 @@ fn session_with(
 }
 
 // A field's value in a record as bytes.
-fn value_in(field: u32, id: u8, record: &[u8]) -> Value {
+fn value_in(field: u32, id: u8, record: &[u8]) -> Option<[u8; 64]> {
     if field < FIRST_OF_SESSION {
-        let loaded = order_records::load(record);
-        return order_value(field, id, loaded.order);
+        return order_value(field, id, order_records::load(record).ok()?);
     }
     session_value(field, session_of(record))
 }
 
-// 1 where a record has the field selected, and its value stands in the front of the buffer; else 0. For a buffer under 64 bytes it answers 0.
+// 1 where a record has the field selected, and its value stands in the front of the buffer; else 0, and zeros stand there. For a buffer under 64 bytes it
+// answers 0.
 #[unsafe(no_mangle)]
 pub extern "C" fn boe_named_get(field: u32, id: u8, record: &[u8], value: &mut [u8]) -> u32 {
     if value.len() < 64 {
         return 0;
     }
-    let v = value_in(field, id, record);
-    let bytes = v.bytes;
-    fill(&bytes, value);
-    v.selected as u32
+    let found = value_in(field, id, record);
+    fill(&found.unwrap_or([0; 64]), value);
+    found.is_some() as u32
+}
+
+// Sets a field of a record to the value in the front of the bytes; or 13 where the value is under 64 bytes or the record under its size.
+fn set_in(field: u32, id: u8, value: &[u8], record: &mut [u8]) -> Result<(), Refusal> {
+    if value.len() < 64 {
+        return Err(Refusal::new(Reason::NoRoom));
+    }
+    let mut bytes = [0u8; 64];
+    block::copy_front(value, 64, &mut bytes);
+    if field < FIRST_OF_SESSION {
+        let order = order_records::load(record)?;
+        return order_records::store(order_with(field, id, bytes, order), record);
+    }
+    put_session(session_with(field, bytes, session_of(record)), record)
 }
 
 // Sets a field of a record to the value in the front of the bytes: 0; or 13 where the value is under 64 bytes or the record under its size.
 #[unsafe(no_mangle)]
 pub extern "C" fn boe_named_set(field: u32, id: u8, value: &[u8], record: &mut [u8]) -> u32 {
-    if value.len() < 64 {
-        return refusals::NO_ROOM;
-    }
-    let mut bytes = [0u8; 64];
-    block::copy_front(value, 64, &mut bytes);
-    if field < FIRST_OF_SESSION {
-        let loaded = order_records::load(record);
-        return order_records::store(order_with(field, id, bytes, loaded.order), record);
-    }
-    put_session(session_with(field, bytes, session_of(record)), record)
+    refusals::code(set_in(field, id, value, record))
 }

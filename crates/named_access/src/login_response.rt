@@ -1,27 +1,28 @@
 // The fields of Login Response by their numbers, which they have in their order, from 0.
-use crate::{Value, session_values};
+use crate::values::{give, take};
 use session_fields::login_response;
 use session_messages::Record;
+use table::OutgoingNumber;
 
 // A field's value.
-pub fn get(field: u32, r: Record) -> Value {
+pub fn get(field: u32, r: Record) -> Option<[u8; 64]> {
     match field {
-        0 => session_values::give_text1(login_response::status(r)),
-        1 => session_values::give_text60(login_response::text(r)),
-        2 => session_values::give_byte(login_response::flag(r)),
-        3 => session_values::give_outgoing(login_response::last_received(r)),
-        4 => session_values::give_byte(login_response::unit_count(r)),
-        _ => crate::nothing(),
+        0 => give(login_response::status(r)),
+        1 => give(login_response::text(r)),
+        2 => give(login_response::flag(r)),
+        3 => give(login_response::last_received(r).map(|n| n.0)),
+        4 => give(login_response::unit_count(r)),
+        _ => None,
     }
 }
 
 // The record with a field set.
 pub fn set(field: u32, value: [u8; 64], r: Record) -> Record {
     match field {
-        0 => login_response::with_status(r, session_values::take_text1(value)),
-        1 => login_response::with_text(r, session_values::take_text60(value)),
-        2 => login_response::with_flag(r, session_values::take_byte(value)),
-        3 => login_response::with_last_received(r, session_values::take_outgoing(value)),
+        0 => login_response::with_status(r, take(value)),
+        1 => login_response::with_text(r, take(value)),
+        2 => login_response::with_flag(r, take(value)),
+        3 => login_response::with_last_received(r, OutgoingNumber(take(value))),
         _ => r,
     }
 }

@@ -1,25 +1,26 @@
 // The fields of Logout by their numbers, which they have in their order, from 0.
-use crate::{Value, session_values};
+use crate::values::{give, take};
 use session_fields::logout;
 use session_messages::Record;
+use table::OutgoingNumber;
 
 // A field's value.
-pub fn get(field: u32, r: Record) -> Value {
+pub fn get(field: u32, r: Record) -> Option<[u8; 64]> {
     match field {
-        0 => session_values::give_text1(logout::reason(r)),
-        1 => session_values::give_text60(logout::text(r)),
-        2 => session_values::give_outgoing(logout::last_received(r)),
-        3 => session_values::give_byte(logout::unit_count(r)),
-        _ => crate::nothing(),
+        0 => give(logout::reason(r)),
+        1 => give(logout::text(r)),
+        2 => give(logout::last_received(r).map(|n| n.0)),
+        3 => give(logout::unit_count(r)),
+        _ => None,
     }
 }
 
 // The record with a field set.
 pub fn set(field: u32, value: [u8; 64], r: Record) -> Record {
     match field {
-        0 => logout::with_reason(r, session_values::take_text1(value)),
-        1 => logout::with_text(r, session_values::take_text60(value)),
-        2 => logout::with_last_received(r, session_values::take_outgoing(value)),
+        0 => logout::with_reason(r, take(value)),
+        1 => logout::with_text(r, take(value)),
+        2 => logout::with_last_received(r, OutgoingNumber(take(value))),
         _ => r,
     }
 }

@@ -1,3 +1,1 @@
 pub mod Tail
-pub mod Sign
-pub mod Parts

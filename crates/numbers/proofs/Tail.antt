@@ -1,21 +1,15 @@
--- A number put into the front of a lent tail, and the tail back in its place: one law for every width.
+-- Bytes put into the front of a lent tail, and the tail back in its place: one law for every width.
 -- Assumes nothing.
 use mathlib.Core.Path.{◌≡◌, refl, sym, ap, ap₂, ◌∙◌}
 use mathlib.Core.List.{List, [], ◌∷◌, ◌++◌, append-nil}
 use Prim.Native.Nat.{ℕ, ◌+◌, ◌-◌, ◌≤◌, ◌<◌}
 use native.Mathlib.Omega.{arith}
-use mathlib.Core.Logic.{◌⊎◌, inl, inr, ⊎_elim}
-use mathlib.Core.Bool.{Bool, true, false}
-use lib.Dec.{leb}
-use lib.ListN.{length, take, drop, set, length-drop, take-append-drop, drop_of_length-le}
-use lib.Seq.{sets, take_all, drop-drop}
-use borrow.Author.Tests.{leb-true, leb-false}
+use lib.ListN.{length, take, drop, set, length-drop, drop_of_length-le}
+use lib.Seq.{take_all, drop-drop}
+use Rattle.std.specs.Prelude.{Err}
+use Rattle.refusals.specs.Outcomes.{outcome, outcome_with}
 use Rattle.numbers.specs.Numbers.{patched, put_refusal, put_buffer}
-use Rattle.numbers.specs.NumberLaws.{put-takes, put_stores, put_refuses, put_keeps, stores_are, patched-length, patched_join}
-
-le_by : (b : Bool) (i j : ℕ) → leb i j ≡ b → (i ≤ j) ⊎ (j < i)
-le_by true i j e = inl (leb-true i j e)
-le_by false i j e = inr (leb-false i j e)
+use Rattle.numbers.specs.NumberLaws.{put_refuses, put_keeps, patched-length, patched_join}
 
 -- the tail that a part `&s[a..]` is
 pub tail_is : (xs : List ℕ) (a : ℕ) → a ≤ length xs → take (length xs - a) (drop a xs) ≡ drop a xs
@@ -26,43 +20,13 @@ pub tail_back : (xs ys : List ℕ) (a : ℕ) → a ≤ length xs → take a xs +
 tail_back xs ys a h = rw (drop_of_length-le (drop a xs) {i = length xs - a} (simp length-drop (omega arith)), append-nil)
 
 module _ (xs : List ℕ) (a : ℕ) (bs : List ℕ) (h : a ≤ length xs) where
-  rest-length : length (drop a xs) ≡ length xs - a
-  rest-length = length-drop a xs
-
-  refusal_of_tail : put_refusal (drop a xs) 0 bs ≡ put_refusal xs a bs
-  refusal_of_tail =
-      ⊎_elim
-      (λ (l : a + length bs ≤ length xs). put-takes (drop a xs) 0 bs (omega (arith, rest-length)) ∙ sym (put-takes xs a bs l))
-      (λ (l : length xs < a + length bs). put_refuses (drop a xs) 0 bs (omega (arith, rest-length)) ∙ sym (put_refuses xs a bs l))
-      (le_by _ (a + length bs) (length xs) refl)
-
   patched_of_tail : take a xs ++ patched (drop a xs) 0 bs ≡ patched xs a bs
   unfolding patched
   patched_of_tail =
       let z : 0 + length bs ≡ length bs = omega arith in
       simp (z, drop-drop)
 
-  buffer_of_tail : take a xs ++ put_buffer (drop a xs) 0 bs ≡ put_buffer xs a bs
-  buffer_of_tail =
-      ⊎_elim
-      (λ (l : a + length bs ≤ length xs).
-      ap (λ (y : List ℕ). take a xs ++ y) (put_stores (drop a xs) 0 bs (omega (arith, rest-length)))
-      ∙ patched_of_tail ∙ sym (put_stores xs a bs l))
-      (λ (l : length xs < a + length bs).
-      ap (λ (y : List ℕ). take a xs ++ y) (put_keeps (drop a xs) 0 bs (omega (arith, rest-length)))
-      ∙ take-append-drop a xs ∙ sym (put_keeps xs a bs l))
-      (le_by _ (a + length bs) (length xs) refl)
-
-  -- as a function has it: the tail lent as a part, and what the callee made of it back in its place
-  pub lent : {r : ℕ} {ys : List ℕ}
-      → (r ≡ put_refusal (take (length xs - a) (drop a xs)) 0 bs) × (ys ≡ put_buffer (take (length xs - a) (drop a xs)) 0 bs)
-      → (r ≡ put_refusal xs a bs) × (take a xs ++ (ys ++ drop (length xs - a) (drop a xs)) ≡ put_buffer xs a bs)
-  lent {r} {ys} e = (
-    e.0 ∙ ap (λ (t : List ℕ). put_refusal t 0 bs) (tail_is xs a h) ∙ refusal_of_tail,
-    tail_back xs ys a h ∙ ap (λ (y : List ℕ). take a xs ++ y) (e.1 ∙ ap (λ (t : List ℕ). put_buffer t 0 bs) (tail_is xs a h)) ∙ buffer_of_tail,
-  )
-
--- the same for bytes that are put with room for them
+-- bytes put with room for them into a tail that is lent, and the tail back in its place
 pub lent-patched : (xs : List ℕ) (a : ℕ) (bs : List ℕ) → a ≤ length xs → {ys : List ℕ} → ys ≡ patched (take (length xs - a) (drop a xs)) 0 bs
     → take a xs ++ (ys ++ drop (length xs - a) (drop a xs)) ≡ patched xs a bs
 lent-patched xs a bs h {ys} e =
@@ -71,14 +35,9 @@ lent-patched xs a bs h {ys} e =
     ∙ patched_of_tail xs a bs h
 
 -- the refused write, as a function has it
-pub no_room : (xs : List ℕ) (a : ℕ) (bs : List ℕ) → length xs < a + length bs → (13 ≡ put_refusal xs a bs) × (xs ≡ put_buffer xs a bs)
-no_room xs a bs h = (sym (put_refuses xs a bs h), sym (put_keeps xs a bs h))
-
--- the stores one after the other at the front, as a function has them
-pub stored : (bs xs : List ℕ) → length bs ≤ length xs → (0 ≡ put_refusal xs 0 bs) × (sets xs 0 bs ≡ put_buffer xs 0 bs)
-stored bs xs h =
-    let l : 0 + length bs ≤ length xs = omega arith in
-    (sym (put-takes xs 0 bs l), stores_are bs xs h ∙ sym (put_stores xs 0 bs l))
+pub no_room : (xs : List ℕ) (a : ℕ) (bs : List ℕ) {r : ℕ} → length xs < a + length bs → r ≡ 13 → (Err r ≡ outcome (put_refusal xs a bs)) × (xs ≡ put_buffer xs a bs)
+unfolding outcome_with
+no_room xs a bs h e = (ap Err e ∙ ap outcome (sym (put_refuses xs a bs h)), sym (put_keeps xs a bs h))
 
 -- one part, and then the rest into the tail: the buffer holds the two in a row
 module _ (out out₁ l₁ l₂ : List ℕ) (n : ℕ) (e : length l₁ ≡ n) (room : n + length l₂ ≤ length out) (p : out₁ ≡ patched out 0 l₁) where

@@ -2,3 +2,4 @@ pub mod Numbers
 pub mod NumberLaws
 pub mod Prices
 pub mod PriceLaws
+pub mod Values

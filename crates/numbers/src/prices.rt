@@ -2,39 +2,27 @@
 ghost use Rattle.std.specs.Prelude.{◌≡◌};
 ghost use Rattle.numbers.specs.Numbers.{bytes_of, put_refusal, put_buffer};
 ghost use Rattle.numbers.specs.Prices.{signed_of, bits_of, price_at};
+ghost use Rattle.refusals.specs.Outcomes.{outcome};
 
-// The number with a sign that 64 bits hold in two's complement.
-fn signed(v: u64) -> i64
-    ensures { result ≡ signed_of v }
-{
-    if v < 9223372036854775808 {
-        v as i64
-    } else {
-        ((v - 9223372036854775808) as i64) + (-9223372036854775808)
-    }
-}
+use refusals::Refusal;
 
 // The 64 bits of a number with a sign.
 pub fn bits(p: i64) -> u64
     ensures { result ≡ bits_of p }
 {
-    if 0 <= p {
-        p as u64
-    } else {
-        ((p - (-9223372036854775808)) as u64) + 9223372036854775808
-    }
+    p.cast_unsigned()
 }
 
 // The price in the eight bytes from a place on.
 pub fn read_price(s: &[u8], at: usize) -> i64
     ensures { result ≡ price_at at s.now }
 {
-    signed(crate::read_u64(s, at))
+    crate::read_u64(s, at).cast_signed()
 }
 
 // A price written at a place.
-pub fn write_price(out: &mut [u8], at: usize, p: i64) -> u32
-    ensures { (result ≡ put_refusal out.old at (bytes_of 8 (bits_of p))) × (out.new ≡ put_buffer out.old at (bytes_of 8 (bits_of p))) }
+pub fn write_price(out: &mut [u8], at: usize, p: i64) -> Result<(), Refusal>
+    ensures { (result ≡ outcome (put_refusal out.old at (bytes_of 8 (bits_of p)))) × (out.new ≡ put_buffer out.old at (bytes_of 8 (bits_of p))) }
 {
     crate::write_u64(out, at, bits(p))
 }

@@ -1,6 +1,6 @@
 -- What is true of the fields of a record's fixed part: what is set is got, and the rest of the record stays as it was.
 -- Assumes nothing.
-use Rattle.std.specs.Prelude.{◌≡◌, refl, ◌⊎◌, Bool, true, false, List, ℕ, ◌+◌, ◌^◌, ◌≤◌, ◌<◌, eqb, ℤ, length, take, drop}
+use Rattle.std.specs.Prelude.{◌≡◌, refl, ◌⊎◌, Bool, true, false, List, ℕ, ◌+◌, ◌^◌, ◌≤◌, ◌<◌, cond, eqb, ℤ, length, take, drop, Option, None, Some}
 use Rattle.std.proofs.Common.{sym, ap₂, ◌∙◌, ⊎_elim, arith, eq-eqb}
 use Rattle.std.proofs.Math.Path.{ap}
 use Rattle.std.specs.Int.Signed.{mag}
@@ -9,9 +9,7 @@ use Rattle.numbers.specs.Prices.{bits_of, signed_of}
 use Rattle.numbers.specs.NumberLaws.{length-bytes_of, put_is_there, read_of_written, put_stores}
 use Rattle.numbers.specs.PriceLaws.{bits_fit, signed_back}
 use Rattle.orders.specs.declared.Record.{Record}
-use Rattle.order_fields.specs.declared.Found.{Found}
-use Rattle.order_fields.specs.Named.{found, nowhere, pick, fixed_of, byte_in, short_in, number_in, long_in, price_in, bytes_in, text1_in, text4_in, text20_in, text60_in}
-use Rattle.order_fields.specs.Named.{byte_fixed, short_fixed, number_fixed, long_fixed, price_fixed, text1_fixed, text4_fixed, text20_fixed, text60_fixed, choose, fixing, fixing_of}
+use Rattle.order_fields.specs.Named.{fixed_of, number_in, price_in, text_in, number_fixed, price_fixed, text_fixed, choose, fixing, fixing_of}
 use Rattle.order_fields.specs.OtherLaws.{kept-after, kept-before}
 use Rattle.order_fields.specs.LocalLaws.{Local, got_alike}
 use Rattle.block.specs.Sizes.{fixed_size}
@@ -48,22 +46,22 @@ module _ {message at w : ℕ} {r : Record} (i : Part message at w r) where
   fix_at bytes = ap (λ (b : Bool). choose b (fixing at bytes r) r) (eq-eqb _ _ i.of_type)
 
   -- a field of the fixed part is there before and after
-  pub fixed_is_found : (bytes : List ℕ) → fixed_of message at (fixing_of message at bytes r) ≡ found at
+  pub fixed_is_found : (bytes : List ℕ) → fixed_of message at (fixing_of message at bytes r) ≡ Some at
   unfolding fixed_of
   fixed_is_found bytes =
-      ap (λ (m : ℕ). pick (eqb m message) (found at) nowhere) ((fixing_keeps_the_rest message at bytes r).same_message ∙ i.of_type)
-      ∙ ap (λ (b : Bool). pick b (found at) nowhere) (eq-eqb message message refl)
+      ap (λ (m : ℕ). cond (eqb m message) (Some at) None) ((fixing_keeps_the_rest message at bytes r).same_message ∙ i.of_type)
+      ∙ ap (λ (b : Bool). cond b (Some at) None) (eq-eqb message message refl)
 
   pub fixed-part : (bytes : List ℕ) → (fixing_of message at bytes r).fixed ≡ patched r.fixed at bytes
   unfolding fixing
   fixed-part bytes = ap (λ (o : Record). o.fixed) (fix_at bytes)
 
   -- and its place holds the bytes that were set
-  pub fixed_is_held : (bytes : List ℕ) → length bytes ≡ w → bytes_in w (fixed_of message at (fixing_of message at bytes r)) (fixing_of message at bytes r).fixed ≡ bytes
+  pub fixed_is_held : (bytes : List ℕ) → length bytes ≡ w → text_fixed w message at (fixing_of message at bytes r) ≡ Some bytes
   fixed_is_held bytes l =
       let h : at + length bytes ≤ length r.fixed = omega (arith, i.fits, i.whole, l) in
-      ap₂ (λ (f : Found) (s : List ℕ). bytes_in w f s) (fixed_is_found bytes) (fixed-part bytes)
-      ∙ put_is_there r.fixed at bytes w l h
+      ap₂ (λ (f : Option ℕ) (s : List ℕ). text_in w f s) (fixed_is_found bytes) (fixed-part bytes)
+      ∙ ap (λ (t : List ℕ). Some t) (put_is_there r.fixed at bytes w l h)
 
   -- the number of a field that was set
   fixed_number : (v : ℕ) → v < 256 ^ w → number_at w at (fixing_of message at (bytes_of w v) r).fixed ≡ v
@@ -73,65 +71,17 @@ module _ {message at w : ℕ} {r : Record} (i : Part message at w r) where
       ap (number_at w at) (fixed-part (bytes_of w v) ∙ sym (put_stores r.fixed at (bytes_of w v) g))
       ∙ read_of_written w v at r.fixed h f
 
-pub byte_fixed_is_got : {message at : ℕ} {r : Record} → Part message at 1 r → (v : ℕ) → v < 256
-    → byte_fixed message at (fixing_of message at (bytes_of 1 v) r) ≡ record { selected = true; value = v }
-unfolding byte_in
-byte_fixed_is_got {message} {at} {r} i v h =
-    ap (λ (f : Found). byte_in f (fixing_of message at (bytes_of 1 v) r).fixed) (fixed_is_found i (bytes_of 1 v))
-    ∙ ap (λ (x : ℕ). record { selected = true; value = x }) (fixed_number i v h)
-
-pub short_fixed_is_got : {message at : ℕ} {r : Record} → Part message at 2 r → (v : ℕ) → v < 65536
-    → short_fixed message at (fixing_of message at (bytes_of 2 v) r) ≡ record { selected = true; value = v }
-unfolding short_in
-short_fixed_is_got {message} {at} {r} i v h =
-    ap (λ (f : Found). short_in f (fixing_of message at (bytes_of 2 v) r).fixed) (fixed_is_found i (bytes_of 2 v))
-    ∙ ap (λ (x : ℕ). record { selected = true; value = x }) (fixed_number i v h)
-
-pub number_fixed_is_got : {message at : ℕ} {r : Record} → Part message at 4 r → (v : ℕ) → v < 4294967296
-    → number_fixed message at (fixing_of message at (bytes_of 4 v) r) ≡ record { selected = true; value = v }
-unfolding number_in
-number_fixed_is_got {message} {at} {r} i v h =
-    ap (λ (f : Found). number_in f (fixing_of message at (bytes_of 4 v) r).fixed) (fixed_is_found i (bytes_of 4 v))
-    ∙ ap (λ (x : ℕ). record { selected = true; value = x }) (fixed_number i v h)
-
-pub long_fixed_is_got : {message at : ℕ} {r : Record} → Part message at 8 r → (v : ℕ) → v < 18446744073709551616
-    → long_fixed message at (fixing_of message at (bytes_of 8 v) r) ≡ record { selected = true; value = v }
-unfolding long_in
-long_fixed_is_got {message} {at} {r} i v h =
-    ap (λ (f : Found). long_in f (fixing_of message at (bytes_of 8 v) r).fixed) (fixed_is_found i (bytes_of 8 v))
-    ∙ ap (λ (x : ℕ). record { selected = true; value = x }) (fixed_number i v h)
+  -- and it is got, whatever its width
+  pub number_fixed_is_got : (v : ℕ) → v < 256 ^ w → number_fixed w message at (fixing_of message at (bytes_of w v) r) ≡ Some v
+  number_fixed_is_got v h =
+      ap (λ (f : Option ℕ). number_in w f (fixing_of message at (bytes_of w v) r).fixed) (fixed_is_found (bytes_of w v))
+      ∙ ap (λ (x : ℕ). Some x) (fixed_number v h)
 
 pub price_fixed_is_got : {message at : ℕ} {r : Record} → Part message at 8 r → (v : ℤ) → mag v < 9223372036854775808
-    → price_fixed message at (fixing_of message at (bytes_of 8 (bits_of v)) r) ≡ record { selected = true; value = v }
-unfolding price_in
+    → price_fixed message at (fixing_of message at (bytes_of 8 (bits_of v)) r) ≡ Some v
 price_fixed_is_got {message} {at} {r} i v h =
-    ap (λ (f : Found). price_in f (fixing_of message at (bytes_of 8 (bits_of v)) r).fixed) (fixed_is_found i (bytes_of 8 (bits_of v)))
-    ∙ ap (λ (x : ℤ). record { selected = true; value = x }) (ap signed_of (fixed_number i (bits_of v) (bits_fit v h)) ∙ signed_back v h)
-
--- the texts: a field of w bytes answers that it is there, and the bytes
-pub text1_fixed_is_got : {message at : ℕ} {r : Record} → Part message at 1 r → (bytes : List ℕ) → length bytes ≡ 1
-    → text1_fixed message at (fixing_of message at bytes r) ≡ record { selected = true; bytes = bytes }
-unfolding text1_in
-text1_fixed_is_got {message} {at} {r} i bytes l =
-    ap₂ (λ (b : Bool) (s : List ℕ). record { selected = b; bytes = s }) (ap (λ (f : Found). f.selected) (fixed_is_found i bytes)) (fixed_is_held i bytes l)
-
-pub text4_fixed_is_got : {message at : ℕ} {r : Record} → Part message at 4 r → (bytes : List ℕ) → length bytes ≡ 4
-    → text4_fixed message at (fixing_of message at bytes r) ≡ record { selected = true; bytes = bytes }
-unfolding text4_in
-text4_fixed_is_got {message} {at} {r} i bytes l =
-    ap₂ (λ (b : Bool) (s : List ℕ). record { selected = b; bytes = s }) (ap (λ (f : Found). f.selected) (fixed_is_found i bytes)) (fixed_is_held i bytes l)
-
-pub text20_fixed_is_got : {message at : ℕ} {r : Record} → Part message at 20 r → (bytes : List ℕ) → length bytes ≡ 20
-    → text20_fixed message at (fixing_of message at bytes r) ≡ record { selected = true; bytes = bytes }
-unfolding text20_in
-text20_fixed_is_got {message} {at} {r} i bytes l =
-    ap₂ (λ (b : Bool) (s : List ℕ). record { selected = b; bytes = s }) (ap (λ (f : Found). f.selected) (fixed_is_found i bytes)) (fixed_is_held i bytes l)
-
-pub text60_fixed_is_got : {message at : ℕ} {r : Record} → Part message at 60 r → (bytes : List ℕ) → length bytes ≡ 60
-    → text60_fixed message at (fixing_of message at bytes r) ≡ record { selected = true; bytes = bytes }
-unfolding text60_in
-text60_fixed_is_got {message} {at} {r} i bytes l =
-    ap₂ (λ (b : Bool) (s : List ℕ). record { selected = b; bytes = s }) (ap (λ (f : Found). f.selected) (fixed_is_found i bytes)) (fixed_is_held i bytes l)
+    ap (λ (f : Option ℕ). price_in f (fixing_of message at (bytes_of 8 (bits_of v)) r).fixed) (fixed_is_found i (bytes_of 8 (bits_of v)))
+    ∙ ap (λ (x : ℤ). Some x) (ap signed_of (fixed_number i (bits_of v) (bits_fit v h)) ∙ signed_back v h)
 
 -- ---- setting a field of the fixed part leaves every part of it that lies apart
 
@@ -146,9 +96,9 @@ module _ {message at w : ℕ} {r : Record} (i : Part message at w r) (bytes : Li
       apart
 
   -- so every getter of another field of the fixed part answers the same before and after
-  pub other_fixed_field_kept : {A : Type 0} {get : Found → List ℕ → A} → Local get w' at'
+  pub other_fixed_field_kept : {A : Type 0} {get : Option ℕ → List ℕ → A} → Local get w' at'
       → get (fixed_of message at' (fixing_of message at bytes r)) (fixing_of message at bytes r).fixed ≡ get (fixed_of message at' r) r.fixed
   unfolding fixed_of
   other_fixed_field_kept {A} {get} g =
-      ap (λ (m : ℕ). get (pick (eqb m message) (found at') nowhere) (fixing_of message at bytes r).fixed) (fixing_keeps_the_rest message at bytes r).same_message
+      ap (λ (m : ℕ). get (cond (eqb m message) (Some at') None) (fixing_of message at bytes r).fixed) (fixing_keeps_the_rest message at bytes r).same_message
       ∙ got_alike g (eqb r.message message) (fixing_of message at bytes r).fixed r.fixed other_fixed_kept

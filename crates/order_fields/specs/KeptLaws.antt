@@ -1,5 +1,5 @@
 -- Setting a field leaves what every other field answers as it was. Assumes nothing.
-use Rattle.std.specs.Prelude.{◌≡◌, ◌⊎◌, true, false, List, ℕ, ◌+◌, ◌-◌, ◌*◌, ◌≤◌, ◌<◌, ltb, eqb, length, get_or, drop}
+use Rattle.std.specs.Prelude.{◌≡◌, ◌⊎◌, true, false, cond, Option, None, Some, List, ℕ, ◌+◌, ◌-◌, ◌*◌, ◌≤◌, ◌<◌, ltb, eqb, length, get_or, drop}
 use Rattle.std.proofs.Math.Path.{refl, sym, ap}
 use Rattle.std.proofs.Common.{ap₂, ◌∙◌, inl, inr, arith, ltb-true, ltb-false}
 use Rattle.std.proofs.Math.Bool.{Bool}
@@ -9,14 +9,10 @@ use Rattle.dictionary.specs.declared.Entry.TheVariants.{Field}
 use Rattle.dictionary.specs.Dictionary.{entry_of}
 use Rattle.block.specs.Sizes.{most_bitfields}
 use Rattle.orders.specs.declared.Record.{Record}
-use Rattle.order_fields.specs.declared.Found.{Found}
-use Rattle.order_fields.specs.Named.{found, nowhere, pick, place_in, selected_of, optional_of, fixed_of, bytes_in}
-use Rattle.order_fields.specs.Named.{byte_of, short_of, number_of, long_of, price_of, text1_of, text3_of, text4_of, text6_of, text8_of, text16_of, text20_of, text64_of}
-use Rattle.order_fields.specs.Named.{choose, selecting, storing, settable_of, setting_of, fixing_of}
+use Rattle.order_fields.specs.Named.{place_in, selected_of, optional_of, fixed_of, number_of, price_of, text_of, selecting, storing, settable_of, set_in, setting_of, fixing_of}
 use Rattle.order_fields.specs.NamedLaws.{placed, Listed}
 use Rattle.order_fields.specs.OtherLaws.{other_slot_kept}
-use Rattle.order_fields.specs.LocalLaws.{Local, got_alike, bytes_local, byte_local, short_local, number_local, long_local, price_local}
-use Rattle.order_fields.specs.LocalLaws.{text1_local, text3_local, text4_local, text6_local, text8_local, text16_local, text20_local, text64_local}
+use Rattle.order_fields.specs.LocalLaws.{Local, got_alike, number_local, price_local, text_local}
 use Rattle.order_fields.specs.FixedLaws.{SameElsewhere, fixing_keeps_the_rest}
 use Rattle.order_fields.specs.SelectionLaws.{UnusedZero, other_selection_kept}
 
@@ -49,67 +45,34 @@ module _ {message byte bit w p : ℕ} {k : Kind} {r : Record} (i : Listed messag
     pub other_found_kept : (width : ℕ) → optional_of message byte' bit' width (setting_of message byte bit bytes r) ≡ optional_of message byte' bit' width r
     unfolding optional_of
     other_found_kept width =
-        ap (λ (b : Bool). pick b (place_in width (entry_of message byte' bit')) nowhere) (other_selection_kept i unused byte' bit' o.from_one o.elsewhere bytes l)
+        ap (λ (b : Bool). cond b (place_in width (entry_of message byte' bit')) None) (other_selection_kept i unused byte' bit' o.from_one o.elsewhere bytes l)
 
     -- and every getter answers the same
-    pub other_answer_kept : {A : Type 0} {get : Found → List ℕ → A} → Local get w' p'
+    pub other_answer_kept : {A : Type 0} {get : Option ℕ → List ℕ → A} → Local get w' p'
         → get (optional_of message byte' bit' w' (setting_of message byte bit bytes r)) (setting_of message byte bit bytes r).slots
         ≡ get (optional_of message byte' bit' w' r) r.slots
     unfolding optional_of
     other_answer_kept {A} {get} g =
         let s = (setting_of message byte bit bytes r).slots in
         let b : Bool = selected_of message byte' bit' r in
-        let e : place_in w' (entry_of message byte' bit') ≡ found p' = sym (placed refl o.listed) in
+        let e : place_in w' (entry_of message byte' bit') ≡ Some p' = sym (placed refl o.listed) in
         let h : take w' (drop p' s) ≡ take w' (drop p' r.slots) =
         other_slot_kept i small byte' bit' o.listed o.from_one o.in_block o.low_bit (in_order byte bit byte' bit' i.from_one i.low_bit o.from_one o.low_bit o.elsewhere) bytes l in
-        ap (λ (f : Found). get f s) (other_found_kept w')
-        ∙ ap (λ (f : Found). get (pick b f nowhere) s) e
+        ap (λ (f : Option ℕ). get f s) (other_found_kept w')
+        ∙ ap (λ (f : Option ℕ). get (cond b f None) s) e
         ∙ got_alike g b s r.slots h
-        ∙ ap (λ (f : Found). get (pick b f nowhere) r.slots) (sym e)
+        ∙ ap (λ (f : Option ℕ). get (cond b f None) r.slots) (sym e)
 
-    pub other_field_kept : bytes_in w' (optional_of message byte' bit' w' (setting_of message byte bit bytes r)) (setting_of message byte bit bytes r).slots
-        ≡ bytes_in w' (optional_of message byte' bit' w' r) r.slots
-    other_field_kept = other_answer_kept (bytes_local w' p')
+    -- of each kind
+    pub other_number_kept : number_of w' message byte' bit' (setting_of message byte bit bytes r) ≡ number_of w' message byte' bit' r
+    other_number_kept = other_answer_kept (number_local w' p')
 
-  module _ {byte' bit' p' : ℕ} {k' : Kind} where
-    pub other_byte_kept : Other message byte bit byte' bit' 1 p' k' → byte_of message byte' bit' (setting_of message byte bit bytes r) ≡ byte_of message byte' bit' r
-    other_byte_kept o = other_answer_kept o (byte_local p')
+    pub other_field_kept : text_of w' message byte' bit' (setting_of message byte bit bytes r) ≡ text_of w' message byte' bit' r
+    other_field_kept = other_answer_kept (text_local w' p')
 
-    pub other_short_kept : Other message byte bit byte' bit' 2 p' k' → short_of message byte' bit' (setting_of message byte bit bytes r) ≡ short_of message byte' bit' r
-    other_short_kept o = other_answer_kept o (short_local p')
-
-    pub other_number_kept : Other message byte bit byte' bit' 4 p' k' → number_of message byte' bit' (setting_of message byte bit bytes r) ≡ number_of message byte' bit' r
-    other_number_kept o = other_answer_kept o (number_local p')
-
-    pub other_long_kept : Other message byte bit byte' bit' 8 p' k' → long_of message byte' bit' (setting_of message byte bit bytes r) ≡ long_of message byte' bit' r
-    other_long_kept o = other_answer_kept o (long_local p')
-
-    pub other_price_kept : Other message byte bit byte' bit' 8 p' k' → price_of message byte' bit' (setting_of message byte bit bytes r) ≡ price_of message byte' bit' r
-    other_price_kept o = other_answer_kept o (price_local p')
-
-    pub other_text1_kept : Other message byte bit byte' bit' 1 p' k' → text1_of message byte' bit' (setting_of message byte bit bytes r) ≡ text1_of message byte' bit' r
-    other_text1_kept o = other_answer_kept o (text1_local p')
-
-    pub other_text3_kept : Other message byte bit byte' bit' 3 p' k' → text3_of message byte' bit' (setting_of message byte bit bytes r) ≡ text3_of message byte' bit' r
-    other_text3_kept o = other_answer_kept o (text3_local p')
-
-    pub other_text4_kept : Other message byte bit byte' bit' 4 p' k' → text4_of message byte' bit' (setting_of message byte bit bytes r) ≡ text4_of message byte' bit' r
-    other_text4_kept o = other_answer_kept o (text4_local p')
-
-    pub other_text6_kept : Other message byte bit byte' bit' 6 p' k' → text6_of message byte' bit' (setting_of message byte bit bytes r) ≡ text6_of message byte' bit' r
-    other_text6_kept o = other_answer_kept o (text6_local p')
-
-    pub other_text8_kept : Other message byte bit byte' bit' 8 p' k' → text8_of message byte' bit' (setting_of message byte bit bytes r) ≡ text8_of message byte' bit' r
-    other_text8_kept o = other_answer_kept o (text8_local p')
-
-    pub other_text16_kept : Other message byte bit byte' bit' 16 p' k' → text16_of message byte' bit' (setting_of message byte bit bytes r) ≡ text16_of message byte' bit' r
-    other_text16_kept o = other_answer_kept o (text16_local p')
-
-    pub other_text20_kept : Other message byte bit byte' bit' 20 p' k' → text20_of message byte' bit' (setting_of message byte bit bytes r) ≡ text20_of message byte' bit' r
-    other_text20_kept o = other_answer_kept o (text20_local p')
-
-    pub other_text64_kept : Other message byte bit byte' bit' 64 p' k' → text64_of message byte' bit' (setting_of message byte bit bytes r) ≡ text64_of message byte' bit' r
-    other_text64_kept o = other_answer_kept o (text64_local p')
+  pub other_price_kept : {byte' bit' p' : ℕ} {k' : Kind} → Other message byte bit byte' bit' 8 p' k'
+      → price_of message byte' bit' (setting_of message byte bit bytes r) ≡ price_of message byte' bit' r
+  other_price_kept {byte'} {bit'} {p'} o = other_answer_kept o (price_local p')
 
 -- ---- an optional field is set: the rest of the record, of any type
 
@@ -121,28 +84,28 @@ pub record SameOutside (o r : Record) : Type 0 where
 
 pub setting_keeps_the_rest : (message byte bit : ℕ) (bytes : List ℕ) (r : Record) → SameOutside (setting_of message byte bit bytes r) r
 unfolding setting_of selecting storing
-setting_keeps_the_rest message byte bit bytes r = by (settable_of message byte bit (length bytes) r).selected (settable_of message byte bit (length bytes) r).at
+setting_keeps_the_rest message byte bit bytes r = by (settable_of message byte bit (length bytes) r)
   where
-    by : (b : Bool) (at : ℕ) → SameOutside (choose b (selecting byte bit (storing at bytes r)) r) r
-    by true at = record { same_message = refl; same-unit = refl; same_number = refl; same-fixed = refl }
-    by false at = record { same_message = refl; same-unit = refl; same_number = refl; same-fixed = refl }
+    by : (f : Option ℕ) → SameOutside (set_in f byte bit bytes r) r
+    by (Some at) = record { same_message = refl; same-unit = refl; same_number = refl; same-fixed = refl }
+    by None = record { same_message = refl; same-unit = refl; same_number = refl; same-fixed = refl }
 
 -- so every getter of the fixed part answers the same
-pub fixed_fields-kept : (message byte bit : ℕ) (bytes : List ℕ) (r : Record) (message' at : ℕ) {A : Type 0} (get : Found → List ℕ → A)
+pub fixed_fields-kept : (message byte bit : ℕ) (bytes : List ℕ) (r : Record) (message' at : ℕ) {A : Type 0} (get : Option ℕ → List ℕ → A)
     → get (fixed_of message' at (setting_of message byte bit bytes r)) (setting_of message byte bit bytes r).fixed ≡ get (fixed_of message' at r) r.fixed
 unfolding fixed_of
 fixed_fields-kept message byte bit bytes r message' at get =
     let s = setting_keeps_the_rest message byte bit bytes r in
-    ap₂ (λ (m : ℕ) (f : List ℕ). get (pick (eqb m message') (found at) nowhere) f) s.same_message s.same-fixed
+    ap₂ (λ (m : ℕ) (f : List ℕ). get (cond (eqb m message') (Some at) None) f) s.same_message s.same-fixed
 
 -- ---- a field of the fixed part is set: every getter of an optional field answers the same
 
-pub same_optional_fields : {o r : Record} → SameElsewhere o r → (message byte bit width : ℕ) {A : Type 0} (get : Found → List ℕ → A)
+pub same_optional_fields : {o r : Record} → SameElsewhere o r → (message byte bit width : ℕ) {A : Type 0} (get : Option ℕ → List ℕ → A)
     → get (optional_of message byte bit width o) o.slots ≡ get (optional_of message byte bit width r) r.slots
 unfolding optional_of selected_of
 same_optional_fields s message byte bit width get = rw (s.same_message, s.same_count, s.same_bits, s.same_slots) refl
 
-pub optional_fields_kept : (message at : ℕ) (bytes : List ℕ) (r : Record) (message' byte bit width : ℕ) {A : Type 0} (get : Found → List ℕ → A)
+pub optional_fields_kept : (message at : ℕ) (bytes : List ℕ) (r : Record) (message' byte bit width : ℕ) {A : Type 0} (get : Option ℕ → List ℕ → A)
     → get (optional_of message' byte bit width (fixing_of message at bytes r)) (fixing_of message at bytes r).slots ≡ get (optional_of message' byte bit width r) r.slots
 optional_fields_kept message at bytes r = same_optional_fields (fixing_keeps_the_rest message at bytes r)
 

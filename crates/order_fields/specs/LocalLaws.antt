@@ -1,19 +1,17 @@
 -- A getter looks at its own field's bytes alone. Assumes nothing.
-use Rattle.std.specs.Prelude.{◌≡◌, refl, Bool, true, false, List, ℕ, zero, suc, ◌+◌, ◌*◌, ◌≤◌, get_or, take, drop}
+use Rattle.std.specs.Prelude.{◌≡◌, refl, Bool, true, false, cond, List, ℕ, zero, suc, ◌+◌, ◌*◌, ◌≤◌, get_or, take, drop, Option, None, Some}
 use Rattle.std.proofs.Common.{sym, ap, ap₂, ◌∙◌, arith, get_or-take, get_or-drop}
 use Rattle.numbers.specs.Numbers.{number_at}
 use Rattle.numbers.specs.Prices.{signed_of}
-use Rattle.order_fields.specs.declared.Found.{Found}
-use Rattle.order_fields.specs.Named.{found, nowhere, pick, byte_in, short_in, number_in, long_in, price_in, bytes_in}
-use Rattle.order_fields.specs.Named.{text1_in, text3_in, text4_in, text6_in, text8_in, text16_in, text20_in, text60_in, text64_in}
+use Rattle.order_fields.specs.Named.{number_in, price_in, text_in}
 
 -- what is got of a field of w bytes at p, from any two buffers that have the same bytes there
-pub record Local {A : Type 0} (get : Found → List ℕ → A) (w p : ℕ) : Type 0 where
-  pub where_found : (s t : List ℕ) → take w (drop p s) ≡ take w (drop p t) → get (found p) s ≡ get (found p) t
-  pub where_not : (s t : List ℕ) → get nowhere s ≡ get nowhere t
+pub record Local {A : Type 0} (get : Option ℕ → List ℕ → A) (w p : ℕ) : Type 0 where
+  pub where_found : (s t : List ℕ) → take w (drop p s) ≡ take w (drop p t) → get (Some p) s ≡ get (Some p) t
+  pub where_not : (s t : List ℕ) → get None s ≡ get None t
 
-pub got_alike : {A : Type 0} {get : Found → List ℕ → A} {w p : ℕ} → Local get w p → (b : Bool) (s t : List ℕ) → take w (drop p s) ≡ take w (drop p t)
-    → get (pick b (found p) nowhere) s ≡ get (pick b (found p) nowhere) t
+pub got_alike : {A : Type 0} {get : Option ℕ → List ℕ → A} {w p : ℕ} → Local get w p → (b : Bool) (s t : List ℕ) → take w (drop p s) ≡ take w (drop p t)
+    → get (cond b (Some p) None) s ≡ get (cond b (Some p) None) t
 got_alike l true s t h = l.where_found s t h
 got_alike l false s t h = l.where_not s t
 
@@ -44,61 +42,11 @@ one_byte p s = omega arith
 
 -- ---- each getter
 
-pub bytes_local : (w p : ℕ) → Local (bytes_in w) w p
-bytes_local w p = record { where_found = λ s t h. h; where_not = λ s t. refl }
-
-pub byte_local : (p : ℕ) → Local byte_in 1 p
-unfolding byte_in
-byte_local p = record { where_found = λ s t h. ap (λ (x : ℕ). record { selected = true; value = x }) (same_number_there 1 p s t h); where_not = λ s t. refl }
-
-pub short_local : (p : ℕ) → Local short_in 2 p
-unfolding short_in
-short_local p = record { where_found = λ s t h. ap (λ (x : ℕ). record { selected = true; value = x }) (same_number_there 2 p s t h); where_not = λ s t. refl }
-
-pub number_local : (p : ℕ) → Local number_in 4 p
-unfolding number_in
-number_local p = record { where_found = λ s t h. ap (λ (x : ℕ). record { selected = true; value = x }) (same_number_there 4 p s t h); where_not = λ s t. refl }
-
-pub long_local : (p : ℕ) → Local long_in 8 p
-unfolding long_in
-long_local p = record { where_found = λ s t h. ap (λ (x : ℕ). record { selected = true; value = x }) (same_number_there 8 p s t h); where_not = λ s t. refl }
+pub number_local : (w p : ℕ) → Local (number_in w) w p
+number_local w p = record { where_found = λ s t h. ap (λ (x : ℕ). Some x) (same_number_there w p s t h); where_not = λ s t. refl }
 
 pub price_local : (p : ℕ) → Local price_in 8 p
-unfolding price_in
-price_local p = record { where_found = λ s t h. ap (λ (x : ℕ). record { selected = true; value = signed_of x }) (same_number_there 8 p s t h); where_not = λ s t. refl }
+price_local p = record { where_found = λ s t h. ap (λ (x : ℕ). Some (signed_of x)) (same_number_there 8 p s t h); where_not = λ s t. refl }
 
-pub text1_local : (p : ℕ) → Local text1_in 1 p
-unfolding text1_in
-text1_local p = record { where_found = λ s t h. ap (λ (x : List ℕ). record { selected = true; bytes = x }) h; where_not = λ s t. refl }
-
-pub text3_local : (p : ℕ) → Local text3_in 3 p
-unfolding text3_in
-text3_local p = record { where_found = λ s t h. ap (λ (x : List ℕ). record { selected = true; bytes = x }) h; where_not = λ s t. refl }
-
-pub text4_local : (p : ℕ) → Local text4_in 4 p
-unfolding text4_in
-text4_local p = record { where_found = λ s t h. ap (λ (x : List ℕ). record { selected = true; bytes = x }) h; where_not = λ s t. refl }
-
-pub text6_local : (p : ℕ) → Local text6_in 6 p
-unfolding text6_in
-text6_local p = record { where_found = λ s t h. ap (λ (x : List ℕ). record { selected = true; bytes = x }) h; where_not = λ s t. refl }
-
-pub text8_local : (p : ℕ) → Local text8_in 8 p
-unfolding text8_in
-text8_local p = record { where_found = λ s t h. ap (λ (x : List ℕ). record { selected = true; bytes = x }) h; where_not = λ s t. refl }
-
-pub text16_local : (p : ℕ) → Local text16_in 16 p
-unfolding text16_in
-text16_local p = record { where_found = λ s t h. ap (λ (x : List ℕ). record { selected = true; bytes = x }) h; where_not = λ s t. refl }
-
-pub text20_local : (p : ℕ) → Local text20_in 20 p
-unfolding text20_in
-text20_local p = record { where_found = λ s t h. ap (λ (x : List ℕ). record { selected = true; bytes = x }) h; where_not = λ s t. refl }
-
-pub text60_local : (p : ℕ) → Local text60_in 60 p
-unfolding text60_in
-text60_local p = record { where_found = λ s t h. ap (λ (x : List ℕ). record { selected = true; bytes = x }) h; where_not = λ s t. refl }
-
-pub text64_local : (p : ℕ) → Local text64_in 64 p
-unfolding text64_in
-text64_local p = record { where_found = λ s t h. ap (λ (x : List ℕ). record { selected = true; bytes = x }) h; where_not = λ s t. refl }
+pub text_local : (w p : ℕ) → Local (text_in w) w p
+text_local w p = record { where_found = λ s t h. ap (λ (x : List ℕ). Some x) h; where_not = λ s t. refl }

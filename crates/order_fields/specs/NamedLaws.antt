@@ -1,5 +1,5 @@
 -- What is true of a record's fields: what is set is got. Assumes nothing.
-use Rattle.std.specs.Prelude.{◌≡◌, Bool, true, false, cond, List, ℕ, zero, suc, ◌+◌, ◌-◌, ◌/◌, ◌%◌, ◌^◌, ◌≤◌, ◌<◌, eqb, leb, ℤ}
+use Rattle.std.specs.Prelude.{◌≡◌, Bool, true, false, cond, List, ℕ, zero, suc, ◌+◌, ◌-◌, ◌/◌, ◌%◌, ◌^◌, ◌≤◌, ◌<◌, eqb, leb, ℤ, Option, None, Some}
 use Rattle.std.proofs.Math.Path.{refl, sym, ap}
 use Rattle.std.proofs.Common.{ap₂, ◌∙◌, arith}
 use Rattle.std.specs.Int.Signed.{mag}
@@ -17,19 +17,18 @@ use Rattle.dictionary.specs.Dictionary.{entry_of}
 use Rattle.block.specs.Places.{bit_set}
 use Rattle.block.proofs.Dictionaries.{field_fits}
 use Rattle.orders.specs.declared.Record.{Record}
-use Rattle.order_fields.specs.declared.Found.{Found}
-use Rattle.order_fields.specs.Named.{found, nowhere, pick, place_in, selected_of, optional_of, byte_in, short_in, number_in, long_in, price_in, bytes_in, byte_of, short_of, number_of, long_of, price_of, with_bit, larger, selecting, storing, settable_of, set_in, setting_of}
+use Rattle.order_fields.specs.Named.{place_in, selected_of, optional_of, number_in, price_in, text_in, number_of, price_of, text_of, with_bit, larger, selecting, storing, settable_of, set_in, setting_of}
 use Rattle.block.specs.Sizes.{layout_size}
 
 -- ---- an entry's field, by its width
 
-pub placed : {w width p : ℕ} {k : Kind} {e : Entry} → w ≡ width → Field w k p ≡ e → found p ≡ place_in width e
-placed {w} {width} {p} {k} q h = ap (λ b. pick b (found p) nowhere) (sym (eq-eqb w width q)) ∙ ap (place_in width) h
+pub placed : {w width p : ℕ} {k : Kind} {e : Entry} → w ≡ width → Field w k p ≡ e → Some p ≡ place_in width e
+placed {w} {width} {p} {k} q h = ap (λ (b : Bool). cond b (Some p) None) (sym (eq-eqb w width q)) ∙ ap (place_in width) h
 
-pub misplaced : {w width p : ℕ} {k : Kind} {e : Entry} → (w ≡ width → ⊥) → Field w k p ≡ e → nowhere ≡ place_in width e
-misplaced {w} {width} {p} {k} q h = ap (λ b. pick b (found p) nowhere) (sym (ne_eqb w width q)) ∙ ap (place_in width) h
+pub misplaced : {w width p : ℕ} {k : Kind} {e : Entry} → (w ≡ width → ⊥) → Field w k p ≡ e → None ≡ place_in width e
+misplaced {w} {width} {p} {k} q h = ap (λ (b : Bool). cond b (Some p) None) (sym (ne_eqb w width q)) ∙ ap (place_in width) h
 
-pub unlisted : (width : ℕ) {e : Entry} → Refused ≡ e → nowhere ≡ place_in width e
+pub unlisted : (width : ℕ) {e : Entry} → Refused ≡ e → None ≡ place_in width e
 unlisted width h = ap (place_in width) h
 
 -- ---- a bit that is set is set
@@ -75,9 +74,9 @@ module _ {message byte bit w p : ℕ} {k : Kind} {r : Record} (i : Listed messag
   pub set_at : (bytes : List ℕ) → length bytes ≡ w → setting_of message byte bit bytes r ≡ selecting byte bit (storing p bytes r)
   unfolding setting_of settable_of
   set_at bytes l =
-      let e : settable_of message byte bit (length bytes) r ≡ found p =
-      ap (λ (b : Bool). pick b (place_in (length bytes) (entry_of message byte bit)) nowhere) (eq-eqb _ _ i.of_type) ∙ sym (placed (sym l) i.listed) in
-      ap (λ (f : Found). set_in f byte bit bytes r) e
+      let e : settable_of message byte bit (length bytes) r ≡ Some p =
+      ap (λ (b : Bool). cond b (place_in (length bytes) (entry_of message byte bit)) None) (eq-eqb _ _ i.of_type) ∙ sym (placed (sym l) i.listed) in
+      ap (λ (f : Option ℕ). set_in f byte bit bytes r) e
 
   selected_then : (bytes : List ℕ) → selected_of message byte bit (selecting byte bit (storing p bytes r)) ≡ true
   unfolding selected_of selecting storing
@@ -87,11 +86,11 @@ module _ {message byte bit w p : ℕ} {k : Kind} {r : Record} (i : Listed messag
       rw (eq-eqb _ _ i.of_type, le-leb _ _ (larger_reaches r.count byte), get_or-set_same r.bits (byte - 1) (with_bit x bit) 0 a) (bit_is_set x bit i.low_bit)
 
   -- a field that is set stands where the dictionary has it
-  pub set_is_found : (bytes : List ℕ) → length bytes ≡ w → optional_of message byte bit w (setting_of message byte bit bytes r) ≡ found p
+  pub set_is_found : (bytes : List ℕ) → length bytes ≡ w → optional_of message byte bit w (setting_of message byte bit bytes r) ≡ Some p
   unfolding optional_of
   set_is_found bytes l =
       ap (optional_of message byte bit w) (set_at bytes l)
-      ∙ ap (λ (b : Bool). pick b (place_in w (entry_of message byte bit)) nowhere) (selected_then bytes)
+      ∙ ap (λ (b : Bool). cond b (place_in w (entry_of message byte bit)) None) (selected_then bytes)
       ∙ sym (placed refl i.listed)
 
   pub set_slots : (bytes : List ℕ) → length bytes ≡ w → (setting_of message byte bit bytes r).slots ≡ patched r.slots p bytes
@@ -99,11 +98,11 @@ module _ {message byte bit w p : ℕ} {k : Kind} {r : Record} (i : Listed messag
   set_slots bytes l = ap (λ (o : Record). o.slots) (set_at bytes l)
 
   -- and its slot holds the bytes that were set
-  pub set_is_held : (bytes : List ℕ) → length bytes ≡ w → bytes_in w (optional_of message byte bit w (setting_of message byte bit bytes r)) (setting_of message byte bit bytes r).slots ≡ bytes
+  pub set_is_held : (bytes : List ℕ) → length bytes ≡ w → text_of w message byte bit (setting_of message byte bit bytes r) ≡ Some bytes
   set_is_held bytes l =
       let h : p + length bytes ≤ length r.slots = omega (arith, field_fits message byte bit i.listed, i.whole, l) in
-      ap₂ (λ (f : Found) (s : List ℕ). bytes_in w f s) (set_is_found bytes l) (set_slots bytes l)
-      ∙ put_is_there r.slots p bytes w l h
+      ap₂ (λ (f : Option ℕ) (s : List ℕ). text_in w f s) (set_is_found bytes l) (set_slots bytes l)
+      ∙ ap (λ (t : List ℕ). Some t) (put_is_there r.slots p bytes w l h)
 
   -- the number of a field that was set
   set_number : (v : ℕ) → v < 256 ^ w → number_at w p (setting_of message byte bit (bytes_of w v) r).slots ≡ v
@@ -114,37 +113,14 @@ module _ {message byte bit w p : ℕ} {k : Kind} {r : Record} (i : Listed messag
       ap (number_at w p) (set_slots (bytes_of w v) l ∙ sym (put_stores r.slots p (bytes_of w v) g))
       ∙ read_of_written w v p r.slots h f
 
-pub byte_set_is_got : {message byte bit p : ℕ} {k : Kind} {r : Record} → Listed message byte bit 1 p k r → (v : ℕ) → v < 256
-    → byte_of message byte bit (setting_of message byte bit (bytes_of 1 v) r) ≡ record { selected = true; value = v }
-unfolding byte_in
-byte_set_is_got {message} {byte} {bit} {p} {k} {r} i v h =
-    ap (λ (f : Found). byte_in f (setting_of message byte bit (bytes_of 1 v) r).slots) (set_is_found i (bytes_of 1 v) refl)
-    ∙ ap (λ (x : ℕ). record { selected = true; value = x }) (set_number i v h)
-
-pub short_set_is_got : {message byte bit p : ℕ} {k : Kind} {r : Record} → Listed message byte bit 2 p k r → (v : ℕ) → v < 65536
-    → short_of message byte bit (setting_of message byte bit (bytes_of 2 v) r) ≡ record { selected = true; value = v }
-unfolding short_in
-short_set_is_got {message} {byte} {bit} {p} {k} {r} i v h =
-    ap (λ (f : Found). short_in f (setting_of message byte bit (bytes_of 2 v) r).slots) (set_is_found i (bytes_of 2 v) refl)
-    ∙ ap (λ (x : ℕ). record { selected = true; value = x }) (set_number i v h)
-
-pub number_set_is_got : {message byte bit p : ℕ} {k : Kind} {r : Record} → Listed message byte bit 4 p k r → (v : ℕ) → v < 4294967296
-    → number_of message byte bit (setting_of message byte bit (bytes_of 4 v) r) ≡ record { selected = true; value = v }
-unfolding number_in
-number_set_is_got {message} {byte} {bit} {p} {k} {r} i v h =
-    ap (λ (f : Found). number_in f (setting_of message byte bit (bytes_of 4 v) r).slots) (set_is_found i (bytes_of 4 v) refl)
-    ∙ ap (λ (x : ℕ). record { selected = true; value = x }) (set_number i v h)
-
-pub long_set_is_got : {message byte bit p : ℕ} {k : Kind} {r : Record} → Listed message byte bit 8 p k r → (v : ℕ) → v < 18446744073709551616
-    → long_of message byte bit (setting_of message byte bit (bytes_of 8 v) r) ≡ record { selected = true; value = v }
-unfolding long_in
-long_set_is_got {message} {byte} {bit} {p} {k} {r} i v h =
-    ap (λ (f : Found). long_in f (setting_of message byte bit (bytes_of 8 v) r).slots) (set_is_found i (bytes_of 8 v) refl)
-    ∙ ap (λ (x : ℕ). record { selected = true; value = x }) (set_number i v h)
+  -- and it is got, whatever its width
+  pub number_set_is_got : (v : ℕ) → v < 256 ^ w → number_of w message byte bit (setting_of message byte bit (bytes_of w v) r) ≡ Some v
+  number_set_is_got v h =
+      ap (λ (f : Option ℕ). number_in w f (setting_of message byte bit (bytes_of w v) r).slots) (set_is_found (bytes_of w v) (length-bytes_of w v))
+      ∙ ap (λ (x : ℕ). Some x) (set_number v h)
 
 pub price_set_is_got : {message byte bit p : ℕ} {k : Kind} {r : Record} → Listed message byte bit 8 p k r → (v : ℤ) → mag v < 9223372036854775808
-    → price_of message byte bit (setting_of message byte bit (bytes_of 8 (bits_of v)) r) ≡ record { selected = true; value = v }
-unfolding price_in
+    → price_of message byte bit (setting_of message byte bit (bytes_of 8 (bits_of v)) r) ≡ Some v
 price_set_is_got {message} {byte} {bit} {p} {k} {r} i v h =
-    ap (λ (f : Found). price_in f (setting_of message byte bit (bytes_of 8 (bits_of v)) r).slots) (set_is_found i (bytes_of 8 (bits_of v)) refl)
-    ∙ ap (λ (x : ℤ). record { selected = true; value = x }) (ap signed_of (set_number i (bits_of v) (bits_fit v h)) ∙ signed_back v h)
+    ap (λ (f : Option ℕ). price_in f (setting_of message byte bit (bytes_of 8 (bits_of v)) r).slots) (set_is_found i (bytes_of 8 (bits_of v)) refl)
+    ∙ ap (λ (x : ℤ). Some x) (ap signed_of (set_number i (bits_of v) (bits_fit v h)) ∙ signed_back v h)

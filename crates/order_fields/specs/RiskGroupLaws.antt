@@ -1,6 +1,6 @@
 -- What is true of the RiskGroupIDs of Purge Orders: what is set is got, the rest of the record stays as it was, and they are those of the message
 -- that is read or written. Assumes nothing.
-use Rattle.std.specs.Prelude.{◌≡◌, refl, ◌⊎◌, Bool, true, false, ◌&&◌, List, ◌++◌, ℕ, ◌+◌, ◌-◌, ◌*◌, ◌≤◌, ◌<◌, leb, ltb, eqb, get_or, take, drop}
+use Rattle.std.specs.Prelude.{◌≡◌, refl, ◌⊎◌, Bool, true, false, ◌&&◌, List, ◌++◌, ℕ, ◌+◌, ◌-◌, ◌*◌, ◌≤◌, ◌<◌, leb, ltb, eqb, get_or, take, drop, Option, None, Some, unwrap_or}
 use Rattle.std.proofs.Common.{sym, ap₂, ◌∙◌, ⊎_elim, inl, inr, take_at, length-take-le, get_or-drop}
 use Rattle.std.proofs.Math.Path.{ap}
 use Rattle.std.proofs.Math.Bool.{cond}
@@ -20,51 +20,48 @@ use Rattle.orders.specs.Middle.{risk_groups, middle_size, middle_good}
 use Rattle.orders.specs.Orders.{rest_of, middle_of, fixed_of, read_refusal, record_of, write_rest, write_middle, zero_unused}
 use Rattle.orders.proofs.OrderLaws.{good, in_purge_orders}
 use Rattle.orders.specs.declared.Record.{Record}
-use Rattle.order_fields.specs.declared.Found.{Found}
 use Rattle.order_fields.specs.Named as named
-use Rattle.order_fields.specs.Named.{found, nowhere, pick, choose, larger, byte_in, short_in, byte_fixed, short_fixed, has_risk_group, risk_group_of, fixing_of, setting_of, with_risk_group, risk_group_setting}
+use Rattle.order_fields.specs.Named.{choose, larger, number_in, number_fixed, risk_group_count, has_risk_group, risk_group_of, fixing_of, setting_of, with_risk_group, risk_group_setting}
 use Rattle.order_fields.specs.NamedLaws.{larger_reaches}
-use Rattle.order_fields.specs.LocalLaws.{number_of-part, number_of-front, one_byte, short_local}
-use Rattle.order_fields.specs.FixedLaws.{SameElsewhere, fixing_keeps_the_rest, Part, fixed-part, byte_fixed_is_got, short_fixed_is_got, other_fixed_field_kept}
+use Rattle.order_fields.specs.LocalLaws.{number_of-part, number_of-front, one_byte, number_local}
+use Rattle.order_fields.specs.FixedLaws.{SameElsewhere, fixing_keeps_the_rest, Part, fixed-part, number_fixed_is_got, other_fixed_field_kept}
 use Rattle.order_fields.specs.SelectionLaws.{larger-keeps, and-false, nul_past}
 use Rattle.order_fields.specs.KeptLaws.{one-first, setting_keeps_the_rest}
 
 -- ---- a RiskGroupID is what stands at its place, where there is one
 
-alike : (b : Bool) (f g : Found) (s t : List ℕ) → short_in f s ≡ short_in g t → short_in (pick b f nowhere) s ≡ short_in (pick b g nowhere) t
-unfolding short_in
-alike true f g s t e = e
-alike false f g s t e = refl
+-- how many there are, where the field is known
+counted : (r : Record) {n : ℕ} → number_fixed 1 0x47 1 r ≡ Some n → risk_group_count r ≡ n
+counted r e = ap (λ (c : Option ℕ). unwrap_or c 0) e
 
-has_group : (i : ℕ) (r : Record) → i < 10 → i < (byte_fixed 0x47 1 r).value → has_risk_group i r ≡ true
-has_group i r h l = ap₂ (λ (a b : Bool). a && b) (lt-ltb i 10 h) (lt-ltb i (byte_fixed 0x47 1 r).value l)
+has_group : (i : ℕ) (r : Record) → i < 10 → i < risk_group_count r → has_risk_group i r ≡ true
+has_group i r h l = ap₂ (λ (a b : Bool). a && b) (lt-ltb i 10 h) (lt-ltb i (risk_group_count r) l)
 
-pub at_its_place : (i : ℕ) (r : Record) → i < 10 → i < (byte_fixed 0x47 1 r).value → risk_group_of i r ≡ short_fixed 0x47 (2 + 2 * i) r
+pub at_its_place : (i : ℕ) (r : Record) → i < 10 → i < risk_group_count r → risk_group_of i r ≡ number_fixed 2 0x47 (2 + 2 * i) r
 unfolding risk_group_of
-at_its_place i r h l = ap (λ (b : Bool). short_in (pick b (named.fixed_of 0x47 (2 + 2 * i) r) nowhere) r.fixed) (has_group i r h l)
+at_its_place i r h l = ap (λ (b : Bool). cond b (number_fixed 2 0x47 (2 + 2 * i) r) None) (has_group i r h l)
 
-pub none_past_count : (i : ℕ) (r : Record) → (byte_fixed 0x47 1 r).value ≤ i → risk_group_of i r ≡ record { selected = false; value = 0 }
-unfolding risk_group_of short_in
+pub none_past_count : (i : ℕ) (r : Record) → risk_group_count r ≤ i → risk_group_of i r ≡ None
+unfolding risk_group_of
 none_past_count i r h =
-    let e : has_risk_group i r ≡ false = ap (λ (b : Bool). ltb i 10 && b) (le-ltb i (byte_fixed 0x47 1 r).value h) ∙ and-false (ltb i 10) in
-    ap (λ (b : Bool). short_in (pick b (named.fixed_of 0x47 (2 + 2 * i) r) nowhere) r.fixed) e
+    let e : has_risk_group i r ≡ false = ap (λ (b : Bool). ltb i 10 && b) (le-ltb i (risk_group_count r) h) ∙ and-false (ltb i 10) in
+    ap (λ (b : Bool). cond b (number_fixed 2 0x47 (2 + 2 * i) r) None) e
 
 -- of two records that have the i-th it is the same, where its place holds the same
-same-group : (i : ℕ) (o r : Record) → i < (byte_fixed 0x47 1 o).value → i < (byte_fixed 0x47 1 r).value → short_fixed 0x47 (2 + 2 * i) o ≡ short_fixed 0x47 (2 + 2 * i) r
+same-group : (i : ℕ) (o r : Record) → i < risk_group_count o → i < risk_group_count r → number_fixed 2 0x47 (2 + 2 * i) o ≡ number_fixed 2 0x47 (2 + 2 * i) r
     → risk_group_of i o ≡ risk_group_of i r
 unfolding risk_group_of
 same-group i o r l k e =
-    let place = named.fixed_of 0x47 (2 + 2 * i) in
     let h : has_risk_group i o ≡ has_risk_group i r = ap (λ (b : Bool). ltb i 10 && b) (lt-ltb i _ l ∙ sym (lt-ltb i _ k)) in
-    ap (λ (b : Bool). short_in (pick b (place o) nowhere) o.fixed) h ∙ alike (has_risk_group i r) (place o) (place r) o.fixed r.fixed e
+    ap₂ (λ (b : Bool) (x : Option ℕ). cond b x None) h e
 
 -- ---- they are those of the message that is written, and of the one that is read
 
 module _ (r : Record) (e : r.message ≡ 0x47) where
   -- a field of the fixed part is there
-  there : (at : ℕ) → named.fixed_of 0x47 at r ≡ found at
+  there : (at : ℕ) → named.fixed_of 0x47 at r ≡ Some at
   unfolding named.fixed_of
-  there at = ap (λ (b : Bool). pick b (found at) nowhere) (eq-eqb r.message 0x47 e)
+  there at = ap (λ (b : Bool). cond b (Some at) None) (eq-eqb r.message 0x47 e)
 
   in_rest : (n j : ℕ) → number_at n (1 + j) r.fixed ≡ number_at n j (write_rest r)
   unfolding write_rest
@@ -73,19 +70,17 @@ module _ (r : Record) (e : r.message ≡ 0x47) where
       number_of-part n j 1 r.fixed ∙ ap (λ (m : ℕ). number_at n j (drop m r.fixed)) (sym k)
 
   -- RiskGroupIDCnt
-  pub count_as_written : byte_fixed 0x47 1 r ≡ record { selected = true; value = risk_groups (write_rest r) }
-  unfolding byte_in
+  pub count_as_written : number_fixed 1 0x47 1 r ≡ Some (risk_groups (write_rest r))
   count_as_written =
-      ap (λ (f : Found). byte_in f r.fixed) (there 1) ∙ ap (λ (x : ℕ). record { selected = true; value = x }) (in_rest 1 0 ∙ one_byte 0 (write_rest r))
+      ap (λ (f : Option ℕ). number_in 1 f r.fixed) (there 1) ∙ ap (λ (x : ℕ). Some x) (in_rest 1 0 ∙ one_byte 0 (write_rest r))
 
   -- the RiskGroupIDs, from the byte after it on
-  pub group_as_written : (i : ℕ) → i < 10 → i < risk_groups (write_rest r) → risk_group_of i r ≡ record { selected = true; value = number_at 2 (1 + 2 * i) (write_rest r) }
-  unfolding short_in
+  pub group_as_written : (i : ℕ) → i < 10 → i < risk_groups (write_rest r) → risk_group_of i r ≡ Some (number_at 2 (1 + 2 * i) (write_rest r))
   group_as_written i h l =
       let q : 2 + 2 * i ≡ 1 + (1 + 2 * i) = omega arith in
-      at_its_place i r h (omega (arith, l, ap (λ c. c.value) count_as_written))
-      ∙ ap (λ (f : Found). short_in f r.fixed) (there (2 + 2 * i))
-      ∙ ap (λ (x : ℕ). record { selected = true; value = x }) (ap (λ (at : ℕ). number_at 2 at r.fixed) q ∙ in_rest 2 (1 + 2 * i))
+      at_its_place i r h (omega (arith, l, counted r count_as_written))
+      ∙ ap (λ (f : Option ℕ). number_in 2 f r.fixed) (there (2 + 2 * i))
+      ∙ ap (λ (x : ℕ). Some x) (ap (λ (at : ℕ). number_at 2 at r.fixed) q ∙ in_rest 2 (1 + 2 * i))
 
 module _ (m : List ℕ) (z : read_refusal m ≡ 0) (e : (record_of m).message ≡ 0x47) where
   middle_is : middle_of m ≡ 1 + 2 * risk_groups (rest_of m)
@@ -116,13 +111,13 @@ module _ (m : List ℕ) (z : read_refusal m ≡ 0) (e : (record_of m).message �
   count-there : risk_groups (write_rest (record_of m)) ≡ risk_groups (rest_of m)
   count-there = sym (one_byte 0 (write_rest (record_of m))) ∙ rest_as_read 1 0 (omega (arith, middle_is)) ∙ one_byte 0 (rest_of m)
 
-  pub count_as_read : byte_fixed 0x47 1 (record_of m) ≡ record { selected = true; value = risk_groups (rest_of m) }
-  count_as_read = count_as_written (record_of m) e ∙ ap (λ (x : ℕ). record { selected = true; value = x }) count-there
+  pub count_as_read : number_fixed 1 0x47 1 (record_of m) ≡ Some (risk_groups (rest_of m))
+  count_as_read = count_as_written (record_of m) e ∙ ap (λ (x : ℕ). Some x) count-there
 
-  pub group_as_read : (i : ℕ) → i < risk_groups (rest_of m) → risk_group_of i (record_of m) ≡ record { selected = true; value = number_at 2 (1 + 2 * i) (rest_of m) }
+  pub group_as_read : (i : ℕ) → i < risk_groups (rest_of m) → risk_group_of i (record_of m) ≡ Some (number_at 2 (1 + 2 * i) (rest_of m))
   group_as_read i l =
       group_as_written (record_of m) e i (omega (arith, l, at_most_ten)) (omega (arith, l, count-there))
-      ∙ ap (λ (x : ℕ). record { selected = true; value = x }) (rest_as_read 2 (1 + 2 * i) (omega (arith, l, middle_is)))
+      ∙ ap (λ (x : ℕ). Some x) (rest_as_read 2 (1 + 2 * i) (omega (arith, l, middle_is)))
 
 -- ---- what is set is got
 
@@ -130,11 +125,11 @@ module _ (m : List ℕ) (z : read_refusal m ≡ 0) (e : (record_of m).message �
 pub record Purge (r : Record) : Type 0 where
   pub of_type : r.message ≡ 0x47
   pub whole : length r.fixed ≡ fixed_size
-  pub count_is_byte : (byte_fixed 0x47 1 r).value < 256
+  pub count_is_byte : risk_group_count r < 256
 
 module _ {r : Record} (p : Purge r) (i id : ℕ) (h : i < 10) where
   abbrev cnt : ℕ
-  cnt = (byte_fixed 0x47 1 r).value
+  cnt = risk_group_count r
 
   -- the record in which it is set, the count as it was
   abbrev with_id : Record
@@ -162,28 +157,28 @@ module _ {r : Record} (p : Purge r) (i id : ℕ) (h : i < 10) where
       by false = omega (arith, h)
 
   -- RiskGroupIDCnt has it
-  pub count_is_raised : byte_fixed 0x47 1 (risk_group_setting i id r) ≡ record { selected = true; value = larger cnt (i + 1) }
-  count_is_raised = ap (byte_fixed 0x47 1) is_set ∙ byte_fixed_is_got count-part (larger cnt (i + 1)) larger_small
+  pub count_is_raised : number_fixed 1 0x47 1 (risk_group_setting i id r) ≡ Some (larger cnt (i + 1))
+  count_is_raised = ap (number_fixed 1 0x47 1) is_set ∙ number_fixed_is_got count-part (larger cnt (i + 1)) larger_small
 
   -- the count's place is none of the groups'
-  past-count : (j : ℕ) → short_fixed 0x47 (2 + 2 * j) (risk_group_setting i id r) ≡ short_fixed 0x47 (2 + 2 * j) with_id
+  past-count : (j : ℕ) → number_fixed 2 0x47 (2 + 2 * j) (risk_group_setting i id r) ≡ number_fixed 2 0x47 (2 + 2 * j) with_id
   past-count j =
-      ap (short_fixed 0x47 (2 + 2 * j)) is_set
-      ∙ other_fixed_field_kept count-part (bytes_of 1 (larger cnt (i + 1))) refl (2 + 2 * j) 2 (inl (omega arith)) (short_local (2 + 2 * j))
+      ap (number_fixed 2 0x47 (2 + 2 * j)) is_set
+      ∙ other_fixed_field_kept count-part (bytes_of 1 (larger cnt (i + 1))) refl (2 + 2 * j) 2 (inl (omega arith)) (number_local 2 (2 + 2 * j))
 
-  reached : i < (byte_fixed 0x47 1 (risk_group_setting i id r)).value
-  reached = omega (arith, ap (λ c. c.value) count_is_raised, larger_reaches cnt (i + 1))
+  reached : i < risk_group_count (risk_group_setting i id r)
+  reached = omega (arith, counted (risk_group_setting i id r) count_is_raised, larger_reaches cnt (i + 1))
 
-  pub group_set_is_got : id < 65536 → risk_group_of i (risk_group_setting i id r) ≡ record { selected = true; value = id }
-  group_set_is_got small = at_its_place i (risk_group_setting i id r) h reached ∙ past-count i ∙ short_fixed_is_got group-part id small
+  pub group_set_is_got : id < 65536 → risk_group_of i (risk_group_setting i id r) ≡ Some id
+  group_set_is_got small = at_its_place i (risk_group_setting i id r) h reached ∙ past-count i ∙ number_fixed_is_got group-part id small
 
   -- every other stays what it was
   pub other_group_kept : (j : ℕ) → (i ≡ j → ⊥) → j < cnt → risk_group_of j (risk_group_setting i id r) ≡ risk_group_of j r
   other_group_kept j other l =
-      let k : j < (byte_fixed 0x47 1 (risk_group_setting i id r)).value = omega (arith, l, ap (λ c. c.value) count_is_raised, larger-keeps cnt (i + 1)) in
+      let k : j < risk_group_count (risk_group_setting i id r) = omega (arith, l, counted (risk_group_setting i id r) count_is_raised, larger-keeps cnt (i + 1)) in
       let apart : (2 + 2 * i + 2 ≤ 2 + 2 * j) ⊎ (2 + 2 * j + 2 ≤ 2 + 2 * i) =
       ⊎_elim (λ (x : i < j). inl (omega (arith, x))) (λ (x : j < i). inr (omega (arith, x))) (one-first i j other) in
-      same-group j (risk_group_setting i id r) r k l (past-count j ∙ other_fixed_field_kept group-part (bytes_of 2 id) refl (2 + 2 * j) 2 apart (short_local (2 + 2 * j)))
+      same-group j (risk_group_setting i id r) r k l (past-count j ∙ other_fixed_field_kept group-part (bytes_of 2 id) refl (2 + 2 * j) 2 apart (number_local 2 (2 + 2 * j)))
 
   -- the fixed part, past the place and past the count
   pub beyond_kept : (j : ℕ) → 2 + 2 * i + 2 ≤ j → get_or (risk_group_setting i id r).fixed j 0 ≡ get_or r.fixed j 0
@@ -196,24 +191,24 @@ module _ {r : Record} (p : Purge r) (i id : ℕ) (h : i < 10) where
       ∙ patched-after r.fixed (2 + 2 * i) (bytes_of 2 id) (omega (arith, h, p.whole)) j l
 
 -- RiskGroupIDCnt is set: what it still has stays
-pub group_kept_by_count : {r : Record} → Purge r → (v : ℕ) → v < 256 → (j : ℕ) → j < v → j < (byte_fixed 0x47 1 r).value
+pub group_kept_by_count : {r : Record} → Purge r → (v : ℕ) → v < 256 → (j : ℕ) → j < v → j < risk_group_count r
     → risk_group_of j (fixing_of 0x47 1 (bytes_of 1 v) r) ≡ risk_group_of j r
 group_kept_by_count {r} p v small j l k =
     let i : Part 0x47 1 1 r = record { of_type = p.of_type; whole = p.whole; fits = omega arith } in
     let o = fixing_of 0x47 1 (bytes_of 1 v) r in
-    let n : (byte_fixed 0x47 1 o).value ≡ v = ap (λ c. c.value) (byte_fixed_is_got i v small) in
-    same-group j o r (omega (arith, n, l)) k (other_fixed_field_kept i (bytes_of 1 v) refl (2 + 2 * j) 2 (inl (omega arith)) (short_local (2 + 2 * j)))
+    let n : risk_group_count o ≡ v = counted o (number_fixed_is_got i v small) in
+    same-group j o r (omega (arith, n, l)) k (other_fixed_field_kept i (bytes_of 1 v) refl (2 + 2 * j) 2 (inl (omega arith)) (number_local 2 (2 + 2 * j)))
 
 -- ---- the places past the last RiskGroupID: the writer demands zero there, the reader gives it, and setting one keeps it
 
 abbrev pub PastZero : Record → Type 0
-PastZero r = (j : ℕ) → 2 + 2 * (byte_fixed 0x47 1 r).value ≤ j → get_or r.fixed j 0 ≡ 0
+PastZero r = (j : ℕ) → 2 + 2 * risk_group_count r ≤ j → get_or r.fixed j 0 ≡ 0
 
 -- by what its fixed part holds after the message's
 past_by_rest : (r : Record) → r.message ≡ 0x47 → all_nul (drop (1 + 2 * risk_groups (write_rest r)) (write_rest r)) ≡ true → PastZero r
 unfolding write_rest
 past_by_rest r e h j l =
-    let n : (byte_fixed 0x47 1 r).value ≡ risk_groups (write_rest r) = ap (λ c. c.value) (count_as_written r e) in
+    let n : risk_group_count r ≡ risk_groups (write_rest r) = counted r (count_as_written r e) in
     let k : count_at r.message - 10 + (j - 1) ≡ j = omega (arith, in_purge_orders r.message e, l) in
     ap (λ (m : ℕ). get_or r.fixed m 0) (sym k)
     ∙ sym (get_or-drop (count_at r.message - 10) r.fixed (j - 1) 0)
@@ -244,8 +239,8 @@ past_at_first r e j l = ap (λ (s : List ℕ). get_or s j 0) e ∙ nul_at (zeros
 -- a record in which one is set
 pub past_stay_zero : {r : Record} → Purge r → (i id : ℕ) → i < 10 → PastZero r → PastZero (risk_group_setting i id r)
 past_stay_zero {r} p i id h zero j l =
-    let n = (byte_fixed 0x47 1 r).value in
-    let c : (byte_fixed 0x47 1 (risk_group_setting i id r)).value ≡ larger n (i + 1) = ap (λ c. c.value) (count_is_raised p i id h) in
+    let n = risk_group_count r in
+    let c : risk_group_count (risk_group_setting i id r) ≡ larger n (i + 1) = counted (risk_group_setting i id r) (count_is_raised p i id h) in
     beyond_kept p i id h j (omega (arith, l, c, larger_reaches n (i + 1))) ∙ zero j (omega (arith, l, c, larger-keeps n (i + 1)))
 
 -- ---- the eleventh and later ones change nothing
@@ -280,5 +275,5 @@ pub groups_kept : (message byte bit : ℕ) (bytes : List ℕ) (r : Record) (i : 
 unfolding risk_group_of named.fixed_of
 groups_kept message byte bit bytes r i =
     let s = setting_keeps_the_rest message byte bit bytes r in
-    let place : ℕ → ℕ → Found = λ m at. pick (eqb m 0x47) (found at) nowhere in
-    ap₂ (λ (m : ℕ) (f : List ℕ). short_in (pick (ltb i 10 && ltb i (byte_in (place m 1) f).value) (place m (2 + 2 * i)) nowhere) f) s.same_message s.same-fixed
+    let place : ℕ → ℕ → Option ℕ = λ m at. cond (eqb m 0x47) (Some at) None in
+    ap₂ (λ (m : ℕ) (f : List ℕ). cond (ltb i 10 && ltb i (unwrap_or (number_in 1 (place m 1) f) 0)) (number_in 2 (place m (2 + 2 * i)) f) None) s.same_message s.same-fixed

@@ -1,6 +1,6 @@
 -- What a record's bitfields select: setting a field selects its own bit and leaves every other as it was, and a field is selected
 -- where the reader and the writer have it so. Assumes nothing.
-use Rattle.std.specs.Prelude.{◌≡◌, refl, true, cond, ◌&&◌, List, ℕ, zero, suc, ◌+◌, ◌-◌, ◌*◌, ◌/◌, ◌%◌, ◌^◌, ◌≤◌, ◌<◌, leb, ltb, length, get_or, set, take, drop}
+use Rattle.std.specs.Prelude.{◌≡◌, refl, true, cond, Option, None, Some, ◌&&◌, List, ℕ, zero, suc, ◌+◌, ◌-◌, ◌*◌, ◌/◌, ◌%◌, ◌^◌, ◌≤◌, ◌<◌, leb, ltb, length, get_or, set, take, drop}
 use Rattle.std.proofs.Common.{sym, ap₂, ◌∙◌, pow-suc, mul_comm, arith, length-drop, get_or-set_same, get_or-set_other, get_or-drop, drop_at, length-take-le, eq-eqb, le-leb, leb-true, leb-false, eqb-true}
 use Rattle.std.proofs.Math.Path.{ap}
 use Rattle.std.proofs.Math.Bool.{Bool, false}
@@ -18,7 +18,7 @@ use Rattle.orders.specs.Shapes.{count_at}
 use Rattle.orders.specs.Orders.{count_of, bits_of, read_refusal, record_of, write_rest, write_middle, zero_unused}
 use Rattle.orders.proofs.OrderLaws.{good}
 use Rattle.orders.specs.declared.Record.{Record}
-use Rattle.order_fields.specs.Named.{selected_of, choose, with_bit, larger, selecting, storing, settable_of, setting_of}
+use Rattle.order_fields.specs.Named.{selected_of, with_bit, larger, selecting, storing, settable_of, set_in, setting_of}
 use Rattle.order_fields.specs.NamedLaws.{Listed, larger_reaches, set_at}
 
 -- ---- one byte: setting a bit leaves every other bit of it
@@ -131,13 +131,13 @@ unused_at_first r e j l = ap (λ (s : List ℕ). get_or s j 0) e ∙ nul_at (zer
 -- a record in which a field is set
 pub unused_stay_zero : (message byte bit : ℕ) (bytes : List ℕ) (r : Record) → 1 ≤ byte → UnusedZero r → UnusedZero (setting_of message byte bit bytes r)
 unfolding setting_of selecting storing
-unused_stay_zero message byte bit bytes r h unused = by (settable_of message byte bit (length bytes) r).selected (settable_of message byte bit (length bytes) r).at
+unused_stay_zero message byte bit bytes r h unused = by (settable_of message byte bit (length bytes) r)
   where
-    by : (b : Bool) (at : ℕ) → UnusedZero (choose b (selecting byte bit (storing at bytes r)) r)
-    by true at j l =
+    by : (f : Option ℕ) → UnusedZero (set_in f byte bit bytes r)
+    by (Some at) j l =
         get_or-set_other r.bits (byte - 1) j _ 0 (λ e. absurd (omega (arith, e, h, l, larger_reaches r.count byte)))
         ∙ unused j (omega (arith, l, larger-keeps r.count byte))
-    by false at j l = unused j l
+    by None j l = unused j l
 
 -- ---- setting a field leaves the selection of every other place as it was
 

@@ -1,303 +1,301 @@
 // The fields of Order Acknowledgment by name: the fixed part, and then the optional fields in the order of byte and bit.
 ghost use Rattle.std.specs.Prelude.{◌≡◌};
-ghost use Rattle.order_fields.specs.Named.{long_fixed, text20_fixed, long_of, number_of, price_of, text1_of, text16_of, text4_of, text8_of};
+ghost use Rattle.order_fields.specs.Named.{number_of, price_of, text_of, number_fixed, text_fixed, setting_of, fixing_of};
 ghost use Rattle.numbers.specs.Numbers.{bytes_of};
 ghost use Rattle.numbers.specs.Prices.{bits_of};
-ghost use Rattle.order_fields.specs.Named.{setting_of, fixing_of};
 
-use crate::{LongField, NumberField, PriceField, Text1, Text4, Text8, Text16, Text20};
 use orders::Record;
 
 // TransactionTime.
-pub fn transaction_time(r: Record) -> LongField
-    ensures { result ≡ long_fixed 0x25 0 r }
+pub fn transaction_time(r: Record) -> Option<u64>
+    ensures { result ≡ number_fixed 8 0x25 0 r }
 {
-    crate::reading::long_fixed(r, 0x25, 0)
+    crate::reading::fixed(r, 0x25, 0)
 }
 
 // ClOrdID.
-pub fn cl_ord_id(r: Record) -> Text20
-    ensures { result ≡ text20_fixed 0x25 8 r }
+pub fn cl_ord_id(r: Record) -> Option<[u8; 20]>
+    ensures { result ≡ text_fixed 20 0x25 8 r }
 {
-    crate::reading::text20_fixed(r, 0x25, 8)
+    crate::reading::fixed(r, 0x25, 8)
 }
 
 // OrderID.
-pub fn order_id(r: Record) -> LongField
-    ensures { result ≡ long_fixed 0x25 28 r }
+pub fn order_id(r: Record) -> Option<u64>
+    ensures { result ≡ number_fixed 8 0x25 28 r }
 {
-    crate::reading::long_fixed(r, 0x25, 28)
+    crate::reading::fixed(r, 0x25, 28)
 }
 
 // Side: byte 1, bit 1.
-pub fn side(r: Record) -> Text1
-    ensures { result ≡ text1_of 0x25 1 0 r }
+pub fn side(r: Record) -> Option<[u8; 1]>
+    ensures { result ≡ text_of 1 0x25 1 0 r }
 {
-    crate::reading::text1_of(r, 0x25, 1, 0)
+    crate::reading::optional(r, 0x25, 1, 0)
 }
 
 // Price: byte 1, bit 4.
-pub fn price(r: Record) -> PriceField
+pub fn price(r: Record) -> Option<i64>
     ensures { result ≡ price_of 0x25 1 2 r }
 {
-    crate::reading::price_of(r, 0x25, 1, 2)
+    crate::reading::optional(r, 0x25, 1, 2)
 }
 
 // ExecInst: byte 1, bit 8.
-pub fn exec_inst(r: Record) -> Text1
-    ensures { result ≡ text1_of 0x25 1 3 r }
+pub fn exec_inst(r: Record) -> Option<[u8; 1]>
+    ensures { result ≡ text_of 1 0x25 1 3 r }
 {
-    crate::reading::text1_of(r, 0x25, 1, 3)
+    crate::reading::optional(r, 0x25, 1, 3)
 }
 
 // OrdType: byte 1, bit 16.
-pub fn ord_type(r: Record) -> Text1
-    ensures { result ≡ text1_of 0x25 1 4 r }
+pub fn ord_type(r: Record) -> Option<[u8; 1]>
+    ensures { result ≡ text_of 1 0x25 1 4 r }
 {
-    crate::reading::text1_of(r, 0x25, 1, 4)
+    crate::reading::optional(r, 0x25, 1, 4)
 }
 
 // TimeInForce: byte 1, bit 32.
-pub fn time_in_force(r: Record) -> Text1
-    ensures { result ≡ text1_of 0x25 1 5 r }
+pub fn time_in_force(r: Record) -> Option<[u8; 1]>
+    ensures { result ≡ text_of 1 0x25 1 5 r }
 {
-    crate::reading::text1_of(r, 0x25, 1, 5)
+    crate::reading::optional(r, 0x25, 1, 5)
 }
 
 // MinQty: byte 1, bit 64.
-pub fn min_qty(r: Record) -> NumberField
-    ensures { result ≡ number_of 0x25 1 6 r }
+pub fn min_qty(r: Record) -> Option<u32>
+    ensures { result ≡ number_of 4 0x25 1 6 r }
 {
-    crate::reading::number_of(r, 0x25, 1, 6)
+    crate::reading::optional(r, 0x25, 1, 6)
 }
 
 // Symbol: byte 2, bit 1.
-pub fn symbol(r: Record) -> Text8
-    ensures { result ≡ text8_of 0x25 2 0 r }
+pub fn symbol(r: Record) -> Option<[u8; 8]>
+    ensures { result ≡ text_of 8 0x25 2 0 r }
 {
-    crate::reading::text8_of(r, 0x25, 2, 0)
+    crate::reading::optional(r, 0x25, 2, 0)
 }
 
 // SymbolSfx: byte 2, bit 2.
-pub fn symbol_sfx(r: Record) -> Text8
-    ensures { result ≡ text8_of 0x25 2 1 r }
+pub fn symbol_sfx(r: Record) -> Option<[u8; 8]>
+    ensures { result ≡ text_of 8 0x25 2 1 r }
 {
-    crate::reading::text8_of(r, 0x25, 2, 1)
+    crate::reading::optional(r, 0x25, 2, 1)
 }
 
 // Capacity: byte 2, bit 64.
-pub fn capacity(r: Record) -> Text1
-    ensures { result ≡ text1_of 0x25 2 6 r }
+pub fn capacity(r: Record) -> Option<[u8; 1]>
+    ensures { result ≡ text_of 1 0x25 2 6 r }
 {
-    crate::reading::text1_of(r, 0x25, 2, 6)
+    crate::reading::optional(r, 0x25, 2, 6)
 }
 
 // Account: byte 3, bit 1.
-pub fn account(r: Record) -> Text16
-    ensures { result ≡ text16_of 0x25 3 0 r }
+pub fn account(r: Record) -> Option<[u8; 16]>
+    ensures { result ≡ text_of 16 0x25 3 0 r }
 {
-    crate::reading::text16_of(r, 0x25, 3, 0)
+    crate::reading::optional(r, 0x25, 3, 0)
 }
 
 // ClearingFirm: byte 3, bit 2.
-pub fn clearing_firm(r: Record) -> Text4
-    ensures { result ≡ text4_of 0x25 3 1 r }
+pub fn clearing_firm(r: Record) -> Option<[u8; 4]>
+    ensures { result ≡ text_of 4 0x25 3 1 r }
 {
-    crate::reading::text4_of(r, 0x25, 3, 1)
+    crate::reading::optional(r, 0x25, 3, 1)
 }
 
 // ClearingAccount: byte 3, bit 4.
-pub fn clearing_account(r: Record) -> Text4
-    ensures { result ≡ text4_of 0x25 3 2 r }
+pub fn clearing_account(r: Record) -> Option<[u8; 4]>
+    ensures { result ≡ text_of 4 0x25 3 2 r }
 {
-    crate::reading::text4_of(r, 0x25, 3, 2)
+    crate::reading::optional(r, 0x25, 3, 2)
 }
 
 // MaxFloor: byte 3, bit 16.
-pub fn max_floor(r: Record) -> NumberField
-    ensures { result ≡ number_of 0x25 3 4 r }
+pub fn max_floor(r: Record) -> Option<u32>
+    ensures { result ≡ number_of 4 0x25 3 4 r }
 {
-    crate::reading::number_of(r, 0x25, 3, 4)
+    crate::reading::optional(r, 0x25, 3, 4)
 }
 
 // OrderQty: byte 3, bit 64.
-pub fn order_qty(r: Record) -> NumberField
-    ensures { result ≡ number_of 0x25 3 6 r }
+pub fn order_qty(r: Record) -> Option<u32>
+    ensures { result ≡ number_of 4 0x25 3 6 r }
 {
-    crate::reading::number_of(r, 0x25, 3, 6)
+    crate::reading::optional(r, 0x25, 3, 6)
 }
 
 // LeavesQty: byte 5, bit 2.
-pub fn leaves_qty(r: Record) -> NumberField
-    ensures { result ≡ number_of 0x25 5 1 r }
+pub fn leaves_qty(r: Record) -> Option<u32>
+    ensures { result ≡ number_of 4 0x25 5 1 r }
 {
-    crate::reading::number_of(r, 0x25, 5, 1)
+    crate::reading::optional(r, 0x25, 5, 1)
 }
 
 // LastShares: byte 5, bit 4.
-pub fn last_shares(r: Record) -> NumberField
-    ensures { result ≡ number_of 0x25 5 2 r }
+pub fn last_shares(r: Record) -> Option<u32>
+    ensures { result ≡ number_of 4 0x25 5 2 r }
 {
-    crate::reading::number_of(r, 0x25, 5, 2)
+    crate::reading::optional(r, 0x25, 5, 2)
 }
 
 // LastPx: byte 5, bit 8.
-pub fn last_px(r: Record) -> PriceField
+pub fn last_px(r: Record) -> Option<i64>
     ensures { result ≡ price_of 0x25 5 3 r }
 {
-    crate::reading::price_of(r, 0x25, 5, 3)
+    crate::reading::optional(r, 0x25, 5, 3)
 }
 
 // ExpireTime: byte 5, bit 128.
-pub fn expire_time(r: Record) -> LongField
-    ensures { result ≡ long_of 0x25 5 7 r }
+pub fn expire_time(r: Record) -> Option<u64>
+    ensures { result ≡ number_of 8 0x25 5 7 r }
 {
-    crate::reading::long_of(r, 0x25, 5, 7)
+    crate::reading::optional(r, 0x25, 5, 7)
 }
 
 // The record with TransactionTime set.
 pub fn with_transaction_time(r: Record, value: u64) -> Record
     ensures { result ≡ fixing_of 0x25 0 (bytes_of 8 value) r }
 {
-    crate::set_long_fixed(r, 0x25, 0, value)
+    crate::set_fixed(r, 0x25, 0, value)
 }
 
 // The record with ClOrdID set.
 pub fn with_cl_ord_id(r: Record, value: [u8; 20]) -> Record
     ensures { result ≡ fixing_of 0x25 8 value r }
 {
-    crate::set_fixed(r, 0x25, 8, &value)
+    crate::set_fixed(r, 0x25, 8, value)
 }
 
 // The record with OrderID set.
 pub fn with_order_id(r: Record, value: u64) -> Record
     ensures { result ≡ fixing_of 0x25 28 (bytes_of 8 value) r }
 {
-    crate::set_long_fixed(r, 0x25, 28, value)
+    crate::set_fixed(r, 0x25, 28, value)
 }
 
 // The record with Side selected and set.
 pub fn with_side(r: Record, value: [u8; 1]) -> Record
     ensures { result ≡ setting_of 0x25 1 0 value r }
 {
-    crate::set_optional(r, 0x25, 1, 0, &value)
+    crate::set_optional(r, 0x25, 1, 0, value)
 }
 
 // The record with Price selected and set.
 pub fn with_price(r: Record, value: i64) -> Record
     ensures { result ≡ setting_of 0x25 1 2 (bytes_of 8 (bits_of value)) r }
 {
-    crate::set_price(r, 0x25, 1, 2, value)
+    crate::set_optional(r, 0x25, 1, 2, value)
 }
 
 // The record with ExecInst selected and set.
 pub fn with_exec_inst(r: Record, value: [u8; 1]) -> Record
     ensures { result ≡ setting_of 0x25 1 3 value r }
 {
-    crate::set_optional(r, 0x25, 1, 3, &value)
+    crate::set_optional(r, 0x25, 1, 3, value)
 }
 
 // The record with OrdType selected and set.
 pub fn with_ord_type(r: Record, value: [u8; 1]) -> Record
     ensures { result ≡ setting_of 0x25 1 4 value r }
 {
-    crate::set_optional(r, 0x25, 1, 4, &value)
+    crate::set_optional(r, 0x25, 1, 4, value)
 }
 
 // The record with TimeInForce selected and set.
 pub fn with_time_in_force(r: Record, value: [u8; 1]) -> Record
     ensures { result ≡ setting_of 0x25 1 5 value r }
 {
-    crate::set_optional(r, 0x25, 1, 5, &value)
+    crate::set_optional(r, 0x25, 1, 5, value)
 }
 
 // The record with MinQty selected and set.
 pub fn with_min_qty(r: Record, value: u32) -> Record
     ensures { result ≡ setting_of 0x25 1 6 (bytes_of 4 value) r }
 {
-    crate::set_number(r, 0x25, 1, 6, value)
+    crate::set_optional(r, 0x25, 1, 6, value)
 }
 
 // The record with Symbol selected and set.
 pub fn with_symbol(r: Record, value: [u8; 8]) -> Record
     ensures { result ≡ setting_of 0x25 2 0 value r }
 {
-    crate::set_optional(r, 0x25, 2, 0, &value)
+    crate::set_optional(r, 0x25, 2, 0, value)
 }
 
 // The record with SymbolSfx selected and set.
 pub fn with_symbol_sfx(r: Record, value: [u8; 8]) -> Record
     ensures { result ≡ setting_of 0x25 2 1 value r }
 {
-    crate::set_optional(r, 0x25, 2, 1, &value)
+    crate::set_optional(r, 0x25, 2, 1, value)
 }
 
 // The record with Capacity selected and set.
 pub fn with_capacity(r: Record, value: [u8; 1]) -> Record
     ensures { result ≡ setting_of 0x25 2 6 value r }
 {
-    crate::set_optional(r, 0x25, 2, 6, &value)
+    crate::set_optional(r, 0x25, 2, 6, value)
 }
 
 // The record with Account selected and set.
 pub fn with_account(r: Record, value: [u8; 16]) -> Record
     ensures { result ≡ setting_of 0x25 3 0 value r }
 {
-    crate::set_optional(r, 0x25, 3, 0, &value)
+    crate::set_optional(r, 0x25, 3, 0, value)
 }
 
 // The record with ClearingFirm selected and set.
 pub fn with_clearing_firm(r: Record, value: [u8; 4]) -> Record
     ensures { result ≡ setting_of 0x25 3 1 value r }
 {
-    crate::set_optional(r, 0x25, 3, 1, &value)
+    crate::set_optional(r, 0x25, 3, 1, value)
 }
 
 // The record with ClearingAccount selected and set.
 pub fn with_clearing_account(r: Record, value: [u8; 4]) -> Record
     ensures { result ≡ setting_of 0x25 3 2 value r }
 {
-    crate::set_optional(r, 0x25, 3, 2, &value)
+    crate::set_optional(r, 0x25, 3, 2, value)
 }
 
 // The record with MaxFloor selected and set.
 pub fn with_max_floor(r: Record, value: u32) -> Record
     ensures { result ≡ setting_of 0x25 3 4 (bytes_of 4 value) r }
 {
-    crate::set_number(r, 0x25, 3, 4, value)
+    crate::set_optional(r, 0x25, 3, 4, value)
 }
 
 // The record with OrderQty selected and set.
 pub fn with_order_qty(r: Record, value: u32) -> Record
     ensures { result ≡ setting_of 0x25 3 6 (bytes_of 4 value) r }
 {
-    crate::set_number(r, 0x25, 3, 6, value)
+    crate::set_optional(r, 0x25, 3, 6, value)
 }
 
 // The record with LeavesQty selected and set.
 pub fn with_leaves_qty(r: Record, value: u32) -> Record
     ensures { result ≡ setting_of 0x25 5 1 (bytes_of 4 value) r }
 {
-    crate::set_number(r, 0x25, 5, 1, value)
+    crate::set_optional(r, 0x25, 5, 1, value)
 }
 
 // The record with LastShares selected and set.
 pub fn with_last_shares(r: Record, value: u32) -> Record
     ensures { result ≡ setting_of 0x25 5 2 (bytes_of 4 value) r }
 {
-    crate::set_number(r, 0x25, 5, 2, value)
+    crate::set_optional(r, 0x25, 5, 2, value)
 }
 
 // The record with LastPx selected and set.
 pub fn with_last_px(r: Record, value: i64) -> Record
     ensures { result ≡ setting_of 0x25 5 3 (bytes_of 8 (bits_of value)) r }
 {
-    crate::set_price(r, 0x25, 5, 3, value)
+    crate::set_optional(r, 0x25, 5, 3, value)
 }
 
 // The record with ExpireTime selected and set.
 pub fn with_expire_time(r: Record, value: u64) -> Record
     ensures { result ≡ setting_of 0x25 5 7 (bytes_of 8 value) r }
 {
-    crate::set_long(r, 0x25, 5, 7, value)
+    crate::set_optional(r, 0x25, 5, 7, value)
 }

@@ -1,233 +1,231 @@
 // The fields of Cancel Rejected by name: the fixed part, and then the optional fields in the order of byte and bit.
 ghost use Rattle.std.specs.Prelude.{◌≡◌};
-ghost use Rattle.order_fields.specs.Named.{long_fixed, text1_fixed, text20_fixed, text60_fixed, number_of, price_of, text1_of, text8_of, text64_of};
+ghost use Rattle.order_fields.specs.Named.{number_of, price_of, text_of, number_fixed, text_fixed, setting_of, fixing_of};
 ghost use Rattle.numbers.specs.Numbers.{bytes_of};
 ghost use Rattle.numbers.specs.Prices.{bits_of};
-ghost use Rattle.order_fields.specs.Named.{setting_of, fixing_of};
 
-use crate::{LongField, NumberField, PriceField, Text1, Text8, Text20, Text60, Text64};
 use orders::Record;
 
 // TransactionTime.
-pub fn transaction_time(r: Record) -> LongField
-    ensures { result ≡ long_fixed 0x2B 0 r }
+pub fn transaction_time(r: Record) -> Option<u64>
+    ensures { result ≡ number_fixed 8 0x2B 0 r }
 {
-    crate::reading::long_fixed(r, 0x2B, 0)
+    crate::reading::fixed(r, 0x2B, 0)
 }
 
 // ClOrdID.
-pub fn cl_ord_id(r: Record) -> Text20
-    ensures { result ≡ text20_fixed 0x2B 8 r }
+pub fn cl_ord_id(r: Record) -> Option<[u8; 20]>
+    ensures { result ≡ text_fixed 20 0x2B 8 r }
 {
-    crate::reading::text20_fixed(r, 0x2B, 8)
+    crate::reading::fixed(r, 0x2B, 8)
 }
 
 // CancelRejectReason.
-pub fn cancel_reject_reason(r: Record) -> Text1
-    ensures { result ≡ text1_fixed 0x2B 28 r }
+pub fn cancel_reject_reason(r: Record) -> Option<[u8; 1]>
+    ensures { result ≡ text_fixed 1 0x2B 28 r }
 {
-    crate::reading::text1_fixed(r, 0x2B, 28)
+    crate::reading::fixed(r, 0x2B, 28)
 }
 
 // Text.
-pub fn text(r: Record) -> Text60
-    ensures { result ≡ text60_fixed 0x2B 29 r }
+pub fn text(r: Record) -> Option<[u8; 60]>
+    ensures { result ≡ text_fixed 60 0x2B 29 r }
 {
-    crate::reading::text60_fixed(r, 0x2B, 29)
+    crate::reading::fixed(r, 0x2B, 29)
 }
 
 // Side: byte 1, bit 1.
-pub fn side(r: Record) -> Text1
-    ensures { result ≡ text1_of 0x2B 1 0 r }
+pub fn side(r: Record) -> Option<[u8; 1]>
+    ensures { result ≡ text_of 1 0x2B 1 0 r }
 {
-    crate::reading::text1_of(r, 0x2B, 1, 0)
+    crate::reading::optional(r, 0x2B, 1, 0)
 }
 
 // PegDifference: byte 1, bit 2.
-pub fn peg_difference(r: Record) -> PriceField
+pub fn peg_difference(r: Record) -> Option<i64>
     ensures { result ≡ price_of 0x2B 1 1 r }
 {
-    crate::reading::price_of(r, 0x2B, 1, 1)
+    crate::reading::optional(r, 0x2B, 1, 1)
 }
 
 // Price: byte 1, bit 4.
-pub fn price(r: Record) -> PriceField
+pub fn price(r: Record) -> Option<i64>
     ensures { result ≡ price_of 0x2B 1 2 r }
 {
-    crate::reading::price_of(r, 0x2B, 1, 2)
+    crate::reading::optional(r, 0x2B, 1, 2)
 }
 
 // ExecInst: byte 1, bit 8.
-pub fn exec_inst(r: Record) -> Text1
-    ensures { result ≡ text1_of 0x2B 1 3 r }
+pub fn exec_inst(r: Record) -> Option<[u8; 1]>
+    ensures { result ≡ text_of 1 0x2B 1 3 r }
 {
-    crate::reading::text1_of(r, 0x2B, 1, 3)
+    crate::reading::optional(r, 0x2B, 1, 3)
 }
 
 // OrdType: byte 1, bit 16.
-pub fn ord_type(r: Record) -> Text1
-    ensures { result ≡ text1_of 0x2B 1 4 r }
+pub fn ord_type(r: Record) -> Option<[u8; 1]>
+    ensures { result ≡ text_of 1 0x2B 1 4 r }
 {
-    crate::reading::text1_of(r, 0x2B, 1, 4)
+    crate::reading::optional(r, 0x2B, 1, 4)
 }
 
 // TimeInForce: byte 1, bit 32.
-pub fn time_in_force(r: Record) -> Text1
-    ensures { result ≡ text1_of 0x2B 1 5 r }
+pub fn time_in_force(r: Record) -> Option<[u8; 1]>
+    ensures { result ≡ text_of 1 0x2B 1 5 r }
 {
-    crate::reading::text1_of(r, 0x2B, 1, 5)
+    crate::reading::optional(r, 0x2B, 1, 5)
 }
 
 // MinQty: byte 1, bit 64.
-pub fn min_qty(r: Record) -> NumberField
-    ensures { result ≡ number_of 0x2B 1 6 r }
+pub fn min_qty(r: Record) -> Option<u32>
+    ensures { result ≡ number_of 4 0x2B 1 6 r }
 {
-    crate::reading::number_of(r, 0x2B, 1, 6)
+    crate::reading::optional(r, 0x2B, 1, 6)
 }
 
 // Symbol: byte 2, bit 1.
-pub fn symbol(r: Record) -> Text8
-    ensures { result ≡ text8_of 0x2B 2 0 r }
+pub fn symbol(r: Record) -> Option<[u8; 8]>
+    ensures { result ≡ text_of 8 0x2B 2 0 r }
 {
-    crate::reading::text8_of(r, 0x2B, 2, 0)
+    crate::reading::optional(r, 0x2B, 2, 0)
 }
 
 // SymbolSfx: byte 2, bit 2.
-pub fn symbol_sfx(r: Record) -> Text8
-    ensures { result ≡ text8_of 0x2B 2 1 r }
+pub fn symbol_sfx(r: Record) -> Option<[u8; 8]>
+    ensures { result ≡ text_of 8 0x2B 2 1 r }
 {
-    crate::reading::text8_of(r, 0x2B, 2, 1)
+    crate::reading::optional(r, 0x2B, 2, 1)
 }
 
 // Capacity: byte 2, bit 64.
-pub fn capacity(r: Record) -> Text1
-    ensures { result ≡ text1_of 0x2B 2 6 r }
+pub fn capacity(r: Record) -> Option<[u8; 1]>
+    ensures { result ≡ text_of 1 0x2B 2 6 r }
 {
-    crate::reading::text1_of(r, 0x2B, 2, 6)
+    crate::reading::optional(r, 0x2B, 2, 6)
 }
 
 // EchoText: byte 8, bit 2.
-pub fn echo_text(r: Record) -> Text64
-    ensures { result ≡ text64_of 0x2B 8 1 r }
+pub fn echo_text(r: Record) -> Option<[u8; 64]>
+    ensures { result ≡ text_of 64 0x2B 8 1 r }
 {
-    crate::reading::text64_of(r, 0x2B, 8, 1)
+    crate::reading::optional(r, 0x2B, 8, 1)
 }
 
 // StopPx: byte 8, bit 4.
-pub fn stop_px(r: Record) -> PriceField
+pub fn stop_px(r: Record) -> Option<i64>
     ensures { result ≡ price_of 0x2B 8 2 r }
 {
-    crate::reading::price_of(r, 0x2B, 8, 2)
+    crate::reading::optional(r, 0x2B, 8, 2)
 }
 
 // The record with TransactionTime set.
 pub fn with_transaction_time(r: Record, value: u64) -> Record
     ensures { result ≡ fixing_of 0x2B 0 (bytes_of 8 value) r }
 {
-    crate::set_long_fixed(r, 0x2B, 0, value)
+    crate::set_fixed(r, 0x2B, 0, value)
 }
 
 // The record with ClOrdID set.
 pub fn with_cl_ord_id(r: Record, value: [u8; 20]) -> Record
     ensures { result ≡ fixing_of 0x2B 8 value r }
 {
-    crate::set_fixed(r, 0x2B, 8, &value)
+    crate::set_fixed(r, 0x2B, 8, value)
 }
 
 // The record with CancelRejectReason set.
 pub fn with_cancel_reject_reason(r: Record, value: [u8; 1]) -> Record
     ensures { result ≡ fixing_of 0x2B 28 value r }
 {
-    crate::set_fixed(r, 0x2B, 28, &value)
+    crate::set_fixed(r, 0x2B, 28, value)
 }
 
 // The record with Text set.
 pub fn with_text(r: Record, value: [u8; 60]) -> Record
     ensures { result ≡ fixing_of 0x2B 29 value r }
 {
-    crate::set_fixed(r, 0x2B, 29, &value)
+    crate::set_fixed(r, 0x2B, 29, value)
 }
 
 // The record with Side selected and set.
 pub fn with_side(r: Record, value: [u8; 1]) -> Record
     ensures { result ≡ setting_of 0x2B 1 0 value r }
 {
-    crate::set_optional(r, 0x2B, 1, 0, &value)
+    crate::set_optional(r, 0x2B, 1, 0, value)
 }
 
 // The record with PegDifference selected and set.
 pub fn with_peg_difference(r: Record, value: i64) -> Record
     ensures { result ≡ setting_of 0x2B 1 1 (bytes_of 8 (bits_of value)) r }
 {
-    crate::set_price(r, 0x2B, 1, 1, value)
+    crate::set_optional(r, 0x2B, 1, 1, value)
 }
 
 // The record with Price selected and set.
 pub fn with_price(r: Record, value: i64) -> Record
     ensures { result ≡ setting_of 0x2B 1 2 (bytes_of 8 (bits_of value)) r }
 {
-    crate::set_price(r, 0x2B, 1, 2, value)
+    crate::set_optional(r, 0x2B, 1, 2, value)
 }
 
 // The record with ExecInst selected and set.
 pub fn with_exec_inst(r: Record, value: [u8; 1]) -> Record
     ensures { result ≡ setting_of 0x2B 1 3 value r }
 {
-    crate::set_optional(r, 0x2B, 1, 3, &value)
+    crate::set_optional(r, 0x2B, 1, 3, value)
 }
 
 // The record with OrdType selected and set.
 pub fn with_ord_type(r: Record, value: [u8; 1]) -> Record
     ensures { result ≡ setting_of 0x2B 1 4 value r }
 {
-    crate::set_optional(r, 0x2B, 1, 4, &value)
+    crate::set_optional(r, 0x2B, 1, 4, value)
 }
 
 // The record with TimeInForce selected and set.
 pub fn with_time_in_force(r: Record, value: [u8; 1]) -> Record
     ensures { result ≡ setting_of 0x2B 1 5 value r }
 {
-    crate::set_optional(r, 0x2B, 1, 5, &value)
+    crate::set_optional(r, 0x2B, 1, 5, value)
 }
 
 // The record with MinQty selected and set.
 pub fn with_min_qty(r: Record, value: u32) -> Record
     ensures { result ≡ setting_of 0x2B 1 6 (bytes_of 4 value) r }
 {
-    crate::set_number(r, 0x2B, 1, 6, value)
+    crate::set_optional(r, 0x2B, 1, 6, value)
 }
 
 // The record with Symbol selected and set.
 pub fn with_symbol(r: Record, value: [u8; 8]) -> Record
     ensures { result ≡ setting_of 0x2B 2 0 value r }
 {
-    crate::set_optional(r, 0x2B, 2, 0, &value)
+    crate::set_optional(r, 0x2B, 2, 0, value)
 }
 
 // The record with SymbolSfx selected and set.
 pub fn with_symbol_sfx(r: Record, value: [u8; 8]) -> Record
     ensures { result ≡ setting_of 0x2B 2 1 value r }
 {
-    crate::set_optional(r, 0x2B, 2, 1, &value)
+    crate::set_optional(r, 0x2B, 2, 1, value)
 }
 
 // The record with Capacity selected and set.
 pub fn with_capacity(r: Record, value: [u8; 1]) -> Record
     ensures { result ≡ setting_of 0x2B 2 6 value r }
 {
-    crate::set_optional(r, 0x2B, 2, 6, &value)
+    crate::set_optional(r, 0x2B, 2, 6, value)
 }
 
 // The record with EchoText selected and set.
 pub fn with_echo_text(r: Record, value: [u8; 64]) -> Record
     ensures { result ≡ setting_of 0x2B 8 1 value r }
 {
-    crate::set_optional(r, 0x2B, 8, 1, &value)
+    crate::set_optional(r, 0x2B, 8, 1, value)
 }
 
 // The record with StopPx selected and set.
 pub fn with_stop_px(r: Record, value: i64) -> Record
     ensures { result ≡ setting_of 0x2B 8 2 (bytes_of 8 (bits_of value)) r }
 {
-    crate::set_price(r, 0x2B, 8, 2, value)
+    crate::set_optional(r, 0x2B, 8, 2, value)
 }

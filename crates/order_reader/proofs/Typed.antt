@@ -1,12 +1,12 @@
 -- A message judged and stored where it stands under its record's type: its bytes but for the type are those of the message under that type. Assumes
 -- nothing.
-use mathlib.Core.Path.{◌≡◌, refl, sym, ap, ◌∙◌}
+use mathlib.Core.Path.{◌≡◌, sym, ap, ◌∙◌}
 use mathlib.Core.List.{List}
 use Prim.Native.Nat.{ℕ, ◌+◌, ◌≤◌}
 use native.Mathlib.Omega.{arith}
 use lib.ListN.{length, get_or, take, drop}
 use Rattle.numbers.specs.Numbers.{patched}
-use Rattle.wire.specs.Header.{type_of, unit_of, number_of, total_of}
+use Rattle.wire.specs.Header.{type_of, total_of}
 use Rattle.orders.specs.Shapes.{count_at}
 use Rattle.orders.specs.Markets.{typed}
 use Rattle.orders.proofs.MarketLaws.{same_but}
@@ -15,7 +15,7 @@ use Rattle.orders.proofs.OrderLaws.{count_bounds}
 use Rattle.orders.specs.Orders.{head_refusal, body_refusal, read_refusal}
 use Rattle.block.specs.Slots.{takes, sum}
 use Rattle.block.specs.Places.{slots_of}
-use Rattle.block.specs.Sizes.{fixed_end, most_bitfields}
+use Rattle.block.specs.Sizes.{fixed_end}
 use Rattle.order_reader.specs.Stages.{kept_bytes, there_bytes, read_record}
 use Rattle.order_reader.proofs.Heads.{GoodHead, good_head}
 use Rattle.order_reader.proofs.InPlace.{in_place, total_there, read_is, head_good}

@@ -13,104 +13,112 @@ ghost use Rattle.orders.specs.Late.{late_refusal};
 ghost use Rattle.orders.specs.Orders.{head_refusal, body_refusal, layout_of, read_refusal};
 ghost use Rattle.order_reader.specs.Stages.{count_refusal, type_head, value_refusal, judged_of, firm_width, kept_bytes, front_bytes, there_bytes, read_record};
 ghost use Rattle.block.specs.Sizes.{fixed_end, fixed_size, layout_size, record_size, most_bitfields, slots_place};
+ghost use Rattle.refusals.specs.Outcomes.{outcome};
 
 use block_judge::Judged;
+use refusals::{Reason, Refusal};
 
 // 4; 5; 6 if the message ends before its count byte is whole; 7; 6 if the bitfields do not fit. Each type's numbers are literals.
-fn head_refusal(m: &[u8], message: u8) -> u32
+fn check_head(m: &[u8], message: u8) -> Result<(), Refusal>
     requires { 5 ≤ length m.now }
-    ensures { result ≡ head_refusal (typed message m.now) }
+    ensures { result ≡ outcome (head_refusal (typed message m.now)) }
 {
     match message {
-        0x38 => type_head(m, 0x38, 35, 10),
-        0x39 => type_head(m, 0x39, 30, 2),
-        0x25 => type_head(m, 0x25, 47, 15),
-        0x2C => type_head(m, 0x2C, 69, 15),
-        0x26 => type_head(m, 0x26, 100, 19),
-        0x29 => type_head(m, 0x29, 100, 19),
-        0x2B => type_head(m, 0x2B, 100, 19),
-        0x3A => type_head(m, 0x3A, 50, 2),
-        0x47 => type_head(m, 0x47, 11, 2),
-        0xB8 => type_head(m, 0xB8, 35, 10),
-        _ => refusals::UNKNOWN_TYPE,
+        0x38 => check_type(m, 0x38, 35, 10),
+        0x39 => check_type(m, 0x39, 30, 2),
+        0x25 => check_type(m, 0x25, 47, 15),
+        0x2C => check_type(m, 0x2C, 69, 15),
+        0x26 => check_type(m, 0x26, 100, 19),
+        0x29 => check_type(m, 0x29, 100, 19),
+        0x2B => check_type(m, 0x2B, 100, 19),
+        0x3A => check_type(m, 0x3A, 50, 2),
+        0x47 => check_type(m, 0x47, 11, 2),
+        0xB8 => check_type(m, 0xB8, 35, 10),
+        _ => Err(Refusal::new(Reason::UnknownType)),
     }
 }
 
 // The refusals after 4 of a message of a type, whose count stands at a place and which has at most so many bitfields.
-fn type_head(m: &[u8], message: u8, at: usize, most: u8) -> u32
+fn check_type(m: &[u8], message: u8, at: usize, most: u8) -> Result<(), Refusal>
     requires { at ≤ fixed_end }
-    ensures { result ≡ type_head message at most m.now }
+    ensures { result ≡ outcome (type_head message at most m.now) }
 {
     let unit = wire::header::unit_of(m);
     let number = wire::header::number_of(m);
     if !orders::unit_good(message, unit, number) {
-        return refusals::BAD_UNIT;
+        return Err(Refusal::new(Reason::BadUnit));
     }
-    count_refusal(m, at, most)
+    check_count(m, at, most)
 }
 
 // Those after 5.
-fn count_refusal(m: &[u8], at: usize, most: u8) -> u32
+fn check_count(m: &[u8], at: usize, most: u8) -> Result<(), Refusal>
     requires { at ≤ fixed_end }
-    ensures { result ≡ count_refusal at most m.now }
+    ensures { result ≡ outcome (count_refusal at most m.now) }
 {
     if m.len() <= at {
-        return wire::wrong_total(m);
+        return Err(wire::wrong_total(m));
     }
     let count = m[at];
     if most < count {
-        return refusals::told(refusals::TOO_MANY_BITFIELDS, at);
+        return Err(Refusal::at(Reason::TooManyBitfields, at));
     }
     if m.len() - at - 1 < (count as usize) {
-        return wire::wrong_total(m);
+        return Err(wire::wrong_total(m));
     }
-    0
+    Ok(())
 }
 
-// 10, by what is found in the fixed part, in the middle of `size` bytes and in the optional fields: the place of the first field of the fixed part that is
-// bad, whether the middle is good, and the first bad optional field, counted from 1; 0 where there is none.
-fn value_refusal(message: u8, count: u8, fixed: usize, good: bool, size: usize, wrong: usize) -> u32
-    requires { (fixed ≤ 1000) × (size ≤ 1000) × (wrong ≤ 1000) }
-    ensures { result ≡ value_refusal (count_at message + count) fixed good size wrong }
+// 10, by what is found in the middle of `size` bytes and in the optional fields: whether the middle is good, and the first bad optional field, counted from
+// 1; 0 where there is none.
+fn check_values(
+    message: u8,
+    count: u8,
+    good: bool,
+    size: usize,
+    wrong: usize,
+) -> Result<(), Refusal>
+    requires { (size ≤ 1000) × (wrong ≤ 1000) }
+    ensures { result ≡ outcome (value_refusal (count_at message + count) 0 good size wrong) }
 {
-    if fixed != 0 {
-        return refusals::told(refusals::BAD_VALUE, fixed);
-    }
     let last = orders::count_at(message) + (count as usize);
     if !good {
-        return refusals::told(refusals::BAD_VALUE, last + 1);
+        return Err(Refusal::at(Reason::BadValue, last + 1));
     }
     if wrong != 0 {
-        return refusals::told(refusals::BAD_VALUE, last + size + wrong);
+        return Err(Refusal::at(Reason::BadValue, last + size + wrong));
     }
-    0
+    Ok(())
 }
 
 // The refusals of the block of a message m, once its bytes are judged: 8, 9, 6, 10. `rest` is what follows the bitfields; the middle is its first `size`
 // bytes. Where the count byte stands is asked where a refusal tells it.
-fn judged(m: &[u8], message: u8, bits: &[u8], count: u8, t: Judged, size: usize, rest: &[u8]) -> u32
+fn check_judged(
+    m: &[u8],
+    message: u8,
+    bits: &[u8],
+    count: u8,
+    t: Judged,
+    size: usize,
+    rest: &[u8],
+) -> Result<(), Refusal>
     requires { (length bits.now ≡ count) × (count_at message ≤ length m.now) × (t.bad ≤ 100) × (t.at ≤ 1000) × (size ≤ 1000) × (size + t.at ≡ length rest.now → t.wrong ≤ 1000) }
-    ensures { result ≡ judged_of (total_of m.now) message count bits.now (drop 10 m.now) t size rest.now }
+    ensures { result ≡ outcome (judged_of (total_of m.now) message count bits.now (drop 10 m.now) t size rest.now) }
 {
     if t.bad != 0 {
         let at = orders::count_at(message);
-        return refusals::told(refusals::UNLISTED_BIT, at + t.bad);
+        return Err(Refusal::at(Reason::UnlistedBit, at + t.bad));
     }
     if !block::has_required(message, bits, count) {
         let last = orders::count_at(message) + (count as usize);
-        return refusals::told(refusals::NOT_SELECTED, last);
+        return Err(Refusal::at(Reason::NotSelected, last));
     }
     if size + t.at != rest.len() {
-        return wire::wrong_total(m);
+        return Err(wire::wrong_total(m));
     }
-    value_refusal(
-        message,
-        count,
-        orders::fixed_wrong(message, &m[10..]),
-        orders::middle_good(message, count, bits, rest),
-        size,
-        t.wrong,
-    )
+    orders::check_fixed(message, &m[10..])?;
+    let good = orders::middle_good(message, count, bits, rest);
+    check_values(message, count, good, size, t.wrong)
 }
 
 // The width of ClearingFirm, which stands first of both messages that may be late, where it is selected.
@@ -125,15 +133,15 @@ fn firm_width(bits: &[u8], count: u8) -> usize
 }
 
 // The late refusal of a Modify Order: without Price, OrdType stands after ClearingFirm and OrderQty.
-fn modify_late(bits: &[u8], count: u8, optional: &[u8]) -> u32
+fn check_modify(bits: &[u8], count: u8, optional: &[u8]) -> Result<(), Refusal>
     requires { (count ≤ length bits.now) × (has_required 0x3A count bits.now ≡ true) × (sum takes (slots_of 0x3A count bits.now) ≡ length optional.now) }
-    ensures { result ≡ late_refusal 0x3A count bits.now (layout_of 0x3A count bits.now optional.now) }
+    ensures { result ≡ outcome (late_refusal 0x3A count bits.now (layout_of 0x3A count bits.now optional.now)) }
 {
     if block::is_selected(bits, count, 3) {
-        return 0;
+        return Ok(());
     }
     let at = firm_width(bits, count) + 4;
-    orders::modify_late(count, bits, optional[at])
+    orders::check_modify_late(count, bits, optional[at])
 }
 
 // MatchingUnit of a Purge Orders, the last of its fields; 0 where it is not selected.
@@ -148,13 +156,13 @@ fn last_unit(bits: &[u8], count: u8, optional: &[u8]) -> u8
 }
 
 // The late refusal of a Purge Orders: MassCancelInst stands after ClearingFirm.
-fn purge_late(bits: &[u8], count: u8, optional: &[u8]) -> u32
+fn check_purge(bits: &[u8], count: u8, optional: &[u8]) -> Result<(), Refusal>
     requires { (count ≤ length bits.now) × (has_required 0x47 count bits.now ≡ true) × (sum takes (slots_of 0x47 count bits.now) ≡ length optional.now) }
-    ensures { result ≡ late_refusal 0x47 count bits.now (layout_of 0x47 count bits.now optional.now) }
+    ensures { result ≡ outcome (late_refusal 0x47 count bits.now (layout_of 0x47 count bits.now optional.now)) }
 {
     let at = firm_width(bits, count);
     let unit = last_unit(bits, count, optional);
-    orders::purge_late(
+    orders::check_purge_late(
         count,
         bits,
         optional[at],
@@ -165,20 +173,20 @@ fn purge_late(bits: &[u8], count: u8, optional: &[u8]) -> u32
 }
 
 // The late refusal, by the optional fields where they stand. Nothing is stored.
-fn late(message: u8, bits: &[u8], count: u8, optional: &[u8]) -> u32
+fn check_late(message: u8, bits: &[u8], count: u8, optional: &[u8]) -> Result<(), Refusal>
     requires { (count ≤ length bits.now) × (has_required message count bits.now ≡ true) × (sum takes (slots_of message count bits.now) ≡ length optional.now) }
-    ensures { result ≡ late_refusal message count bits.now (layout_of message count bits.now optional.now) }
+    ensures { result ≡ outcome (late_refusal message count bits.now (layout_of message count bits.now optional.now)) }
 {
     match message {
-        0x3A => modify_late(bits, count, optional),
-        0x47 => purge_late(bits, count, optional),
-        _ => 0,
+        0x3A => check_modify(bits, count, optional),
+        0x47 => check_purge(bits, count, optional),
+        _ => Ok(()),
     }
 }
 
 // The refusal of a message m of which the bitfields, what follows them and the optional bytes, which follow the middle of `size` bytes, are lent where
 // they stand.
-fn parts_refusal(
+fn check_parts(
     m: &[u8],
     message: u8,
     bits: &[u8],
@@ -186,16 +194,13 @@ fn parts_refusal(
     size: usize,
     rest: &[u8],
     optional: &[u8],
-) -> u32
+) -> Result<(), Refusal>
     requires { (length bits.now ≡ count) × (count ≤ most_bitfields) × (count_at message ≤ length m.now) × (size ≡ middle_size message count bits.now rest.now) × (size ≤ 1000) × (optional.now ≡ drop size rest.now) }
-    ensures { result ≡ body_refusal (total_of m.now) message count bits.now (drop 10 m.now) rest.now }
+    ensures { result ≡ outcome (body_refusal (total_of m.now) message count bits.now (drop 10 m.now) rest.now) }
 {
     let t = block_judge::judge_all(message, bits, count, optional);
-    let refusal = judged(m, message, bits, count, t, size, rest);
-    if refusal != 0 {
-        return refusal;
-    }
-    late(message, bits, count, optional)
+    check_judged(m, message, bits, count, t, size, rest)?;
+    check_late(message, bits, count, optional)
 }
 
 // Where the optional bytes begin in what follows the bitfields: after the middle, or at the end where they are fewer bytes.
@@ -209,47 +214,44 @@ fn least(size: usize, have: usize) -> usize
 }
 
 // The refusal of a message m of which the bitfields and what follows them are lent where they stand.
-fn block_refusal(m: &[u8], message: u8, bits: &[u8], count: u8, rest: &[u8]) -> u32
+fn check_block(m: &[u8], message: u8, bits: &[u8], count: u8, rest: &[u8]) -> Result<(), Refusal>
     requires { (length bits.now ≡ count) × (count ≤ most_bitfields) × (count_at message ≤ length m.now) }
-    ensures { result ≡ body_refusal (total_of m.now) message count bits.now (drop 10 m.now) rest.now }
+    ensures { result ≡ outcome (body_refusal (total_of m.now) message count bits.now (drop 10 m.now) rest.now) }
 {
     let size = orders::middle_size(message, count, bits, rest);
     let from = least(size, rest.len());
-    parts_refusal(m, message, bits, count, size, rest, &rest[from..])
+    check_parts(m, message, bits, count, size, rest, &rest[from..])
 }
 
 // The refusal of a body whose count stands at a place. Nothing is copied.
-fn body_refusal(m: &[u8], message: u8, at: usize, count: u8) -> u32
+fn check_body(m: &[u8], message: u8, at: usize, count: u8) -> Result<(), Refusal>
     requires { (11 ≤ at) × (at + 1 + count ≤ length m.now) × (count ≤ most_bitfields) × (at ≡ count_at message) }
-    ensures { result ≡ body_refusal (total_of m.now) message count (take count (drop (at + 1) m.now)) (drop 10 m.now) (drop (at + 1 + count) m.now) }
+    ensures { result ≡ outcome (body_refusal (total_of m.now) message count (take count (drop (at + 1) m.now)) (drop 10 m.now) (drop (at + 1 + count) m.now)) }
 {
     let start = at + 1;
     let end = start + (count as usize);
-    block_refusal(m, message, &m[start..end], count, &m[end..])
+    check_block(m, message, &m[start..end], count, &m[end..])
 }
 
-// The refusal of a whole message alone, under its record's type, 4 to 10 or 23, or 0, and from 6 to 10 its place: for callers that want no record.
-pub fn refusal_as(message: u8, m: &[u8]) -> u32
+// Whether a whole message is taken, under its record's type: Ok, or the refusal, 4 to 10 or 23, and from 6 to 10 its place. For callers that want no record.
+pub fn check_as(message: u8, m: &[u8]) -> Result<(), Refusal>
     requires { 5 ≤ length m.now }
-    ensures { result ≡ read_refusal (typed message m.now) }
+    ensures { result ≡ outcome (read_refusal (typed message m.now)) }
 {
     let at = orders::count_at(message);
-    let refusal = head_refusal(m, message);
-    if refusal != 0 {
-        return refusal;
-    }
+    check_head(m, message)?;
     let count = numbers::byte_at(m, at);
-    body_refusal(m, message, at, count)
+    check_body(m, message, at, count)
 }
 
 // The same of a message whose type is its record's.
-pub fn order_refusal(m: &[u8]) -> u32
-    ensures { result ≡ read_refusal m.now }
+pub fn check_order(m: &[u8]) -> Result<(), Refusal>
+    ensures { result ≡ outcome (read_refusal m.now) }
 {
     if m.len() < 5 {
-        return refusals::UNKNOWN_TYPE;
+        return Err(Refusal::new(Reason::UnknownType));
     }
-    refusal_as(wire::header::type_of(m), m)
+    check_as(wire::header::type_of(m), m)
 }
 
 // The bitfields into the front of a lent tail, with zeros after them.
@@ -372,29 +374,26 @@ fn put_there(m: &[u8], message: u8, at: usize, count: u8, buffer: &mut [u8])
     put_record(m, message, count, &m[start..end], &m[end..], buffer);
 }
 
-// Reads a whole message, as framing answers it, under its record's type, into a buffer that has room for its record: 0, and the record's bytes stand in the
+// Reads a whole message, as framing answers it, under its record's type, into a buffer that has room for its record: Ok, and the record's bytes stand in the
 // front of the buffer; or the refusal (4 to 10, from 6 on with its place, or 23), and the buffer is as it was.
-pub fn read_as(message: u8, m: &[u8], buffer: &mut [u8]) -> u32
+pub fn read_as(message: u8, m: &[u8], buffer: &mut [u8]) -> Result<(), Refusal>
     requires { (5 ≤ length m.now) × (record_size ≤ length buffer.old) }
-    ensures { (result ≡ read_refusal (typed message m.now)) × (buffer.new ≡ read_record (typed message m.now) buffer.old) }
+    ensures { (result ≡ outcome (read_refusal (typed message m.now))) × (buffer.new ≡ read_record (typed message m.now) buffer.old) }
 {
-    let refusal = refusal_as(message, m);
-    if refusal != 0 {
-        return refusal;
-    }
+    check_as(message, m)?;
     let at = orders::count_at(message);
     let count = numbers::byte_at(m, at);
     put_there(m, message, at, count, buffer);
-    0
+    Ok(())
 }
 
 // The same of a message whose type is its record's.
-pub fn read_order(m: &[u8], buffer: &mut [u8]) -> u32
+pub fn read_order(m: &[u8], buffer: &mut [u8]) -> Result<(), Refusal>
     requires { record_size ≤ length buffer.old }
-    ensures { (result ≡ read_refusal m.now) × (buffer.new ≡ read_record m.now buffer.old) }
+    ensures { (result ≡ outcome (read_refusal m.now)) × (buffer.new ≡ read_record m.now buffer.old) }
 {
     if m.len() < 5 {
-        return refusals::UNKNOWN_TYPE;
+        return Err(Refusal::new(Reason::UnknownType));
     }
     read_as(wire::header::type_of(m), m, buffer)
 }

@@ -1,3 +1,4 @@
+pub mod Loaded
 pub mod Records
 pub mod RecordLaws
 pub mod RecordTrip

@@ -5,7 +5,7 @@ use Rattle.refusals.specs.Names.{no_room}
 use Rattle.numbers.specs.Numbers.{number_at, bytes_of, patched}
 use Rattle.orders.specs.declared.Record.{Record}
 use Rattle.orders.specs.Orders.{blank}
-use Rattle.order_records.specs.declared.Loaded.{Loaded}
+use Rattle.order_records.specs.Loaded.{Loaded}
 use Rattle.block.specs.Sizes.{fixed_size, layout_size, record_size, most_bitfields, count_place, bits_place, slots_place}
 
 -- a record's bytes

@@ -5,8 +5,10 @@ ghost use Rattle.std.specs.Prelude.{◌≡◌, ◌∷◌, ◌++◌, ◌+◌, ◌
 ghost use Rattle.numbers.specs.Numbers.{bytes_of, patched};
 ghost use Rattle.order_records.specs.Records.{record_bytes, record_at, load_of, store_refusal, store_buffer};
 ghost use Rattle.block.specs.Sizes.{fixed_size, layout_size, record_size, most_bitfields};
+ghost use Rattle.refusals.specs.Outcomes.{outcome, outcome_with};
 
 use orders::Record;
+use refusals::{Reason, Refusal};
 
 // The bitfields, and the layout after them, into the front of a lent tail.
 fn put_fields(bits: &[u8], slots: &[u8], tail: &mut [u8])
@@ -42,7 +44,7 @@ pub fn put_head(message: u8, unit: u8, number: u32, out: &mut [u8])
 {
     out[0] = message;
     out[1] = unit;
-    numbers::write_u32(out, 2, number);
+    let _ = numbers::write_u32(out, 2, number);
 }
 
 // The parts of a record into the front of a buffer that has room for it.
@@ -98,38 +100,23 @@ fn unpack(s: &[u8]) -> Record
     }
 }
 
-// What loading answers: 0 and the record, or the refusal and the blank record.
-#[derive(Clone, Copy)]
-pub struct Loaded {
-    pub refusal: u32,
-    pub order: Record,
-}
-
-// The record of the first RECORD of any bytes: 0 and the record; or 13 and the blank one where there are fewer.
-pub fn load(s: &[u8]) -> Loaded
-    ensures { result ≡ load_of s.now }
+// The record of the first RECORD of any bytes; or 13 where there are fewer.
+pub fn load(s: &[u8]) -> Result<Record, Refusal>
+    ensures { result ≡ outcome_with (load_of s.now).refusal (load_of s.now).order }
 {
     if s.len() < block::RECORD {
-        let blank = orders::blank_record();
-        return Loaded {
-            refusal: refusals::NO_ROOM,
-            order: blank,
-        };
+        return Err(Refusal::new(Reason::NoRoom));
     }
-    let whole = unpack(s);
-    Loaded {
-        refusal: 0,
-        order: whole,
-    }
+    Ok(unpack(s))
 }
 
-// A record into the front of any buffer: 0, and its bytes stand there; or 13 for a buffer under RECORD bytes, which is as it was.
-pub fn store(r: Record, out: &mut [u8]) -> u32
-    ensures { (result ≡ store_refusal (length out.old)) × (out.new ≡ store_buffer r out.old) }
+// A record into the front of any buffer: Ok, and its bytes stand there; or 13 for a buffer under RECORD bytes, which is as it was.
+pub fn store(r: Record, out: &mut [u8]) -> Result<(), Refusal>
+    ensures { (result ≡ outcome (store_refusal (length out.old))) × (out.new ≡ store_buffer r out.old) }
 {
     if out.len() < block::RECORD {
-        return refusals::NO_ROOM;
+        return Err(Refusal::new(Reason::NoRoom));
     }
     pack(r, out);
-    0
+    Ok(())
 }

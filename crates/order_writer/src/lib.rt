@@ -14,23 +14,25 @@ ghost use Rattle.orders.specs.Orders.{write_refusal, write_buffer};
 ghost use Rattle.order_records.specs.Records.{record_at};
 ghost use Rattle.order_writer.specs.Stages.{record_from, top_refusal, value_refusal, unused_zero, end_refusal, seen_refusal, after_bytes, field_bytes, rest_bytes};
 ghost use Rattle.block.specs.Sizes.{fixed_size, layout_size, record_size, most_bitfields};
+ghost use Rattle.refusals.specs.Outcomes.{outcome};
 
 use block_write::Seen;
+use refusals::{Reason, Refusal};
 
 // 4, 5, 7. Places are those in the message that would be written.
-fn top_refusal(message: u8, unit: u8, number: u32, count: u8) -> u32
-    ensures { result ≡ top_refusal message unit number count }
+fn check_top(message: u8, unit: u8, number: u32, count: u8) -> Result<(), Refusal>
+    ensures { result ≡ outcome (top_refusal message unit number count) }
 {
     if !orders::is_known(message) {
-        return refusals::UNKNOWN_TYPE;
+        return Err(Refusal::new(Reason::UnknownType));
     }
     if !orders::unit_good(message, unit, number) {
-        return refusals::BAD_UNIT;
+        return Err(Refusal::new(Reason::BadUnit));
     }
     if orders::most_of(message) < count {
-        return refusals::told(refusals::TOO_MANY_BITFIELDS, orders::count_at(message));
+        return Err(Refusal::at(Reason::TooManyBitfields, orders::count_at(message)));
     }
-    0
+    Ok(())
 }
 
 // Whether two windows are blank.
@@ -107,51 +109,52 @@ fn unused_zero(message: u8, count: u8, fixed: &[u8], bits: &[u8], rest: &[u8]) -
     two_blank(&rest[0..160], &rest[159..block::LAYOUT])
 }
 
-// 10: the place of the first bad value, of the fixed part, of the middle, which `held` begins with, and of the selected fields, of which `wrong` is the
-// first bad one, counted from 1; 0 where there is none.
-fn value_refusal(
+// 10 at the first bad value, of the fixed part, of the middle, which `held` begins with, and of the selected fields, of which `wrong` is the first bad one,
+// counted from 1; 0 where there is none.
+fn check_values(
     message: u8,
     count: u8,
     fixed: &[u8],
     bits: &[u8],
     held: &[u8],
     wrong: usize,
-) -> u32
+) -> Result<(), Refusal>
     requires { (length fixed.now ≡ fixed_size) × (wrong ≤ 1000) }
-    ensures { result ≡ value_refusal message count fixed.now bits.now held.now wrong }
+    ensures { result ≡ outcome (value_refusal message count fixed.now bits.now held.now wrong) }
 {
-    let fixed_at = orders::fixed_wrong(message, fixed);
-    if fixed_at != 0 {
-        return refusals::told(refusals::BAD_VALUE, fixed_at);
-    }
+    orders::check_fixed(message, fixed)?;
     let last = orders::count_at(message) + (count as usize);
     if !orders::middle_good(message, count, bits, held) {
-        return refusals::told(refusals::BAD_VALUE, last + 1);
+        return Err(Refusal::at(Reason::BadValue, last + 1));
     }
     if wrong != 0 {
         let size = orders::middle_size(message, count, bits, held);
-        return refusals::told(refusals::BAD_VALUE, last + size + wrong);
+        return Err(Refusal::at(Reason::BadValue, last + size + wrong));
     }
-    0
+    Ok(())
 }
 
 // The late ones, and 12: what is judged once all values are good.
-fn end_refusal(message: u8, count: u8, fixed: &[u8], bits: &[u8], slots: &[u8], rest: &[u8]) -> u32
+fn check_end(
+    message: u8,
+    count: u8,
+    fixed: &[u8],
+    bits: &[u8],
+    slots: &[u8],
+    rest: &[u8],
+) -> Result<(), Refusal>
     requires { (length fixed.now ≡ fixed_size) × (length bits.now ≡ most_bitfields) × (count ≤ most_bitfields) × (length slots.now ≡ layout_size) × (length rest.now ≡ layout_size) × (middle_good message count bits.now (drop (count_at message - 10) fixed.now) ≡ true) }
-    ensures { result ≡ end_refusal message count fixed.now bits.now slots.now rest.now }
+    ensures { result ≡ outcome (end_refusal message count fixed.now bits.now slots.now rest.now) }
 {
-    let late = orders::late_refusal(message, count, bits, slots);
-    if late != 0 {
-        return late;
-    }
+    orders::check_late(message, count, bits, slots)?;
     if !unused_zero(message, count, fixed, bits, rest) {
-        return refusals::NOT_ZERO;
+        return Err(Refusal::new(Reason::NotZero));
     }
-    0
+    Ok(())
 }
 
 // 8, 9, 10, the late 9, 23, 12, by what was seen of the selected fields, the layout's fields and what is left of the layout without the selected ones.
-fn seen_refusal(
+fn check_seen(
     message: u8,
     count: u8,
     fixed: &[u8],
@@ -159,23 +162,20 @@ fn seen_refusal(
     slots: &[u8],
     rest: &[u8],
     s: Seen,
-) -> u32
+) -> Result<(), Refusal>
     requires { (length fixed.now ≡ fixed_size) × (length bits.now ≡ most_bitfields) × (count ≤ most_bitfields) × (s.bad ≤ 100) × (s.wrong ≤ 1000) × (length slots.now ≡ layout_size) × (length rest.now ≡ layout_size) }
-    ensures { result ≡ seen_refusal message count fixed.now bits.now slots.now rest.now s }
+    ensures { result ≡ outcome (seen_refusal message count fixed.now bits.now slots.now rest.now s) }
 {
     let at = orders::count_at(message);
     if s.bad != 0 {
-        return refusals::told(refusals::UNLISTED_BIT, at + s.bad);
+        return Err(Refusal::at(Reason::UnlistedBit, at + s.bad));
     }
     if !block::has_required(message, bits, count) {
-        return refusals::told(refusals::NOT_SELECTED, at + (count as usize));
+        return Err(Refusal::at(Reason::NotSelected, at + (count as usize)));
     }
     let n = at - 10;
-    let value = value_refusal(message, count, fixed, bits, &fixed[n..], s.wrong);
-    if value != 0 {
-        return value;
-    }
-    end_refusal(message, count, fixed, bits, slots, rest)
+    check_values(message, count, fixed, bits, &fixed[n..], s.wrong)?;
+    check_end(message, count, fixed, bits, slots, rest)
 }
 
 // The bytes of a message in all, by those of its selected fields.
@@ -268,7 +268,7 @@ fn put_order(
     ensures { out.new ≡ patched out.old 0 (header_bytes (size - 2) (wire_type message) unit number ++ rest_bytes message count fixed.now bits.now slots.now) }
 {
     let named = orders::wire_type(message);
-    wire::header::write_header(out, (size - 2) as u16, named, unit, number);
+    let _ = wire::header::write_header(out, (size - 2) as u16, named, unit, number);
     put_rest(message, count, fixed, bits, slots, &mut out[10..]);
 }
 
@@ -282,34 +282,28 @@ fn write_parts(
     bits: &[u8],
     slots: &[u8],
     out: &mut [u8],
-) -> u32
+) -> Result<(), Refusal>
     requires { (length fixed.now ≡ fixed_size) × (length slots.now ≡ layout_size) × (length bits.now ≡ most_bitfields) }
-    ensures { (result ≡ write_refusal (record_from message unit number fixed.now count bits.now slots.now) (length out.old)) × (out.new ≡ write_buffer (record_from message unit number fixed.now count bits.now slots.now) out.old) }
+    ensures { (result ≡ outcome (write_refusal (record_from message unit number fixed.now count bits.now slots.now) (length out.old))) × (out.new ≡ write_buffer (record_from message unit number fixed.now count bits.now slots.now) out.old) }
 {
-    let top = top_refusal(message, unit, number, count);
-    if top != 0 {
-        return top;
-    }
+    check_top(message, unit, number, count)?;
     let mut rest = [0u8; block::LAYOUT];
     block::copy_layout(slots, &mut rest);
     let s = block_write::look_all(message, bits, count, &mut rest);
-    let seen = seen_refusal(message, count, fixed, bits, slots, &rest, s);
-    if seen != 0 {
-        return seen;
-    }
+    check_seen(message, count, fixed, bits, slots, &rest, s)?;
     let size = size_of(message, count, fixed, bits, s.total);
     if out.len() < size {
-        return refusals::NO_ROOM;
+        return Err(Refusal::new(Reason::NoRoom));
     }
     put_order(message, unit, number, fixed, count, bits, slots, size, out);
-    0
+    Ok(())
 }
 
-// Writes a record, which is the first RECORD bytes given: 0, and the buffer begins with the message's bytes and is otherwise as it was; or the
+// Writes a record, which is the first RECORD bytes given: Ok, and the buffer begins with the message's bytes and is otherwise as it was; or the
 // refusal (4, 5, 7, 8, 9, 10, the late 9, 23, 12 or 13; 7 to 10 with the place in the message that would be written), and the buffer is as it was.
-pub fn write_order(given: &[u8], out: &mut [u8]) -> u32
+pub fn write_order(given: &[u8], out: &mut [u8]) -> Result<(), Refusal>
     requires { record_size ≤ length given.now }
-    ensures { (result ≡ write_refusal (record_at given.now) (length out.old)) × (out.new ≡ write_buffer (record_at given.now) out.old) }
+    ensures { (result ≡ outcome (write_refusal (record_at given.now) (length out.old))) × (out.new ≡ write_buffer (record_at given.now) out.old) }
 {
     let number = numbers::read_u32(&given[0..6], 2);
     write_parts(

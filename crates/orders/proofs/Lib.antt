@@ -4,3 +4,4 @@ pub mod LateSums
 pub mod MarketLaws
 pub mod OrderLaws
 pub mod RoundTrip
+pub mod Refusing

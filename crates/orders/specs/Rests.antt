@@ -5,6 +5,12 @@ use Rattle.kinds.specs.declared.Kind.TheVariants.{Alphanumeric, Text, Identifier
 use Rattle.kinds.specs.Kinds.{agrees_of, agrees_filled_of}
 use Rattle.numbers.specs.Numbers.{number_at}
 use Rattle.dictionary.specs.Dictionary.{is_new_order}
+use Rattle.refusals.specs.Names.{bad_value}
+use Rattle.refusals.specs.Told.{told}
+
+-- 10 at the place of a bad field; 0 where the place is 0, which tells of none
+abbrev pub bad_at : ℕ → ℕ
+bad_at place = cond (eqb place 0) 0 (told bad_value place)
 
 -- where the identifier stands in it: at 0 in the member's messages, at 8, after TransactionTime, in the venue's
 unfoldable pub name_at : ℕ → ℕ

@@ -8,13 +8,15 @@ ghost use Rattle.block.specs.Sizes.{layout_size};
 ghost use Rattle.orders.specs.Shapes.{of_member, sequenced, unsequenced, of_venue, count_at, most_of, unit_good};
 ghost use Rattle.orders.specs.Markets.{new_order_of, of_market, record_type, wire_type};
 ghost use Rattle.orders.specs.FixedFields.{fixed_wrong};
-ghost use Rattle.orders.specs.Rests.{name_at, new_order_rest, modify_order_rest, execution_rest, rejection_rest};
+ghost use Rattle.orders.specs.Rests.{bad_at, name_at, new_order_rest, modify_order_rest, execution_rest, rejection_rest};
 ghost use Rattle.orders.specs.Middle.{middle_size, middle_good};
 ghost use Rattle.orders.specs.Late.{market, char_f, char_s, char_b, char_l, late_refusal};
 ghost use Rattle.orders.specs.LateBytes.{modify_late, purge_needs, purge_clash, purge_late};
 ghost use Rattle.orders.specs.Orders.{blank};
+ghost use Rattle.refusals.specs.Outcomes.{outcome};
 
 use kinds::Kind;
+use refusals::{Reason, Refusal};
 use table::Unit;
 
 // The record of such a message. `fixed` is the fixed part as on the wire, from byte 10 up to the count byte, and zero after it; `slots`
@@ -199,7 +201,7 @@ pub fn unit_good(message: u8, unit: u8, number: u32) -> bool
     if is_unsequenced(message) {
         return both_zero(unit, number);
     }
-    table::unit_refusal(Unit(unit)) == 0
+    table::check_unit(Unit(unit)).is_ok()
 }
 
 // Where the identifier stands in the fixed part: ClOrdID, or OrigClOrdID of Cancel Order.
@@ -214,86 +216,90 @@ fn name_at(message: u8) -> usize
     }
 }
 
-// New Order, after ClOrdID: Side not blank and of its kind, OrderQty from 1 to 999,999. 0, or the place of the first that is not so.
-fn new_order_rest(f: &[u8]) -> usize
+// New Order, after ClOrdID: Side not blank and of its kind, OrderQty from 1 to 999,999. Ok; or 10 at the first that is not so.
+#[tactic(auto, unfolding(refusals::specs::Outcomes::outcome_with))]
+fn check_new_order(f: &[u8]) -> Result<(), Refusal>
     requires { 25 ≤ length f.now }
-    ensures { result ≡ new_order_rest f.now }
+    ensures { result ≡ outcome (bad_at (new_order_rest f.now)) }
 {
     if !kinds::agrees_filled(Kind::Alphanumeric, &f[20..21]) {
-        return 30;
+        return Err(Refusal::at(Reason::BadValue, 30));
     }
     let quantity = numbers::read_u32(&f[21..25], 0);
     if quantity < 1 {
-        return 31;
+        return Err(Refusal::at(Reason::BadValue, 31));
     }
     if 999999 < quantity {
-        return 31;
+        return Err(Refusal::at(Reason::BadValue, 31));
     }
-    0
+    Ok(())
 }
 
-// Modify Order, after ClOrdID: OrigClOrdID. 0, or its place where it is not an identifier.
-fn modify_order_rest(f: &[u8]) -> usize
+// Modify Order, after ClOrdID: OrigClOrdID. Ok; or 10 at its place where it is not an identifier.
+#[tactic(auto, unfolding(refusals::specs::Outcomes::outcome_with))]
+fn check_modify_order(f: &[u8]) -> Result<(), Refusal>
     requires { 40 ≤ length f.now }
-    ensures { result ≡ modify_order_rest f.now }
+    ensures { result ≡ outcome (bad_at (modify_order_rest f.now)) }
 {
     if !kinds::agrees_filled(Kind::Identifier, &f[20..40]) {
-        return 30;
+        return Err(Refusal::at(Reason::BadValue, 30));
     }
-    0
+    Ok(())
 }
 
-// Order Execution, after ClOrdID: BaseLiquidityIndicator, SubLiquidityIndicator and ContraBroker of their kinds. 0, or the place of the first that is not.
-fn execution_rest(f: &[u8]) -> usize
+// Order Execution, after ClOrdID: BaseLiquidityIndicator, SubLiquidityIndicator and ContraBroker of their kinds. Ok; or 10 at the first that is not.
+#[tactic(auto, unfolding(refusals::specs::Outcomes::outcome_with))]
+fn check_execution(f: &[u8]) -> Result<(), Refusal>
     requires { 58 ≤ length f.now }
-    ensures { result ≡ execution_rest f.now }
+    ensures { result ≡ outcome (bad_at (execution_rest f.now)) }
 {
     if !kinds::agrees(Kind::Alphanumeric, &f[52..53]) {
-        return 62;
+        return Err(Refusal::at(Reason::BadValue, 62));
     }
     if !kinds::agrees(Kind::Alphanumeric, &f[53..54]) {
-        return 63;
+        return Err(Refusal::at(Reason::BadValue, 63));
     }
     if !kinds::agrees(Kind::Alphanumeric, &f[54..58]) {
-        return 64;
+        return Err(Refusal::at(Reason::BadValue, 64));
     }
-    0
+    Ok(())
 }
 
-// A rejection, after ClOrdID: the reason and Text of their kind. 0, or the place of the first that is not.
-fn rejection_rest(f: &[u8]) -> usize
+// A rejection, after ClOrdID: the reason and Text of their kind. Ok; or 10 at the first that is not.
+#[tactic(auto, unfolding(refusals::specs::Outcomes::outcome_with))]
+fn check_rejection(f: &[u8]) -> Result<(), Refusal>
     requires { 89 ≤ length f.now }
-    ensures { result ≡ rejection_rest f.now }
+    ensures { result ≡ outcome (bad_at (rejection_rest f.now)) }
 {
     if !kinds::agrees(Kind::Text, &f[28..29]) {
-        return 38;
+        return Err(Refusal::at(Reason::BadValue, 38));
     }
     if !kinds::agrees(Kind::Text, &f[29..89]) {
-        return 39;
+        return Err(Refusal::at(Reason::BadValue, 39));
     }
-    0
+    Ok(())
 }
 
-// The place in the message of the first field of a fixed part whose value is against its kind or range; 0 where there is none. More bytes may follow
+// 10 at the place in the message of the first field of a fixed part whose value is against its kind or range; Ok where there is none. More bytes may follow
 // the fixed part. Every type but Purge Orders has an identifier, never blank; Cancel Order and Order Acknowledgment have nothing else to test.
-pub fn fixed_wrong(message: u8, f: &[u8]) -> usize
+pub fn check_fixed(message: u8, f: &[u8]) -> Result<(), Refusal>
     requires { count_at message ≤ length f.now + 10 }
-    ensures { result ≡ fixed_wrong message f.now }
+    ensures { result ≡ outcome (bad_at (fixed_wrong message f.now)) }
 {
     if message == 0x47 {
-        return 0;
+        return Ok(());
     }
     let at = name_at(message);
     if !kinds::identifies(&f[at..at + 20]) {
-        return 10 + at;
+        return Err(Refusal::at(Reason::BadValue, 10 + at));
     }
     match message {
-        0x38 | 0xB8 => new_order_rest(f),
-        0x39 => 0,
-        0x25 => 0,
-        0x2C => execution_rest(f),
-        0x3A => modify_order_rest(f),
-        _ => rejection_rest(f),
+        0x38 | 0xB8 => check_new_order(f),
+        0x39 => Ok(()),
+        0x25 => Ok(()),
+        0x2C => check_execution(f),
+        0x3A => check_modify_order(f),
+        _ => check_rejection(f),
     }
 }
 
@@ -409,40 +415,49 @@ fn purge_orders_conflicts(count: u8, bits: &[u8], first: u8, third: u8, unit: u8
 }
 
 // What is judged of a Modify Order after 10, by OrdType's byte: 9, at the last bitfield byte, where Price is needed.
-pub fn modify_late(count: u8, bits: &[u8], kind: u8) -> u32
+#[tactic(auto, unfolding(refusals::specs::Outcomes::outcome_with, crate::specs::LateBytes::modify_late))]
+pub fn check_modify_late(count: u8, bits: &[u8], kind: u8) -> Result<(), Refusal>
     requires { count ≤ length bits.now }
-    ensures { result ≡ modify_late count bits.now kind }
+    ensures { result ≡ outcome (modify_late count bits.now kind) }
 {
     if modify_order_lacks(count, bits, kind) {
-        return refusals::told(refusals::NOT_SELECTED, 50 + (count as usize));
+        return Err(Refusal::at(Reason::NotSelected, 50 + (count as usize)));
     }
-    0
+    Ok(())
 }
 
 // What is judged of a Purge Orders after 10, by the first three characters of MassCancelInst and MatchingUnit: 9 for a field that they need, at the last
 // bitfield byte; 23 for those that do not go together.
-pub fn purge_late(count: u8, bits: &[u8], first: u8, second: u8, third: u8, unit: u8) -> u32
+#[tactic(auto, unfolding(refusals::specs::Outcomes::outcome_with, crate::specs::LateBytes::purge_late))]
+pub fn check_purge_late(
+    count: u8,
+    bits: &[u8],
+    first: u8,
+    second: u8,
+    third: u8,
+    unit: u8,
+) -> Result<(), Refusal>
     requires { count ≤ length bits.now }
-    ensures { result ≡ purge_late count bits.now first second third unit }
+    ensures { result ≡ outcome (purge_late count bits.now first second third unit) }
 {
     if purge_orders_lacks(count, bits, first, second) {
-        return refusals::told(refusals::NOT_SELECTED, 11 + (count as usize));
+        return Err(Refusal::at(Reason::NotSelected, 11 + (count as usize)));
     }
     if purge_orders_conflicts(count, bits, first, third, unit) {
-        return refusals::CONFLICT;
+        return Err(Refusal::new(Reason::Conflict));
     }
-    0
+    Ok(())
 }
 
 // The same of a full layout, whatever the message: the others have no late refusal.
-pub fn late_refusal(message: u8, count: u8, bits: &[u8], slots: &[u8]) -> u32
+pub fn check_late(message: u8, count: u8, bits: &[u8], slots: &[u8]) -> Result<(), Refusal>
     requires { (count ≤ length bits.now) × (length slots.now ≡ layout_size) }
-    ensures { result ≡ late_refusal message count bits.now slots.now }
+    ensures { result ≡ outcome (late_refusal message count bits.now slots.now) }
 {
     match message {
-        0x3A => modify_late(count, bits, slots[16]),
-        0x47 => purge_late(count, bits, slots[4], slots[5], slots[6], slots[56]),
-        _ => 0,
+        0x3A => check_modify_late(count, bits, slots[16]),
+        0x47 => check_purge_late(count, bits, slots[4], slots[5], slots[6], slots[56]),
+        _ => Ok(()),
     }
 }
 

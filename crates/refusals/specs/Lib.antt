@@ -1,4 +1,9 @@
 pub mod Names
+pub mod Reasons
+pub mod ReasonLaws
+pub mod RefusalLaws
+pub mod Outcomes
+pub mod OutcomeLaws
 pub mod OneAnswer
 pub mod Told
 pub mod ToldLaws

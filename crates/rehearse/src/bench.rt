@@ -1,7 +1,9 @@
 // The bench: our gateway's session and the venue, by value, while the book's and the log's bytes are lent; and what passes between the two.
-use crate::{forms, replays, say, told, written};
-use asking::writing;
+use crate::forms::Form;
+use crate::say::Who;
+use crate::{replays, say, told, written};
 use orders::Market;
+use refusals::Refusal;
 use session::{Session, Told};
 use std::io;
 use table::Table;
@@ -23,153 +25,139 @@ pub struct Bench {
     pub heard: u32,
 }
 
-// The bench at an hour and minute of the day.
-pub fn at(b: Bench, hour: u8, minute: u8) -> Bench {
-    let mut next = b;
-    next.clock = ((hour as u32) * 60 + (minute as u32)) * 60000;
-    next
-}
+impl Bench {
+    // The bench at an hour and minute of the day.
+    pub fn at(self, hour: u8, minute: u8) -> Bench {
+        Bench {
+            clock: (u32::from(hour) * 60 + u32::from(minute)) * 60000,
+            ..self
+        }
+    }
 
-// The bench so many milliseconds later.
-pub fn later(b: Bench, milliseconds: u32) -> Bench {
-    let mut next = b;
-    next.clock = std::num::wrapping_add_u32(b.clock, milliseconds);
-    next
-}
+    // The bench so many milliseconds later.
+    pub fn later(self, milliseconds: u32) -> Bench {
+        Bench {
+            clock: self.clock.wrapping_add(milliseconds),
+            ..self
+        }
+    }
 
-// The bench with our session in another state.
-pub fn with_session(b: Bench, s: Session) -> Bench {
-    let v = b.venue;
-    let held = b.held;
-    Bench {
-        session: s,
-        venue: v,
-        held: held,
-        clock: b.clock,
-        sent: b.sent,
-        heard: b.heard,
+    // The bench with our session in another state.
+    pub fn with_session(self, session: Session) -> Bench {
+        Bench { session, ..self }
+    }
+
+    // The bench with the venue in another state.
+    pub fn with_venue(self, venue: Venue) -> Bench {
+        Bench { venue, ..self }
+    }
+
+    // The bench after our gateway sent something.
+    pub fn after_sending(self, session: Session) -> Bench {
+        Bench {
+            session,
+            sent: self.clock,
+            ..self
+        }
+    }
+
+    // The bench after our gateway heard something.
+    fn after_hearing(self, session: Session) -> Bench {
+        Bench {
+            session,
+            heard: self.clock,
+            ..self
+        }
+    }
+
+    // Our book's table.
+    pub fn table(self) -> Table {
+        self.session.book.table
+    }
+
+    // The market that our gateway serves.
+    pub fn market(self) -> Market {
+        self.session.market
+    }
+
+    // Our book's length.
+    pub fn book_length(self) -> u32 {
+        self.session.book.length
     }
 }
 
-// The bench with the venue in another state.
-pub fn with_venue(b: Bench, v: Venue) -> Bench {
-    let mut next = b;
-    next.venue = v;
-    next
-}
-
-// The bench after our gateway sent something.
-pub fn sent(b: Bench, s: Session) -> Bench {
-    let mut next = with_session(b, s);
-    next.sent = b.clock;
-    next
-}
-
-// The bench after our gateway heard something.
-fn heard(b: Bench, s: Session) -> Bench {
-    let mut next = with_session(b, s);
-    next.heard = b.clock;
-    next
-}
-
-// Our book's table.
-pub fn table_of(b: Bench) -> Table {
-    let s = b.session;
-    let book = s.book;
-    book.table
-}
-
-// The market that our gateway serves.
-pub fn market_of(b: Bench) -> Market {
-    let s = b.session;
-    s.market
-}
-
-// Our book's length.
-pub fn length_of(b: Bench) -> u32 {
-    let s = b.session;
-    let book = s.book;
-    book.length
-}
-
 // Which units a login lists.
-fn lists(rt: &impl Print, full: bool) -> io::Result<()> {
-    if full {
-        writing::text(rt, b"logs in with the full list of 32 units")
-    } else {
-        writing::text(rt, b"logs in with its units above 0")
+fn listed(form: Form) -> &'static str {
+    match form {
+        Form::AllUnits => "the full list of 32 units",
+        Form::UsedUnits => "its units above 0",
     }
 }
 
 // Our gateway sends its login in a form.
-fn asks(rt: &impl Print, b: Bench, full: bool, up: &mut [u8]) -> io::Result<Bench> {
-    let s = b.session;
-    let answer = s.login(
-        forms::choice(full),
+fn asks(rt: &impl Print, b: Bench, form: Form, up: &mut [u8]) -> io::Result<Bench> {
+    let asked = b.session.login(
+        form.choice(),
         written::names(),
         written::acknowledgment_fields(),
         written::execution_fields(),
         up,
     );
-    say::gateway(rt, b.clock)?;
-    if answer.refusal != 0 {
-        writing::text(rt, b"may not log in: ")?;
-        say::refusal(rt, answer.refusal)?;
+    say::row(rt, b.clock, Who::Gateway)?;
+    if let Err(refusal) = asked {
+        println!(rt; "may not log in: {}", say::Refused(refusal))?;
     } else {
-        lists(rt, full)?;
+        print!(rt; "logs in with {}", listed(form))?;
         told::size(rt, up)?;
-        writing::text(rt, b"; it claims: ")?;
-        say::table(rt, table_of(b))?;
+        println!(rt; "; it claims: {}", say::Numbers(b.table()))?;
     }
-    writing::line_end(rt)?;
-    Ok(sent(b, answer.session))
+    Ok(b.after_sending(asked.unwrap_or(b.session)))
 }
 
 // The venue takes the login, and answers it.
 fn answers(rt: &impl Print, b: Bench, up: &[u8], down: &mut [u8]) -> io::Result<Bench> {
-    let v = b.venue;
-    let held = v.table;
-    let answer = v.login(up, down);
-    say::venue(rt, b.clock)?;
-    if answer.refusal != 0 {
-        writing::text(rt, b"does not take the login: ")?;
-        say::refusal(rt, answer.refusal)?;
+    let held = b.venue.table;
+    let answered = b.venue.login(up, down);
+    say::row(rt, b.clock, Who::Venue)?;
+    if let Err(refusal) = answered {
+        println!(rt; "does not take the login: {}", say::Refused(refusal))?;
     } else {
-        writing::text(rt, b"answers ")?;
+        rt.print("answers ")?;
         told::response(rt, down)?;
-        writing::text(rt, b"; its log: ")?;
-        say::table(rt, held)?;
+        println!(rt; "; its log: {}", say::Numbers(held))?;
     }
-    writing::line_end(rt)?;
-    let mut next = with_venue(b, answer.venue);
-    next.held = held;
-    Ok(next)
+    Ok(Bench {
+        venue: answered.map_or(b.venue, |sent| sent.venue),
+        held,
+        ..b
+    })
 }
 
 // Our gateway logs in on a new line, with the full list of units or with no choice of them, the venue answers, and the answer arrives.
-pub fn logs_in(rt: &impl Print, b: Bench, full: bool, book: &mut Room) -> io::Result<Bench> {
+pub fn logs_in(rt: &impl Print, b: Bench, form: Form, book: &mut Room) -> io::Result<Bench> {
     let mut up = [0u8; 600];
     let mut down = [0u8; 600];
-    let asked = asks(rt, b, full, &mut up)?;
-    let answered = answers(rt, later(asked, 10), &up, &mut down)?;
-    receives(rt, later(answered, 10), &down, book)
+    let asked = asks(rt, b, form, &mut up)?;
+    let answered = answers(rt, asked.later(10), &up, &mut down)?;
+    receives(rt, answered.later(10), &down, book)
 }
 
 // The venue takes its next step, and what it sends arrives.
 pub fn delivers(rt: &impl Print, b: Bench, log: &Room, book: &mut Room) -> io::Result<Bench> {
     let mut down = [0u8; 2048];
-    let v = b.venue;
-    let answer = v.step(log, &mut down);
-    let stepped = later(with_venue(b, answer.venue), 10);
-    if answer.refusal != 0 {
-        say::venue(rt, stepped.clock)?;
-        say::refusal(rt, answer.refusal)?;
-        writing::line_end(rt)?;
-        return Ok(stepped);
-    }
-    if answer.sent == 0 {
-        say::venue(rt, stepped.clock)?;
-        say::note(rt, b"has nothing more to send")?;
+    let sent = match b.venue.step(log, &mut down) {
+        Ok(sent) => sent,
+        Err(refusal) => {
+            let waited = b.later(10);
+            say::row(rt, waited.clock, Who::Venue)?;
+            println!(rt; "{}", say::Refused(refusal))?;
+            return Ok(waited);
+        }
+    };
+    let stepped = b.with_venue(sent.venue).later(10);
+    if sent.sent == 0 {
+        say::row(rt, stepped.clock, Who::Venue)?;
+        println!(rt; "has nothing more to send")?;
         return Ok(stepped);
     }
     receives(rt, stepped, &down, book)
@@ -178,57 +166,57 @@ pub fn delivers(rt: &impl Print, b: Bench, log: &Room, book: &mut Room) -> io::R
 // The venue takes its next step, and what it sends is lost: the line breaks before it arrives.
 pub fn loses(rt: &impl Print, b: Bench, log: &Room) -> io::Result<Bench> {
     let mut down = [0u8; 2048];
-    let v = b.venue;
-    let answer = v.step(log, &mut down);
-    let stepped = later(with_venue(b, answer.venue), 10);
-    say::venue(rt, stepped.clock)?;
-    writing::text(rt, b"sends ")?;
+    let after = b
+        .venue
+        .step(log, &mut down)
+        .map_or(b.venue, |sent| sent.venue);
+    let stepped = b.with_venue(after).later(10);
+    say::row(rt, stepped.clock, Who::Venue)?;
+    rt.print("sends ")?;
     told::report(rt, &down)?;
-    say::note(rt, b", which never arrives")?;
+    println!(rt; ", which never arrives")?;
     Ok(stepped)
 }
 
 // The venue sends a rejection, and it arrives.
 pub fn rejects(rt: &impl Print, b: Bench, bytes: &[u8], book: &mut Room) -> io::Result<Bench> {
-    say::venue(rt, b.clock)?;
-    writing::text(rt, b"sends ")?;
+    say::row(rt, b.clock, Who::Venue)?;
+    rt.print("sends ")?;
     told::rejection(rt, bytes)?;
     told::size(rt, bytes)?;
-    say::note(rt, b", which is neither numbered nor logged")?;
-    receives(rt, later(b, 10), bytes, book)
+    println!(rt; ", which is neither numbered nor logged")?;
+    receives(rt, b.later(10), bytes, book)
 }
 
 // Bytes of the venue's arrive at our gateway.
 pub fn receives(rt: &impl Print, b: Bench, bytes: &[u8], book: &mut Room) -> io::Result<Bench> {
-    let s = b.session;
-    let answer = s.receive(bytes, book);
-    let told = answer.told;
-    let next = heard(b, answer.session);
-    say::gateway(rt, b.clock)?;
-    if answer.refusal != 0 {
-        refuses(rt, next, bytes, answer.refusal)?;
-    } else {
-        told_of(rt, next, told, bytes, book)?;
+    let answer = b.session.receive(bytes, book);
+    say::row(rt, b.clock, Who::Gateway)?;
+    match answer {
+        Ok((heard, told)) => {
+            let next = b.after_hearing(heard);
+            told_of(rt, next, told, bytes, book)?;
+            Ok(next)
+        }
+        Err(refusal) => {
+            let next = b.after_hearing(b.session);
+            refuses(rt, next, bytes, refusal)?;
+            Ok(next)
+        }
     }
-    Ok(next)
 }
 
 // A message is refused: the book and its table, which stay as they were.
-fn refuses(rt: &impl Print, b: Bench, bytes: &[u8], refusal: u32) -> io::Result<()> {
-    writing::text(rt, b"gets ")?;
+fn refuses(rt: &impl Print, b: Bench, bytes: &[u8], refusal: Refusal) -> io::Result<()> {
+    rt.print("gets ")?;
     told::report(rt, bytes)?;
-    writing::text(rt, b": ")?;
-    say::refusal(rt, refusal)?;
-    writing::line_end(rt)?;
+    println!(rt; ": {}", say::Refused(refusal))?;
     say::further(rt)?;
-    say::count(
-        rt,
-        b"book still ",
-        length_of(b) as u64,
-        b" bytes, table still: ",
-    )?;
-    say::table(rt, table_of(b))?;
-    writing::line_end(rt)
+    println!(rt;
+        "book still {} bytes, table still: {}",
+        b.book_length(),
+        say::Numbers(b.table())
+    )
 }
 
 // A message is taken: what became of it.
@@ -245,95 +233,83 @@ fn heard_of(rt: &impl Print, b: Bench, bytes: &[u8], book: &Room) -> io::Result<
     match wire::header::type_of(bytes) {
         0x24 => begins(rt, b),
         0x13 => replays::completes(rt, b),
-        0x09 => say::note(
-            rt,
-            b"hears a Server Heartbeat; book and table stay as they are",
-        ),
+        0x09 => println!(rt; "hears a Server Heartbeat; book and table stay as they are"),
         _ => logs_out(rt, b, bytes, book),
     }
 }
 
 // A rejection is handed to the desk.
 fn hands(rt: &impl Print, bytes: &[u8]) -> io::Result<()> {
-    writing::text(rt, b"hands the desk ")?;
+    rt.print("hands the desk ")?;
     told::rejection(rt, bytes)?;
-    say::note(rt, b"; book and table stay as they are")
+    println!(rt; "; book and table stay as they are")
 }
 
 // A message is in the book.
 fn books(rt: &impl Print, b: Bench, bytes: &[u8]) -> io::Result<()> {
-    writing::text(rt, b"books ")?;
+    rt.print("books ")?;
     told::report(rt, bytes)?;
-    writing::text(rt, b"; table: ")?;
-    say::table(rt, table_of(b))?;
-    writing::line_end(rt)
+    println!(rt; "; table: {}", say::Numbers(b.table()))
 }
 
 // The answer to the login has arrived.
 fn begins(rt: &impl Print, b: Bench) -> io::Result<()> {
     let s = b.session;
-    let phase = s.phase;
-    writing::text(rt, b"has the answer and is ")?;
-    say::phase(rt, phase)?;
-    let next = (s.outgoing.0 as u64) + 1;
-    say::count(rt, b"; its next order will have number ", next, b"\n")
+    let next = u64::from(s.outgoing.0) + 1;
+    println!(rt;
+        "has the answer and is {}; its next order will have number {next}",
+        say::phase(s.phase)
+    )
 }
 
 // A Logout has arrived.
 fn logs_out(rt: &impl Print, b: Bench, bytes: &[u8], book: &Room) -> io::Result<()> {
-    writing::text(rt, b"hears ")?;
+    rt.print("hears ")?;
     told::logout(rt, bytes)?;
-    writing::text(rt, b": session ")?;
+    rt.print(": session ")?;
     ends(rt, b, book)
 }
 
 // The session's end: its phase, and the mark that it left in the book.
 fn ends(rt: &impl Print, b: Bench, book: &Room) -> io::Result<()> {
     let s = b.session;
-    let phase = s.phase;
-    say::phase(rt, phase)?;
     let kept = s.book;
-    let start = kept.last as u64;
-    if start + 16 != kept.length as u64 {
-        say::note(rt, b", no room for a mark in the book")?;
-        return Ok(());
+    rt.print(say::phase(s.phase))?;
+    if u64::from(kept.last) + 16 != u64::from(kept.length) {
+        return println!(rt; ", no room for a mark in the book");
     }
-    say::count(
-        rt,
-        b", mark in the book: ",
-        kept.count as u64,
-        b" messages so far, ",
-    )?;
     let back = numbers::read_u32(book, (kept.last as usize) + 12);
-    say::count(rt, b"", back as u64, b" bytes back to the mark before\n")
+    println!(rt;
+        ", mark in the book: {} messages so far, {back} bytes back to the mark before",
+        kept.count
+    )
 }
 
 // The line breaks, and both sides see it.
 pub fn breaks(rt: &impl Print, b: Bench, book: &mut Room) -> io::Result<Bench> {
-    say::line(rt, b.clock)?;
-    say::note(rt, b"breaks")?;
-    let s = b.session;
-    let v = b.venue;
-    let ended = s.broken(book);
-    let next = with_venue(with_session(b, ended), v.broken());
-    say::gateway(rt, b.clock)?;
-    writing::text(rt, b"sees the break: session ")?;
+    say::row(rt, b.clock, Who::Line)?;
+    println!(rt; "breaks")?;
+    let next = Bench {
+        session: b.session.broken(book),
+        venue: b.venue.broken(),
+        ..b
+    };
+    say::row(rt, b.clock, Who::Gateway)?;
+    rt.print("sees the break: session ")?;
     ends(rt, next, book)?;
     Ok(next)
 }
 
 // The venue logs a message.
 pub fn logs(rt: &impl Print, b: Bench, bytes: &[u8], log: &mut Room) -> io::Result<Bench> {
-    let v = b.venue;
-    let answer = v.log(bytes, log);
-    say::venue(rt, b.clock)?;
-    writing::text(rt, b"logs ")?;
+    let logged = b.venue.log(bytes, log);
+    say::row(rt, b.clock, Who::Venue)?;
+    rt.print("logs ")?;
     told::report(rt, bytes)?;
     told::size(rt, bytes)?;
-    if answer.refusal != 0 {
-        writing::text(rt, b": ")?;
-        say::refusal(rt, answer.refusal)?;
+    if let Err(refusal) = logged {
+        print!(rt; ": {}", say::Refused(refusal))?;
     }
-    writing::line_end(rt)?;
-    Ok(with_venue(b, answer.venue))
+    println!(rt)?;
+    Ok(b.with_venue(logged.unwrap_or(b.venue)))
 }

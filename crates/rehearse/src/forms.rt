@@ -1,10 +1,28 @@
 // The two forms of a login with the whole table: the units above 0, where no choice is given, and the full list by name.
 use crate::bench::{Bench, Room};
+use crate::say::Who;
 use crate::{say, written};
-use asking::writing;
+use refusals::Refusal;
 use session_logins::Choice;
 use std::io;
-use venue::Venue;
+use venue::{Sent, Venue};
+
+// The forms: the units above 0, and all 32.
+#[derive(Clone, Copy)]
+pub enum Form {
+    UsedUnits,
+    AllUnits,
+}
+
+impl Form {
+    // The choice of units of a form.
+    pub fn choice(self) -> Choice {
+        match self {
+            Form::UsedUnits => session_logins::no_choice(),
+            Form::AllUnits => session_logins::all_units(),
+        }
+    }
+}
 
 // Two venues, the messages that the first has sent, and whether the other has sent the same bytes.
 #[derive(Clone, Copy)]
@@ -15,105 +33,73 @@ struct Pair {
     same: bool,
 }
 
-// The choice of units of a form.
-pub fn choice(full: bool) -> Choice {
-    if full {
-        return session_logins::all_units();
-    }
-    session_logins::no_choice()
-}
-
 // The login in a form, into the front of a buffer, and the venue after it.
-fn taken(b: Bench, full: bool, up: &mut [u8]) -> Venue {
-    let s = b.session;
-    let v = b.venue;
-    s.login(
-        choice(full),
+fn taken(b: Bench, form: Form, up: &mut [u8]) -> Venue {
+    let _ = b.session.login(
+        form.choice(),
         written::names(),
         written::acknowledgment_fields(),
         written::execution_fields(),
         up,
     );
     let mut down = [0u8; 600];
-    let answer = v.login(up, &mut down);
-    answer.venue
+    b.venue
+        .login(up, &mut down)
+        .map_or(b.venue, |sent| sent.venue)
 }
 
-// One message more, if one was sent.
-fn counted(sent: u8, length: u32) -> u8 {
-    if length == 0 {
-        return sent;
-    }
-    std::num::wrapping_add_u8(sent, 1)
+// What a step of a venue brings: the venue after it, and whether it sent a message; as it was, where it is refused.
+fn after(v: Venue, step: Result<Sent, Refusal>) -> (Venue, bool) {
+    step.map_or((v, false), |sent| (sent.venue, sent.sent != 0))
 }
 
 // A step of both.
 fn steps(p: Pair, log: &Room) -> Pair {
     let mut down = [0u8; 2048];
     let mut beside = [0u8; 2048];
-    let one = p.one;
-    let other = p.other;
-    let x = one.step(log, &mut down);
-    let y = other.step(log, &mut beside);
-    let alike = down == beside;
-    let one_after = x.venue;
-    let other_after = y.venue;
+    let (one, sent) = after(p.one, p.one.step(log, &mut down));
+    let (other, _) = after(p.other, p.other.step(log, &mut beside));
     Pair {
-        one: one_after,
-        other: other_after,
-        sent: counted(p.sent, x.sent),
-        same: p.same & alike,
+        one,
+        other,
+        sent: p.sent.wrapping_add(u8::from(sent)),
+        same: p.same && down == beside,
     }
 }
 
 // So many steps that the venue has nothing more to send.
 fn all_steps(p: Pair, log: &Room) -> Pair {
-    let two = steps(steps(p, log), log);
-    let four = steps(steps(two, log), log);
-    steps(steps(four, log), log)
+    (0..6).fold(p, |p, _| steps(p, log))
 }
 
 // The length of the first message.
-fn length_in(bytes: &[u8]) -> u64 {
-    let m = wire::frame(bytes);
-    m.len() as u64
+fn length_in(bytes: &[u8]) -> usize {
+    wire::frame(bytes).len()
 }
 
 // Both forms are tried from one and the same state, of which nothing is kept: what the venue sends after either.
 pub fn compares(rt: &impl Print, b: Bench, log: &Room) -> io::Result<()> {
     let mut short = [0u8; 600];
     let mut full = [0u8; 600];
-    let one = taken(b, false, &mut short);
-    let other = taken(b, true, &mut full);
     let started = Pair {
-        one: one,
-        other: other,
+        one: taken(b, Form::UsedUnits, &mut short),
+        other: taken(b, Form::AllUnits, &mut full),
         sent: 0,
         same: true,
     };
     let p = all_steps(started, log);
-    say::gateway(rt, b.clock)?;
-    say::count(
-        rt,
-        b"compares both forms of its login: ",
-        length_in(&short),
-        b"",
+    say::row(rt, b.clock, Who::Gateway)?;
+    print!(rt;
+        "compares both forms of its login: {} bytes with its units above 0, ",
+        length_in(&short)
     )?;
-    say::count(
-        rt,
-        b" bytes with its units above 0, ",
-        length_in(&full),
-        b" with all 32; ",
-    )?;
+    print!(rt; "{} with all 32; ", length_in(&full))?;
     if p.same {
-        say::count(
-            rt,
-            b"after either the venue would send the same ",
-            p.sent as u64,
-            b" messages, byte for byte",
-        )?;
+        println!(rt;
+            "after either the venue would send the same {} messages, byte for byte",
+            p.sent
+        )
     } else {
-        writing::text(rt, b"AFTER THE TWO THE VENUE WOULD NOT SEND THE SAME")?;
+        println!(rt; "AFTER THE TWO THE VENUE WOULD NOT SEND THE SAME")
     }
-    writing::line_end(rt)
 }

@@ -17,21 +17,17 @@ use std::io;
 
 // What the rows mean.
 fn preface(rt: &impl Print) -> io::Result<()> {
-    say::note(
-        rt,
-        b"One trading day, rehearsed: our order gateway against the bench venue. Each step is a call of the proved core.",
+    println!(rt;
+        "One trading day, rehearsed: our order gateway against the bench venue. Each step is a call of the proved core."
     )?;
-    say::note(
-        rt,
-        b"A row says when, who, and what. The venue numbers its messages unit by unit: 'unit 1 at 3' says that message 3 is the",
+    println!(rt;
+        "A row says when, who, and what. The venue numbers its messages unit by unit: 'unit 1 at 3' says that message 3 is the"
     )?;
-    say::note(
-        rt,
-        b"last one held of unit 1, and units at 0 are left out. The day book holds the venue's messages, and a mark from its",
+    println!(rt;
+        "last one held of unit 1, and units at 0 are left out. The day book holds the venue's messages, and a mark from its"
     )?;
-    say::note(
-        rt,
-        b"opening and from each session's end. A refusal comes with its number and what it means.",
+    println!(rt;
+        "opening and from each session's end. A refusal comes with its number and what it means."
     )
 }
 

@@ -8,11 +8,12 @@ pub const BUY: u8 = b'1';
 
 pub const SELL: u8 = b'2';
 
-// A text filled up with NULs to the 20 characters of an identifier.
-fn identifier(text: &[u8]) -> [u8; 20] {
-    let mut field = [0u8; 20];
-    if text.len() <= 20 {
-        block::copy(text, &mut field);
+// A text filled up with NULs to a field's length; no text where it is longer.
+fn filled<const N: usize>(text: &[u8]) -> [u8; N] {
+    let mut field = [0; N];
+    let n = text.len();
+    if n <= N {
+        field[..n].copy_from_slice(text);
     }
     field
 }
@@ -29,15 +30,15 @@ fn started(message: u8, unit: u8, number: u32) -> Record {
 // Writes a record's message.
 fn write(r: Record, out: &mut [u8]) {
     let mut given = [0u8; block::RECORD];
-    order_records::store(r, &mut given);
-    order_writer::write_order(&given, out);
+    let _ = order_records::store(r, &mut given);
+    let _ = order_writer::write_order(&given, out);
 }
 
 // An Order Acknowledgment: the venue has the order, at this price.
 pub fn acknowledgment(unit: u8, number: u32, id: &[u8], price: i64, out: &mut [u8]) {
     let r = started(0x25, unit, number);
     let timed = order_fields::acknowledgment::with_transaction_time(r, 1755590400000000000);
-    let named = order_fields::acknowledgment::with_cl_ord_id(timed, identifier(id));
+    let named = order_fields::acknowledgment::with_cl_ord_id(timed, filled(id));
     let known = order_fields::acknowledgment::with_order_id(named, 700000 + (number as u64));
     let priced = order_fields::acknowledgment::with_price(known, price);
     write(priced, out);
@@ -55,7 +56,7 @@ pub fn execution(
 ) {
     let r = started(0x2C, unit, number);
     let timed = order_fields::execution::with_transaction_time(r, 1755590400000000000);
-    let named = order_fields::execution::with_cl_ord_id(timed, identifier(id));
+    let named = order_fields::execution::with_cl_ord_id(timed, filled(id));
     let known = order_fields::execution::with_exec_id(named, 900000 + (number as u64));
     let filled = order_fields::execution::with_last_shares(known, shares);
     let priced = order_fields::execution::with_last_px(filled, price);
@@ -63,23 +64,14 @@ pub fn execution(
     write(rest, out);
 }
 
-// A text filled up with NULs to the 60 characters of a rejection's.
-fn explained(text: &[u8]) -> [u8; 60] {
-    let mut field = [0u8; 60];
-    if text.len() <= 60 {
-        block::copy(text, &mut field);
-    }
-    field
-}
-
 // An Order Rejected: the venue does not take the order, for a reason.
 pub fn order_rejected(id: &[u8], reason: u8, text: &[u8], out: &mut [u8]) {
     let r = started(0x26, 0, 0);
     let timed = order_fields::rejection::with_transaction_time(r, 1755590400000000000);
-    let named = order_fields::rejection::with_cl_ord_id(timed, identifier(id));
+    let named = order_fields::rejection::with_cl_ord_id(timed, filled(id));
     let reasoned = order_fields::rejection::with_order_reject_reason(named, [reason]);
     write(
-        order_fields::rejection::with_text(reasoned, explained(text)),
+        order_fields::rejection::with_text(reasoned, filled(text)),
         out,
     );
 }
@@ -88,10 +80,10 @@ pub fn order_rejected(id: &[u8], reason: u8, text: &[u8], out: &mut [u8]) {
 pub fn cancel_rejected(id: &[u8], reason: u8, text: &[u8], out: &mut [u8]) {
     let r = started(0x2B, 0, 0);
     let timed = order_fields::cancel_rejection::with_transaction_time(r, 1755590400000000000);
-    let named = order_fields::cancel_rejection::with_cl_ord_id(timed, identifier(id));
+    let named = order_fields::cancel_rejection::with_cl_ord_id(timed, filled(id));
     let reasoned = order_fields::cancel_rejection::with_cancel_reject_reason(named, [reason]);
     write(
-        order_fields::cancel_rejection::with_text(reasoned, explained(text)),
+        order_fields::cancel_rejection::with_text(reasoned, filled(text)),
         out,
     );
 }
@@ -99,7 +91,7 @@ pub fn cancel_rejected(id: &[u8], reason: u8, text: &[u8], out: &mut [u8]) {
 // A New Order's record, as our desk hands it over: its number is given by the session.
 pub fn new_order(id: &[u8], side: u8, quantity: u32, price: i64) -> Record {
     let r = started(0x38, 0, 0);
-    let named = order_fields::new_order::with_cl_ord_id(r, identifier(id));
+    let named = order_fields::new_order::with_cl_ord_id(r, filled(id));
     let sided = order_fields::new_order::with_side(named, [side]);
     let sized = order_fields::new_order::with_order_qty(sided, quantity);
     let priced = order_fields::new_order::with_price(sized, price);
@@ -111,7 +103,7 @@ pub fn new_order(id: &[u8], side: u8, quantity: u32, price: i64) -> Record {
 // An options New Order's record: ten contracts on MSFT that open a position, a call (1) or a put (0).
 pub fn option(id: &[u8], side: u8, right: u8, maturity: u32, price: i64, strike: i64) -> Record {
     let r = started(0xB8, 0, 0);
-    let named = order_fields::options_order::with_cl_ord_id(r, identifier(id));
+    let named = order_fields::options_order::with_cl_ord_id(r, filled(id));
     let sided = order_fields::options_order::with_side(named, [side]);
     let sized = order_fields::options_order::with_order_qty(sided, 10);
     let priced = order_fields::options_order::with_price(sized, price);
@@ -127,8 +119,8 @@ pub fn option(id: &[u8], side: u8, right: u8, maturity: u32, price: i64, strike:
 // A Modify Order's record with all but a price: the order gets a new identifier and this quantity.
 fn modified(id: &[u8], orig: &[u8], quantity: u32) -> Record {
     let r = started(0x3A, 0, 0);
-    let named = order_fields::modify_order::with_cl_ord_id(r, identifier(id));
-    let meant = order_fields::modify_order::with_orig_cl_ord_id(named, identifier(orig));
+    let named = order_fields::modify_order::with_cl_ord_id(r, filled(id));
+    let meant = order_fields::modify_order::with_orig_cl_ord_id(named, filled(orig));
     order_fields::modify_order::with_order_qty(meant, quantity)
 }
 
@@ -147,14 +139,12 @@ pub fn unpriced(id: &[u8], orig: &[u8], quantity: u32) -> Record {
 // A Cancel Order's record.
 pub fn cancel(id: &[u8]) -> Record {
     let r = started(0x39, 0, 0);
-    order_fields::cancel_order::with_orig_cl_ord_id(r, identifier(id))
+    order_fields::cancel_order::with_orig_cl_ord_id(r, filled(id))
 }
 
 // The login's SessionSubID, Username and Password.
 pub fn names() -> [u8; 18] {
-    let mut field = [0u8; 18];
-    block::copy(b"0001TESTTESTING", &mut field);
-    field
+    filled(b"0001TESTTESTING")
 }
 
 // The login asks for Price in acknowledgments.
@@ -176,7 +166,7 @@ pub fn execution_fields() -> Bitfields {
 }
 
 // A session message's record with nothing said yet.
-fn session_record(message: u8) -> session_messages::Record {
+pub fn session_record(message: u8) -> session_messages::Record {
     session_messages::Record {
         message: message,
         unit: 0,
@@ -187,16 +177,14 @@ fn session_record(message: u8) -> session_messages::Record {
 
 // A Server Heartbeat.
 pub fn server_heartbeat(out: &mut [u8]) {
-    session_messages::write_session(session_record(0x09), out);
+    let _ = session_messages::write_session(session_record(0x09), out);
 }
 
 // A Logout at the end of the day.
 pub fn logout(received: OutgoingNumber, out: &mut [u8]) {
-    let mut text = [0u8; 60];
-    block::copy(b"End of Day", &mut text);
     let r = session_record(0x08);
     let reasoned = session_fields::logout::with_reason(r, [b'E']);
-    let told = session_fields::logout::with_text(reasoned, text);
+    let told = session_fields::logout::with_text(reasoned, filled(b"End of Day"));
     let counted = session_fields::logout::with_last_received(told, received);
-    session_messages::write_session(counted, out);
+    let _ = session_messages::write_session(counted, out);
 }

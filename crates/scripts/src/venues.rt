@@ -1,171 +1,153 @@
 // The questions to the venue: its state, and the buffer of its log.
 use crate::parts;
 use asking::{words, writing};
+use refusals::Refusal;
 use std::io;
 use table::OutgoingNumber;
-use venue::Venue;
+use venue::{Sent, Venue};
 
-// Whether a line was a question, and the venue after it.
+// The calls of the venue.
 #[derive(Clone, Copy)]
-pub struct Told {
-    pub ok: bool,
-    pub venue: Venue,
+pub enum Call {
+    Step,
+    Log,
+    Login,
+    Order,
+    Break,
+    State,
+    Book,
+}
+
+// Which call of the venue a word names.
+pub fn call_of(word: &[u8]) -> Option<Call> {
+    match word {
+        b"v-step" => Some(Call::Step),
+        b"v-log" => Some(Call::Log),
+        b"v-login" => Some(Call::Login),
+        b"v-order" => Some(Call::Order),
+        b"v-break" => Some(Call::Break),
+        b"v-state" => Some(Call::State),
+        b"v-book" => Some(Call::Book),
+        _ => None,
+    }
+}
+
+// How many words a question of a call has.
+pub fn words_of(call: Call) -> usize {
+    match call {
+        Call::Break | Call::Book => 1,
+        Call::Step | Call::Log | Call::Login | Call::Order => 3,
+        Call::State => 10,
+    }
 }
 
 // Answers a line by its call.
 pub fn answered(
     rt: &impl Print,
-    call: u8,
+    call: Call,
     line: &[u8],
-    v: Venue,
+    v: &mut Venue,
     bytes: &mut [u8],
     log: &mut [u8],
-) -> io::Result<Told> {
+) -> Option<io::Result<()>> {
     match call {
-        14 => step(rt, line, v, log),
-        15 => logged(rt, line, v, bytes, log),
-        16 => login(rt, line, v, bytes),
-        17 => order(rt, line, v, bytes),
-        18 => say(rt, v.broken()),
-        19 => state(rt, line, v),
-        _ => stored(rt, v, log),
-    }
-}
-
-// A line that was no question.
-fn unknown(v: Venue) -> Told {
-    Told {
-        ok: false,
-        venue: v,
+        Call::Step => step(rt, line, v, log),
+        Call::Log => logged(rt, line, v, bytes, log),
+        Call::Login => login(rt, line, v, bytes),
+        Call::Order => order(rt, line, v, bytes),
+        Call::Break => Some(broken(rt, v)),
+        Call::State => state(rt, line, v),
+        Call::Book => Some(parts::stored(rt, log, v.length, v.table)),
     }
 }
 
 // The venue's numbers, which are the answer or its end.
-fn say(rt: &impl Print, v: Venue) -> io::Result<Told> {
-    writing::yes_or_no(rt, v.running)?;
-    writing::text(rt, b" ")?;
-    writing::yes_or_no(rt, v.told)?;
-    writing::next_decimal(rt, v.at as u64)?;
-    writing::next_decimal(rt, v.upto as u64)?;
-    writing::next_decimal(rt, v.length as u64)?;
-    writing::next_decimal(rt, v.received.0 as u64)?;
-    writing::next_decimal(rt, parts::sum(v.thresholds))?;
-    parts::next_sums(rt, v.table)?;
-    Ok(Told { ok: true, venue: v })
+fn say(rt: &impl Print, v: &Venue) -> io::Result<()> {
+    let thresholds = v.thresholds;
+    print!(rt; "{} {}", v.running as u8, v.told as u8)?;
+    print!(rt; " {} {} {} {}", v.at, v.upto, v.length, v.received.0)?;
+    print!(rt; " {}", parts::sum(|unit| thresholds.above(unit).0))?;
+    parts::next_sums(rt, v.table)
 }
 
-// A refusal, or 0, and the venue after the call.
-fn refused(rt: &impl Print, a: venue::Answer) -> io::Result<Told> {
-    writing::refusal(rt, a.refusal)?;
-    writing::text(rt, b" ")?;
-    let v = a.venue;
+// What a call answered, 0 or its refusal, and the venue after it.
+fn refused(rt: &impl Print, r: Result<Venue, Refusal>, v: &mut Venue) -> io::Result<()> {
+    *v = r.unwrap_or(*v);
+    writing::outcome(rt, &r)?;
+    rt.print(" ")?;
     say(rt, v)
 }
 
 // The same, and the output buffer after the call.
-fn sent(rt: &impl Print, a: venue::Answer, out: &[u8]) -> io::Result<Told> {
-    let t = refused(rt, a)?;
-    parts::output(rt, out)?;
-    Ok(t)
+fn sent(rt: &impl Print, r: Result<Sent, Refusal>, v: &mut Venue, out: &[u8]) -> io::Result<()> {
+    refused(rt, r.map(|sent| sent.venue), v)?;
+    parts::output(rt, out)
+}
+
+// `v-break`: the venue.
+fn broken(rt: &impl Print, v: &mut Venue) -> io::Result<()> {
+    *v = v.broken();
+    say(rt, v)
 }
 
 // `v-state RUNNING TOLD AT UPTO LENGTH RECEIVED THRESHOLDS TABLE PLACES`: the venue.
-fn state(rt: &impl Print, line: &[u8], v: Venue) -> io::Result<Told> {
-    let running = words::read_number(words::word(line, 1), 1);
-    let had = words::read_number(words::word(line, 2), 1);
-    let four = parts::read_four(line, 3);
-    let wanted = parts::read_thresholds(words::word(line, 7));
-    let given = parts::read_table(line, 8);
-    if running.ok && had.ok && four.ok && wanted.ok && given.ok {
-        let thresholds = wanted.thresholds;
-        let table = given.table;
-        return say(
-            rt,
-            Venue {
-                running: running.value == 1,
-                told: had.value == 1,
-                at: four.first,
-                upto: four.second,
-                length: four.third,
-                received: OutgoingNumber(four.fourth),
-                thresholds: thresholds,
-                table: table,
-            },
-        );
-    }
-    Ok(unknown(v))
+fn state(rt: &impl Print, line: &[u8], v: &mut Venue) -> Option<io::Result<()>> {
+    let running = words::read_number(words::word(line, 1), 1)? == 1;
+    let told = words::read_number(words::word(line, 2), 1)? == 1;
+    let [at, upto, length, received] = parts::read_four(line, 3)?;
+    let thresholds = parts::read_thresholds(words::word(line, 7))?;
+    let table = parts::read_table(line, 8)?;
+    *v = Venue {
+        running,
+        told,
+        at,
+        upto,
+        length,
+        received: OutgoingNumber(received),
+        thresholds,
+        table,
+    };
+    Some(say(rt, v))
 }
 
 // `v-log BYTES ROOM`: the refusal and the venue.
 fn logged(
     rt: &impl Print,
     line: &[u8],
-    v: Venue,
+    v: &mut Venue,
     bytes: &mut [u8],
     log: &mut [u8],
-) -> io::Result<Told> {
-    let run = words::read_bytes(words::word(line, 1), bytes);
-    let room = words::read_number(words::word(line, 2), log.len() as u64);
-    if run.ok && room.ok {
-        let k = run.count;
-        let n = room.value as usize;
-        return refused(rt, v.log(&bytes[0..k], &mut log[0..n]));
-    }
-    Ok(unknown(v))
+) -> Option<io::Result<()>> {
+    let k = words::read_bytes(words::word(line, 1), bytes)?;
+    let n = words::read_number(words::word(line, 2), log.len() as u64)? as usize;
+    let a = v.log(&bytes[..k], &mut log[..n]);
+    Some(refused(rt, a, v))
 }
 
 // `v-login BYTES ROOM`: the refusal, the venue and the output.
-fn login(rt: &impl Print, line: &[u8], v: Venue, bytes: &mut [u8]) -> io::Result<Told> {
-    let run = words::read_bytes(words::word(line, 1), bytes);
-    let room = words::read_number(words::word(line, 2), 600);
-    if run.ok && room.ok {
-        let mut out = [0xFFu8; 600];
-        let k = run.count;
-        let n = room.value as usize;
-        return logged_in(rt, v, &bytes[0..k], &mut out[0..n]);
-    }
-    Ok(unknown(v))
-}
-
-// The answer to `v-login` with an output buffer.
-fn logged_in(rt: &impl Print, v: Venue, s: &[u8], out: &mut [u8]) -> io::Result<Told> {
-    let a = v.login(s, out);
-    sent(rt, a, out)
+fn login(rt: &impl Print, line: &[u8], v: &mut Venue, bytes: &mut [u8]) -> Option<io::Result<()>> {
+    let k = words::read_bytes(words::word(line, 1), bytes)?;
+    let n = words::read_number(words::word(line, 2), 600)? as usize;
+    let mut room = [0xFFu8; 600];
+    let out = &mut room[..n];
+    let a = v.login(&bytes[..k], out);
+    Some(sent(rt, a, v, out))
 }
 
 // `v-step LOGROOM ROOM`: the refusal, the venue and the output.
-fn step(rt: &impl Print, line: &[u8], v: Venue, log: &[u8]) -> io::Result<Told> {
-    let lent = words::read_number(words::word(line, 1), log.len() as u64);
-    let room = words::read_number(words::word(line, 2), 2100);
-    if lent.ok && room.ok {
-        let mut out = [0xFFu8; 2100];
-        let k = lent.value as usize;
-        let n = room.value as usize;
-        return stepped(rt, v, &log[0..k], &mut out[0..n]);
-    }
-    Ok(unknown(v))
-}
-
-// The answer to `v-step` with an output buffer.
-fn stepped(rt: &impl Print, v: Venue, log: &[u8], out: &mut [u8]) -> io::Result<Told> {
-    let a = v.step(log, out);
-    sent(rt, a, out)
+fn step(rt: &impl Print, line: &[u8], v: &mut Venue, log: &[u8]) -> Option<io::Result<()>> {
+    let k = words::read_number(words::word(line, 1), log.len() as u64)? as usize;
+    let n = words::read_number(words::word(line, 2), 2100)? as usize;
+    let mut room = [0xFFu8; 2100];
+    let out = &mut room[..n];
+    let a = v.step(&log[..k], out);
+    Some(sent(rt, a, v, out))
 }
 
 // `v-order MARKET BYTES`: the refusal and the venue.
-fn order(rt: &impl Print, line: &[u8], v: Venue, bytes: &mut [u8]) -> io::Result<Told> {
-    let served = parts::read_market(words::word(line, 1));
-    let run = words::read_bytes(words::word(line, 2), bytes);
-    if served.ok && run.ok {
-        let k = run.count;
-        let market = served.market;
-        return refused(rt, v.order(market, &bytes[0..k]));
-    }
-    Ok(unknown(v))
-}
-
-// `v-book`: the log's bytes, and its table's numbers and places.
-fn stored(rt: &impl Print, v: Venue, log: &[u8]) -> io::Result<Told> {
-    parts::stored(rt, log, v.length, v.table)?;
-    Ok(Told { ok: true, venue: v })
+fn order(rt: &impl Print, line: &[u8], v: &mut Venue, bytes: &mut [u8]) -> Option<io::Result<()>> {
+    let market = parts::read_market(words::word(line, 1))?;
+    let k = words::read_bytes(words::word(line, 2), bytes)?;
+    let a = v.order(market, &bytes[..k]);
+    Some(refused(rt, a, v))
 }

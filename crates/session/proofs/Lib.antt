@@ -7,6 +7,7 @@ pub mod MemberKinds
 pub mod MemberSteps
 pub mod OrderLaws
 pub mod OwnCalls
+pub mod Passing
 pub mod ReadingLaws
 pub mod SessionLaws
 pub mod SessionSteps

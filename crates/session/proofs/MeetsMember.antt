@@ -23,7 +23,7 @@ use Rattle.session_messages.specs.Sessions as logins
 use Rattle.session_messages.proofs.SessionTrip.{framed_as_written}
 use Rattle.calendar.specs.Calendar.{is_day, day_refusal}
 use Rattle.book.specs.declared.Book.{Book}
-use Rattle.book.specs.declared.Answer as book_answers
+use Rattle.book.specs.Answer as book_answers
 use Rattle.book.specs.Books.{answer, opened_book, mark_bytes, open_refusal, open_of, open_buffer}
 use Rattle.book_restart.specs.Restarts as restarts
 use Rattle.book_restart.proofs.Cut.{Made, opens, books, marks, cut, cut_22}
@@ -34,7 +34,6 @@ use Rattle.day_model.specs.Model as day
 use Rattle.day_model.specs.Halves.{MeetsMember}
 use Rattle.day_line.specs.Lines.{Fields, Fine, says, lists, our_line, login_of_table, OurLogin}
 use Rattle.day_line.specs.OurLogins.{body_long, our_lists}
-use Rattle.day_line.specs.Lent.{kept}
 use Rattle.session.specs.declared.Phase.{Phase}
 use Rattle.session.specs.declared.Phase.TheVariants.{Closed, Asked, Replaying, Live}
 use Rattle.session.specs.Sessions.{closed_with, is_closed, broken_by, broken_buffer, login_refusal, login_of, login_out, order_refusal, order_of}

@@ -13,7 +13,7 @@ use Rattle.orders.specs.Orders as orders
 use Rattle.order_records.specs.Records.{record_at}
 use Rattle.session.specs.declared.Phase.{Phase}
 use Rattle.session.specs.declared.Session.{Session}
-use Rattle.session.specs.declared.Answer.{Answer}
+use Rattle.session.specs.Answer.{Answer}
 use Rattle.session.specs.Sessions.{answer, is_live, numbered, next_outgoing, order_refusal, order_of, order_out}
 use Rattle.session.specs.Stages.{gate_by, gate_refusal}
 use Rattle.session.proofs.SessionLaws.{refuses, accepts}

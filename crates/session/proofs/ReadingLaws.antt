@@ -18,7 +18,7 @@ use Rattle.book.specs.Books.{append_refusal, appended_by}
 use Rattle.session.specs.declared.Phase.{Phase}
 use Rattle.session.specs.declared.Phase.TheVariants.{Closed, Asked, Replaying, Live}
 use Rattle.session.specs.declared.Session.{Session}
-use Rattle.session.specs.declared.Answer.{Answer}
+use Rattle.session.specs.Answer.{Answer}
 use Rattle.session.specs.Sessions.{pick_session, answer, answered, with_book, is_closed, is_asked, is_open, passes, responded_by, responded_buffer, status_in, received_in, response_reading, response_refusal, response_of, response_buffer, message_refusal, message_of, message_buffer, receive_refusal, received_by, receive_of, received_buffer, receive_buffer}
 use Rattle.session.specs.Stages.{after_refusal, after_reading, after_buffer}
 use Rattle.session.proofs.SessionLaws.{refuses, no_session, received_books, received_appends, Receives}

@@ -1,8 +1,10 @@
 -- How the session's calls go on, stage by stage. Assumes nothing.
-use Rattle.std.specs.Prelude.{◌≡◌, Bool, true, false, cond, ◌||◌, List, ℕ, eqb, length}
+use Rattle.std.specs.Prelude.{◌≡◌, Bool, true, false, cond, ◌||◌, List, ℕ, eqb, length, Result, Ok}
 use Rattle.std.proofs.Math.Path.{refl, sym, ap₂}
 use Rattle.std.proofs.Common.{ap, ◌∙◌, arith}
 use borrow.Author.Tests.{eq-eqb, ne_eqb, eqb-true, eqb-false}
+use Rattle.refusals.specs.Outcomes.{outcome_with}
+use Rattle.refusals.specs.OutcomeLaws.{good}
 use Rattle.numbers.specs.Numbers.{patched}
 use Rattle.wire.specs.Header.{type_of}
 use Rattle.wire.specs.Frame.{frame_refusal, framed}
@@ -12,13 +14,16 @@ use Rattle.session_messages.specs.declared.Record as session_records
 use Rattle.session_messages.specs.Sessions as logins
 use Rattle.orders.proofs.OrderLaws.{sequenced_types, unsequenced_types}
 use Rattle.messages.specs.Messages.{carries, is_session, own_refusal, read_refusal}
+use Rattle.book.specs.Answer.{Answer as BookAnswer}
 use Rattle.book.specs.declared.Book.{Book}
 use Rattle.book.specs.Books as books
 use Rattle.book.specs.Books.{pick_answer, append_refusal, appended_by, append_of, append_buffer, close_buffer}
 use Rattle.session.specs.declared.Phase.TheVariants.{Asked, Replaying, Live}
 use Rattle.session.specs.declared.Session.{Session}
-use Rattle.session.specs.declared.Answer.{Answer}
-use Rattle.session.specs.Sessions.{pick_session, answer, answered, in_phase, with_book, is_closed, is_open, passes, ended_by, broken_by, broken_buffer, responded_by, responded_buffer, status_in, received_in, receive_refusal, received_by, receive_of, received_buffer, receive_buffer, login_refusal, login_of, login_out, heartbeat_record, heartbeat_refusal, heartbeat_of, heartbeat_out}
+use Rattle.session.specs.declared.Told.{Told}
+use Rattle.session.specs.declared.Told.TheVariants.{Nothing}
+use Rattle.session.specs.Answer.{Answer}
+use Rattle.session.specs.Sessions.{pick_session, answer, answered, in_phase, with_book, is_closed, is_open, passes, ended_by, broken_by, broken_buffer, responded_by, responded_buffer, status_in, received_in, receive_refusal, received_by, receive_of, received_buffer, receive_buffer, pick_told, told_of, received_with, login_refusal, login_of, login_out, heartbeat_record, heartbeat_refusal, heartbeat_of, heartbeat_out}
 use Rattle.session.specs.Stages.{booked_as, heard_by, heard_buffer}
 
 -- ---- answers
@@ -66,6 +71,10 @@ module _ (s : Session) (status received : ℕ) (xs : List ℕ) where
 booked : (s : Session) (k : ℕ) (b : Book) (t : Bool) → eqb k 0 ≡ t → booked_as s (pick_answer t (books.answer 0 b) (books.answer k s.book)) ≡ answer k (pick_session t (with_book s b) s)
 booked s k b true z = ap (λ (x : ℕ). answer x (with_book s b)) (sym (eqb-true k 0 z))
 booked s k b false z = refl
+
+-- the session with the book after a message that was appended
+pub books_as : (s : Session) (a : BookAnswer) {b : Book} → a.refusal ≡ 0 → b ≡ a.book → Ok (with_book s b) ≡ outcome_with (booked_as s a).refusal (booked_as s a).session
+books_as s a z e = ap (λ (b : Book). Ok (with_book s b)) e ∙ good a.refusal (with_book s a.book) z
 
 -- ---- a session message
 
@@ -208,6 +217,17 @@ module _ (s : Session) (xs bytes : List ℕ) where
         by_session v p =
             let k = session_refusal v in
             (accepts (receive_refusal s (length xs) bytes) (received_by s (length xs) (framed bytes)) s k (p.0 ∙ received_heard s (framed bytes) v (length xs)), p.1 ∙ received_kept s (framed bytes) v xs ∙ rw k)
+
+-- the refusal of what receiving answers
+pub refusal_in : {P : Type 0} {n : ℕ} {s : Session} {a : Answer} → (answer n s ≡ a) × P → (n ≡ a.refusal) × P
+refusal_in p = (ap (λ (a : Answer). a.refusal) p.0, p.1)
+
+-- the state after a message that was taken, and what became of it
+pub received_as : (a : Answer) (m : List ℕ) {s : Session} {t : Told} → a.refusal ≡ 0 → s ≡ a.session → t ≡ told_of (type_of m)
+    → ◌≡◌ {A = Result (Session × Told) ℕ} (Ok (s, t)) (outcome_with (received_with a m).refusal ((received_with a m).session, (received_with a m).told))
+received_as a m z e f =
+    ap₂ (λ (x : Session) (y : Told). Ok (x, y)) e (f ∙ sym (ap (λ (b : Bool). pick_told b (told_of (type_of m)) Nothing) (eq-eqb a.refusal 0 z)))
+    ∙ good a.refusal ((received_with a m).session, (received_with a m).told) z
 
 -- ---- a login
 

@@ -26,7 +26,7 @@ use Rattle.book.specs.Books.{append_of, append_buffer, close_buffer}
 use Rattle.session.specs.declared.Phase.{Phase}
 use Rattle.session.specs.declared.Phase.TheVariants.{Closed, Asked, Replaying, Live}
 use Rattle.session.specs.declared.Session.{Session}
-use Rattle.session.specs.declared.Answer.{Answer}
+use Rattle.session.specs.Answer.{Answer}
 use Rattle.session.specs.Sessions.{answer, in_phase, with_book, is_closed, is_open, passes, ended_by, broken_by, broken_buffer, responded_by, responded_buffer, status_in, received_in, receive_of, receive_buffer, login_of, login_out}
 use Rattle.session.specs.Stages.{heard_by, heard_buffer}
 use Rattle.session.proofs.SessionLaws.{breaks, allowed, denied, hears_response, hears_complete, hears_logout, hears_else, Receives, deaf, untimely, by_message, by_session, unsequenced_else, or-true, logs_in_lem}

@@ -15,7 +15,7 @@ use Rattle.session_messages.specs.Sessions as logins
 use Rattle.book.specs.Books.{pick_book, roomless, marked, close_of}
 use Rattle.session.specs.declared.Phase.TheVariants.{Closed, Asked}
 use Rattle.session.specs.declared.Session.{Session}
-use Rattle.session.specs.declared.Answer.{Answer}
+use Rattle.session.specs.Answer.{Answer}
 use Rattle.session.specs.Sessions.{pick_session, answered, in_phase, is_closed, is_open, ended_by, broken_by, broken_buffer, response_refusal, response_of, response_buffer, message_refusal, message_of, message_buffer, receive_refusal, receive_of, receive_buffer, login_refusal, login_of, login_out, heartbeat_record, heartbeat_refusal, heartbeat_of, heartbeat_out, next_outgoing, order_refusal, order_of, order_out}
 use Rattle.session.proofs.SessionLaws.{stays_closed}
 

@@ -1,3 +1,4 @@
+pub mod Answer
 pub mod Sessions
 pub mod Stages
 pub mod Booked

@@ -7,7 +7,7 @@ use Rattle.block.specs.Slots.{zeros}
 use Rattle.table.specs.Table.{last_of}
 use Rattle.orders.specs.Markets.{market_of}
 use Rattle.orders.specs.Shapes.{sequenced}
-use Rattle.book.specs.declared.Answer.{Answer}
+use Rattle.book.specs.Answer.{Answer}
 use Rattle.book.specs.Books.{limit, blank_book, open_of, open_buffer}
 use Rattle.book_restart.specs.Restarts as restarts
 use Rattle.day_model.specs.Model.{closed, asked, replaying, live}

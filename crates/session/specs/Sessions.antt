@@ -22,8 +22,8 @@ use Rattle.session.specs.declared.Phase.TheVariants.{Closed, Asked, Replaying, L
 use Rattle.session.specs.declared.Session.{Session}
 use Rattle.session.specs.declared.Told.{Told}
 use Rattle.session.specs.declared.Told.TheVariants.{Nothing, Booked, Handed}
-use Rattle.session.specs.declared.Received.{Received}
-use Rattle.session.specs.declared.Answer.{Answer}
+use Rattle.session.specs.Answer.{Received}
+use Rattle.session.specs.Answer.{Answer}
 use Rattle.block.specs.Sizes.{record_size}
 
 -- one of two, by a test

@@ -5,12 +5,12 @@ use Rattle.wire.specs.Header.{type_of}
 use Rattle.wire.specs.Frame.{framed}
 use Rattle.orders.specs.declared.Market.{Market}
 use Rattle.orders.specs.Markets.{of_market}
-use Rattle.book.specs.declared.Answer.{Answer as BookAnswer}
+use Rattle.book.specs.Answer.{Answer as BookAnswer}
 use Rattle.book.specs.Books.{close_buffer}
 use Rattle.session.specs.declared.Phase.{Phase}
 use Rattle.session.specs.declared.Phase.TheVariants.{Live}
 use Rattle.session.specs.declared.Session.{Session}
-use Rattle.session.specs.declared.Answer.{Answer}
+use Rattle.session.specs.Answer.{Answer}
 use Rattle.session.specs.Sessions.{pick_session, answer, answered, in_phase, with_book, is_closed, is_live, ended_by, responded_by, responded_buffer, status_in, received_in, receive_refusal, received_by, received_buffer}
 use Rattle.block.specs.Sizes.{record_size}
 

@@ -29,12 +29,12 @@ use Rattle.book_calls.proofs.InPlaceLaws.{state_as_it_is}
 use Rattle.session.specs.declared.Phase.{Phase}
 use Rattle.session.specs.declared.Phase.TheVariants.{Closed}
 use Rattle.session.specs.declared.Session.{Session}
-use Rattle.session.specs.declared.Answer.{Answer}
+use Rattle.session.specs.Answer.{Answer}
 use Rattle.session.specs.declared.Told.TheVariants.{Nothing}
 use Rattle.session.specs.Sessions.{answer, closed_with, in_phase, with_book, ended_by, next_outgoing, pick_told, told_of, received_with}
 use Rattle.session.specs.Stages.{booked_as, gate_by, gate_refusal}
 use Rattle.session.proofs.SessionLaws.{read_is_good}
-use Rattle.session_calls.specs.SessionBytes.{session_size, outgoing_at, phase_number, market_number, session_of, beside_bytes, session_bytes, session_after, short, called, lent_back, phase_call, told_after, given_call, given_back}
+use Rattle.session_calls.specs.SessionBytes.{session_size, outgoing_at, phase_number, market_number, session_of, beside_bytes, session_bytes, session_after, called, lent_back, phase_call, told_after, given_call, given_back}
 use Rattle.session_calls.specs.LoginBytes.{login_size}
 
 -- ---- storing
@@ -233,15 +233,10 @@ module _ (state : List ℕ) where
     unfolding state_after session_after
     unbooked e k ex = let d = ne_eqb judged 0 (λ z. k (e ∙ z)) in ex ∙ rw d
 
--- ---- what stands beside a book that was opened or restarted
+-- ---- what stands beside a book that was not opened or restarted
 
-module _ (s : List ℕ) (n market : ℕ) where
-  pub closed_not : (n ≡ 0 → ⊥) → (n ≡ n) × (s ≡ cond (eqb n 0) (patched s outgoing_at (beside_bytes Closed 0 (market_of market))) s)
-  closed_not k = (refl, rw (ne_eqb n 0 k))
-
-  pub closed_put : {m : Market} {after : List ℕ} → n ≡ 0 → m ≡ market_of market → after ≡ patched s outgoing_at (beside_bytes Closed 0 m)
-      → (0 ≡ n) × (after ≡ cond (eqb n 0) (patched s outgoing_at (beside_bytes Closed 0 (market_of market))) s)
-  closed_put z em ea = (sym z, ea ∙ ap (λ (x : Market). patched s outgoing_at (beside_bytes Closed 0 x)) em ∙ rw (eq-eqb n 0 z))
+pub closed_not : (s : List ℕ) (n market : ℕ) → (n ≡ 0 → ⊥) → s ≡ cond (eqb n 0) (patched s outgoing_at (beside_bytes Closed 0 (market_of market))) s
+closed_not s n market k = rw (ne_eqb n 0 k)
 
 -- ---- the phase as it is asked for
 

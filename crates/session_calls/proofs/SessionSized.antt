@@ -5,7 +5,7 @@
 -- Assumes nothing.
 use Rattle.std.proofs.Math.Path.{◌≡◌, refl}
 use Rattle.std.proofs.Common.{ap, ◌∙◌, arith, eq-eqb, eqb-true}
-use Rattle.std.specs.Prelude.{Bool, List, ℕ, suc, ◌-◌, ◌<◌, length, get_or}
+use Rattle.std.specs.Prelude.{Bool, List, ℕ, suc, ◌-◌, ◌<◌, get_or}
 use Rattle.std.proofs.Math.Bool.{true, false, cond}
 use Rattle.std.proofs.Math.Dec.{eqb}
 use Rattle.std.proofs.lemmas.List.{get_or-replicate}

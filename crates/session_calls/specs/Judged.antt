@@ -1,5 +1,5 @@
 -- Judging a message from the venue where it stands: what reading refuses, without its record. Assumes nothing.
-use Rattle.std.specs.Prelude.{◌≡◌, refl, Bool, true, false, cond, ◌||◌, List, ℕ, eqb, get_or}
+use Rattle.std.specs.Prelude.{◌≡◌, refl, Bool, true, false, cond, ◌||◌, List, ℕ, get_or}
 use Rattle.std.proofs.Common.{sym, ap, ◌∙◌, arith, get_or-take, eq-eqb, ne_eqb}
 use Rattle.refusals.specs.Names.{unknown_type}
 use Rattle.wire.specs.Header.{type_of, total_of}

@@ -1,9 +1,11 @@
 // What a desk gives a login, from the 87 bytes in which it is lent, and the login written from it.
 ghost use Rattle.std.specs.Prelude.{◌≡◌, ◌+◌, ◌≤◌, length};
+ghost use Rattle.refusals.specs.Outcomes.{outcome};
 ghost use Rattle.session_messages.specs.Sessions.{record_refusal, record_buffer};
 ghost use Rattle.book_calls.specs.BookBytes.{book_of};
 ghost use Rattle.session_calls.specs.LoginBytes.{bits_in, choice_in, given_record};
 
+use refusals::Refusal;
 use session_logins::{Bitfields, Choice};
 use table::Unit;
 
@@ -26,10 +28,8 @@ fn choice_in(given: &[u8]) -> Choice
     ensures { result ≡ choice_in given.now }
 {
     let mut units = [Unit(0); 32];
-    let mut i: usize = 0;
-    while i < 32 {
+    for i in 0..32 {
         units[i] = Unit(numbers::byte_at(given, 55 + i));
-        i += 1;
     }
     Choice {
         which: numbers::byte_at(given, 52),
@@ -39,10 +39,10 @@ fn choice_in(given: &[u8]) -> Choice
     }
 }
 
-// Writes the login that is given, with the numbers of a state's table: 0, or 10, 11 or 13, and the buffer is as it was.
-pub fn write_given(given: &[u8], state: &[u8], out: &mut [u8]) -> u32
+// Writes the login that is given, with the numbers of a state's table: Ok; or 10, 11 or 13, and the buffer is as it was.
+pub fn write_given(given: &[u8], state: &[u8], out: &mut [u8]) -> Result<(), Refusal>
     requires { 87 ≤ length given.now }
-    ensures { (result ≡ record_refusal (given_record (book_of state.now).table given.now) (length out.old)) × (out.new ≡ record_buffer (given_record (book_of state.now).table given.now) out.old) }
+    ensures { (result ≡ outcome (record_refusal (given_record (book_of state.now).table given.now) (length out.old))) × (out.new ≡ record_buffer (given_record (book_of state.now).table given.now) out.old) }
 {
     let table = book_calls::books::table_in(state);
     let choice = choice_in(given);

@@ -18,45 +18,45 @@ ghost use Rattle.book_calls.specs.InPlace.{good_refusal, good_buffer};
 ghost use Rattle.session.specs.Sessions.{is_closed, in_phase, with_book, ended_by, responded_by, responded_buffer, status_in, received_in, receive_of, receive_buffer, told_of};
 ghost use Rattle.session.specs.Stages.{heard_by, heard_buffer};
 ghost use Rattle.session_calls.specs.SessionBytes.{outgoing_at, beside_bytes, session_of, session_bytes, session_after, told_number, open_call, open_call_buffer, open_call_state, restart_call, restart_call_state, login_call, login_call_out, login_call_state, receive_call, receive_call_told, receive_call_buffer, receive_call_state, order_call, order_call_out, order_call_state, heartbeat_call, heartbeat_call_out, break_call, break_call_buffer, break_call_state, phase_call};
+ghost use Rattle.refusals.specs.Outcomes.{outcome};
 
 use book_calls::books;
+use refusals::{Reason, Refusal};
 use session::{Phase, Told, phases};
 use table::OutgoingNumber;
 
-// After a book was opened or restarted with a refusal: where that is 0, its session is closed, and no order has gone out.
-fn closed_after(refusal: u32, market: u8, state: &mut [u8]) -> u32
+// A closed session for a market beside a state's book: no order has gone out.
+fn put_closed(market: u8, state: &mut [u8])
     requires { 278 ≤ length state.old }
-    ensures { (result ≡ refusal) × (state.new ≡ cond (eqb refusal 0) (patched state.old outgoing_at (beside_bytes Closed 0 (market_of market))) state.old) }
+    ensures { state.new ≡ patched state.old outgoing_at (beside_bytes Closed 0 (market_of market)) }
 {
-    if refusal != 0 {
-        return refusal;
-    }
     let m = book_calls::market_of(market);
     beside::put(Phase::Closed, OutgoingNumber(0), m, state);
-    0
 }
 
-// Opens a book for a date in a buffer, and a closed session for a market: 0; or 13 for a state under 278 bytes, 19 or 13, and both are as they were.
-pub fn open(date: u32, market: u8, buffer: &mut [u8], state: &mut [u8]) -> u32
-    ensures { (result ≡ open_call date (length buffer.old) state.old) × (buffer.new ≡ open_call_buffer date buffer.old state.old) × (state.new ≡ open_call_state date market (length buffer.old) state.old) }
+// Opens a book for a date in a buffer, and a closed session for a market: Ok; or 13 for a state under 278 bytes, 19 or 13, and both are as they were.
+pub fn open(date: u32, market: u8, buffer: &mut [u8], state: &mut [u8]) -> Result<(), Refusal>
+    ensures { (result ≡ outcome (open_call date (length buffer.old) state.old)) × (buffer.new ≡ open_call_buffer date buffer.old state.old) × (state.new ≡ open_call_state date market (length buffer.old) state.old) }
 {
     if state.len() < 278 {
-        return refusals::NO_ROOM;
+        return Err(Refusal::new(Reason::NoRoom));
     }
-    let refusal = books::open(date, buffer, state);
-    closed_after(refusal, market, state)
+    books::open(date, buffer, state)?;
+    put_closed(market, state);
+    Ok(())
 }
 
-// Restarts from a book for a date, with a closed session for a market: 0; or 13 for a state under 278 bytes, 19, 22, 18, 17 or 18, and the state is as
+// Restarts from a book for a date, with a closed session for a market: Ok; or 13 for a state under 278 bytes, 19, 22, 18, 17 or 18, and the state is as
 // it was.
-pub fn restart(date: u32, market: u8, bytes: &[u8], state: &mut [u8]) -> u32
-    ensures { (result ≡ restart_call date bytes.now state.old) × (state.new ≡ restart_call_state date market bytes.now state.old) }
+pub fn restart(date: u32, market: u8, bytes: &[u8], state: &mut [u8]) -> Result<(), Refusal>
+    ensures { (result ≡ outcome (restart_call date bytes.now state.old)) × (state.new ≡ restart_call_state date market bytes.now state.old) }
 {
     if state.len() < 278 {
-        return refusals::NO_ROOM;
+        return Err(Refusal::new(Reason::NoRoom));
     }
-    let refusal = books::restart(date, bytes, state);
-    closed_after(refusal, market, state)
+    books::restart(date, bytes, state)?;
+    put_closed(market, state);
+    Ok(())
 }
 
 // The phase of a state, its outgoing number and its market as they are.
@@ -69,93 +69,84 @@ fn set_phase(p: Phase, state: &mut [u8])
     beside::put(p, outgoing, market, state);
 }
 
-// A login with the table's numbers, of which 87 bytes are given: 0, it is written, and the session is asked; or 13 for a state under 278 bytes or for
+// A login with the table's numbers, of which 87 bytes are given: Ok, it is written, and the session is asked; or 13 for a state under 278 bytes or for
 // less given, 16 unless closed, 10, 11 or 13, and buffer and state are as they were.
-pub fn login(given: &[u8], out: &mut [u8], state: &mut [u8]) -> u32
-    ensures { (result ≡ login_call given.now (length out.old) state.old) × (out.new ≡ login_call_out given.now out.old state.old) × (state.new ≡ login_call_state given.now (length out.old) state.old) }
+pub fn login(given: &[u8], out: &mut [u8], state: &mut [u8]) -> Result<(), Refusal>
+    ensures { (result ≡ outcome (login_call given.now (length out.old) state.old)) × (out.new ≡ login_call_out given.now out.old state.old) × (state.new ≡ login_call_state given.now (length out.old) state.old) }
 {
     if state.len() < 278 {
-        return refusals::NO_ROOM;
+        return Err(Refusal::new(Reason::NoRoom));
     }
     if given.len() < 87 {
-        return refusals::NO_ROOM;
+        return Err(Refusal::new(Reason::NoRoom));
     }
     let phase = beside::phase_in(state);
     if !phases::is_closed(phase) {
-        return refusals::OUT_OF_PHASE;
+        return Err(Refusal::new(Reason::OutOfPhase));
     }
-    let refusal = given::write_given(given, state, out);
-    if refusal != 0 {
-        return refusal;
-    }
+    given::write_given(given, state, out)?;
     set_phase(Phase::Asked, state);
-    0
+    Ok(())
 }
 
-// A heartbeat: 0, and it is written; or 13 for a state under 278 bytes, 16 unless replaying or live, or 13, and the buffer is as it was.
-pub fn heartbeat(state: &[u8], out: &mut [u8]) -> u32
-    ensures { (result ≡ heartbeat_call (length out.old) state.now) × (out.new ≡ heartbeat_call_out out.old state.now) }
+// A heartbeat: Ok, and it is written; or 13 for a state under 278 bytes, 16 unless replaying or live, or 13, and the buffer is as it was.
+pub fn heartbeat(state: &[u8], out: &mut [u8]) -> Result<(), Refusal>
+    ensures { (result ≡ outcome (heartbeat_call (length out.old) state.now)) × (out.new ≡ heartbeat_call_out out.old state.now) }
 {
     if state.len() < 278 {
-        return refusals::NO_ROOM;
+        return Err(Refusal::new(Reason::NoRoom));
     }
     let phase = beside::phase_in(state);
     if !phases::is_open(phase) {
-        return refusals::OUT_OF_PHASE;
+        return Err(Refusal::new(Reason::OutOfPhase));
     }
     let body = [0u8; 433];
     session_messages::write_body(0x03, 0, 0, &body, out)
 }
 
-// An order, of which the first RECORD bytes given are the record: 0, and it is written under the next outgoing number; or 13 for a state under 278 bytes,
+// An order, of which the first RECORD bytes given are the record: Ok, and it is written under the next outgoing number; or 13 for a state under 278 bytes,
 // 16 unless live, 20, 13, 4 or the writer's, and buffer and state are as they were.
-pub fn order(given: &[u8], out: &mut [u8], state: &mut [u8]) -> u32
-    ensures { (result ≡ order_call given.now (length out.old) state.old) × (out.new ≡ order_call_out given.now out.old state.old) × (state.new ≡ order_call_state given.now (length out.old) state.old) }
+pub fn order(given: &[u8], out: &mut [u8], state: &mut [u8]) -> Result<(), Refusal>
+    ensures { (result ≡ outcome (order_call given.now (length out.old) state.old)) × (out.new ≡ order_call_out given.now out.old state.old) × (state.new ≡ order_call_state given.now (length out.old) state.old) }
 {
     if state.len() < 278 {
-        return refusals::NO_ROOM;
+        return Err(Refusal::new(Reason::NoRoom));
     }
     let phase = beside::phase_in(state);
     let outgoing = beside::outgoing_in(state);
     let market = beside::market_in(state);
-    let gate = session::gate(phase, outgoing, market, given);
-    if gate != 0 {
-        return gate;
-    }
+    session::check_gate(phase, outgoing, market, given)?;
     let next = OutgoingNumber(outgoing.0 + 1);
-    let refusal = session::write_numbered(given, next, out);
-    if refusal != 0 {
-        return refusal;
-    }
+    session::write_numbered(given, next, out)?;
     beside::put(phase, next, market, state);
-    0
+    Ok(())
 }
 
-// The session's end: closed, with a mark in the book if there is room for it.
+// The session's end: closed, with a mark in the book if there is room for it. A state of this length is not refused.
 fn end(buffer: &mut [u8], state: &mut [u8])
     requires { 278 ≤ length state.old }
     ensures { (buffer.new ≡ close_buffer (session_of state.old).book buffer.old) × (state.new ≡ patched state.old 0 (session_bytes (ended_by (session_of state.old) (length buffer.old)))) }
 {
     let outgoing = beside::outgoing_in(state);
     let market = beside::market_in(state);
-    books::close(buffer, state);
+    let _ = books::close(buffer, state);
     beside::put(Phase::Closed, outgoing, market, state);
 }
 
-// A break: 0, and a session that runs has ended; or 13 for a state under 278 bytes, and both are as they were.
-pub fn break_line(buffer: &mut [u8], state: &mut [u8]) -> u32
-    ensures { (result ≡ break_call state.old) × (buffer.new ≡ break_call_buffer buffer.old state.old) × (state.new ≡ break_call_state (length buffer.old) state.old) }
+// A break: Ok, and a session that runs has ended; or 13 for a state under 278 bytes, and both are as they were.
+pub fn break_line(buffer: &mut [u8], state: &mut [u8]) -> Result<(), Refusal>
+    ensures { (result ≡ outcome (break_call state.old)) × (buffer.new ≡ break_call_buffer buffer.old state.old) × (state.new ≡ break_call_state (length buffer.old) state.old) }
 {
     if state.len() < 278 {
-        return refusals::NO_ROOM;
+        return Err(Refusal::new(Reason::NoRoom));
     }
     let phase = beside::phase_in(state);
     if phases::is_closed(phase) {
         set_phase(phase, state);
-        return 0;
+        return Ok(());
     }
     end(buffer, state);
-    0
+    Ok(())
 }
 
 // A Login Response m: status A leads to replaying, with the number from which the orders go on; any other status ends the session.
@@ -193,37 +184,36 @@ fn hear(message: u8, m: &[u8], buffer: &mut [u8], state: &mut [u8])
     set_phase(phase, state);
 }
 
-// A sequenced message m that is good by itself: 14, 15 or 13, and buffer and state are as they were; or it is in the book and its unit's entry has risen.
-fn book_message(m: &[u8], buffer: &mut [u8], state: &mut [u8]) -> u32
+// Books a sequenced message m that is good by itself: Ok, it is in the book and its unit's entry has risen; or 14, 15 or 13, and buffer and state are as
+// they were.
+fn book(m: &[u8], buffer: &mut [u8], state: &mut [u8]) -> Result<(), Refusal>
     requires { 278 ≤ length state.old }
-    ensures { (result ≡ good_refusal (session_of state.old).book (length buffer.old) m.now) × (buffer.new ≡ good_buffer (session_of state.old).book buffer.old m.now) × (state.new ≡ session_after (good_refusal (session_of state.old).book (length buffer.old) m.now) (with_book (session_of state.old) (appended_by (session_of state.old).book m.now)) state.old) }
+    ensures { (result ≡ outcome (good_refusal (session_of state.old).book (length buffer.old) m.now)) × (buffer.new ≡ good_buffer (session_of state.old).book buffer.old m.now) × (state.new ≡ session_after (good_refusal (session_of state.old).book (length buffer.old) m.now) (with_book (session_of state.old) (appended_by (session_of state.old).book m.now)) state.old) }
 {
     let phase = beside::phase_in(state);
     let outgoing = beside::outgoing_in(state);
     let market = beside::market_in(state);
-    let refusal = books::append_good(m, buffer, state);
-    if refusal != 0 {
-        return refusal;
-    }
+    books::append_good(m, buffer, state)?;
     beside::put(phase, outgoing, market, state);
-    0
+    Ok(())
 }
 
-// A readable message, the first of the bytes: 16 for a type out of phase, 14, 15 or 13, and buffer and state are as they were; or what it says.
-fn take(phase: Phase, bytes: &[u8], buffer: &mut [u8], state: &mut [u8]) -> u32
+// Takes a readable message, the first of the bytes: Ok, and the state is as it says; or 16 for a type out of phase, 14, 15 or 13, and buffer and state are
+// as they were.
+fn take(phase: Phase, bytes: &[u8], buffer: &mut [u8], state: &mut [u8]) -> Result<(), Refusal>
     requires { (278 ≤ length state.old) × (phase ≡ (session_of state.old).phase) × (is_closed phase ≡ false) × (read_refusal 1 bytes.now ≡ 0) }
-    ensures { (result ≡ (receive_of (session_of state.old) (length buffer.old) bytes.now).refusal) × (buffer.new ≡ receive_buffer (session_of state.old) buffer.old bytes.now) × (state.new ≡ session_after (receive_of (session_of state.old) (length buffer.old) bytes.now).refusal (receive_of (session_of state.old) (length buffer.old) bytes.now).session state.old) }
+    ensures { (result ≡ outcome (receive_of (session_of state.old) (length buffer.old) bytes.now).refusal) × (buffer.new ≡ receive_buffer (session_of state.old) buffer.old bytes.now) × (state.new ≡ session_after (receive_of (session_of state.old) (length buffer.old) bytes.now).refusal (receive_of (session_of state.old) (length buffer.old) bytes.now).session state.old) }
 {
     let m = wire::frame(bytes);
     let message = wire::header::type_of(m);
     if !phases::passes(phase, message) {
-        return refusals::OUT_OF_PHASE;
+        return Err(Refusal::new(Reason::OutOfPhase));
     }
     if orders::is_sequenced(message) {
-        return book_message(m, buffer, state);
+        return book(m, buffer, state);
     }
     hear(message, m, buffer, state);
-    0
+    Ok(())
 }
 
 // What becomes of a message from the venue that a session takes, by its type: 0, nothing for the desk; 1, it is booked; 2, it is handed to the desk.
@@ -238,28 +228,27 @@ pub fn told_number(message: u8) -> u32
     }
 }
 
-// Any bytes from the venue, of which the first whole message counts: 0, the session after it, and what became of it, 0 nothing, 1 booked, 2 handed to the
+// Any bytes from the venue, of which the first whole message counts: Ok, the session after it, and what became of it, 0 nothing, 1 booked, 2 handed to the
 // desk; or 13 for a state under 278 bytes, 16 if closed, 1 to 11, 16 for a type out of phase, 14, 15 or 13, and all is as it was.
-pub fn receive(bytes: &[u8], told: &mut u32, buffer: &mut [u8], state: &mut [u8]) -> u32
-    ensures { (result ≡ receive_call bytes.now (length buffer.old) state.old) × (told.new ≡ receive_call_told bytes.now (length buffer.old) state.old told.old) × (buffer.new ≡ receive_call_buffer bytes.now buffer.old state.old) × (state.new ≡ receive_call_state bytes.now (length buffer.old) state.old) }
+pub fn receive(
+    bytes: &[u8],
+    told: &mut u32,
+    buffer: &mut [u8],
+    state: &mut [u8],
+) -> Result<(), Refusal>
+    ensures { (result ≡ outcome (receive_call bytes.now (length buffer.old) state.old)) × (told.new ≡ receive_call_told bytes.now (length buffer.old) state.old told.old) × (buffer.new ≡ receive_call_buffer bytes.now buffer.old state.old) × (state.new ≡ receive_call_state bytes.now (length buffer.old) state.old) }
 {
     if state.len() < 278 {
-        return refusals::NO_ROOM;
+        return Err(Refusal::new(Reason::NoRoom));
     }
     let phase = beside::phase_in(state);
     if phases::is_closed(phase) {
-        return refusals::OUT_OF_PHASE;
+        return Err(Refusal::new(Reason::OutOfPhase));
     }
-    let unread = judging::read_refusal(bytes);
-    if unread != 0 {
-        return unread;
-    }
-    let refusal = take(phase, bytes, buffer, state);
-    if refusal != 0 {
-        return refusal;
-    }
+    judging::check_message(bytes)?;
+    take(phase, bytes, buffer, state)?;
     *told = told_number(numbers::byte_at(bytes, 4));
-    0
+    Ok(())
 }
 
 // The phase of a state by its number: 0 closed, 1 asked, 2 replaying, 3 live; of a state under 278 bytes 0.

@@ -1,34 +1,18 @@
--- Bytes lifted out of a buffer: a field's bytes where there are as many, and else the buffer that was to take them; and a group's bitfields.
+-- A group's bitfields, lifted out of a buffer.
 -- Assumes nothing.
-use mathlib.Core.Path.{◌≡◌, refl, sym, ap, ap₂, ◌∙◌}
-use mathlib.Core.Bool.{Bool, true, ◌&&◌}
+use mathlib.Core.Path.{◌≡◌, sym, ap, ap₂, ◌∙◌}
+use mathlib.Core.Bool.{true}
 use mathlib.Core.List.{List, ◌++◌}
 use Prim.Native.Nat.{ℕ, ◌+◌, ◌-◌, ◌≤◌, ◌<◌}
 use native.Mathlib.Omega.{arith}
-use lib.Dec.{leb, ltb}
+use lib.Dec.{leb}
 use lib.ListN.{length, get_or, take, drop, length-drop}
 use lib.Seq.{length-take-le}
 use borrow.Author.Tests.{le-leb, lt-leb, leb-true}
 use Rattle.numbers.specs.Numbers.{patched}
-use Rattle.numbers.specs.NumberLaws.{patched-part}
 use Rattle.block.specs.Slots.{zeros}
 use Rattle.block.specs.SlotLaws.{put_in_zeros, both_true}
-use Rattle.session_fields.specs.SessionFields.{lifted_of, front_of, has_bits, bits_in}
-
-module _ (at : ℕ) (s to : List ℕ) where
-  pub lift_there : at + length to ≤ length s → lifted_of at s to ≡ take (length to) (drop at s)
-  unfolding lifted_of
-  lift_there h = rw (le-leb _ _ h)
-
-  pub lift_short : length s < at + length to → to ≡ lifted_of at s to
-  unfolding lifted_of
-  lift_short h = rw (lt-leb _ _ h)
-
-  -- as a function has it: the part of the buffer, copied to the front
-  pub lift_copied : at + length to ≤ length s → (n : ℕ) → n ≡ at + length to → {out : List ℕ} → out ≡ patched to 0 (take (n - at) (drop at s)) → out ≡ lifted_of at s to
-  lift_copied h n e {out} p =
-      let k : n - at ≡ length to = omega arith in
-      patched-part to s (length to) at refl h (p ∙ ap (λ (m : ℕ). patched to 0 (take m (drop at s))) k) ∙ sym (lift_there h)
+use Rattle.session_fields.specs.SessionFields.{front_of, has_bits, bits_at}
 
 -- ---- the first bytes from a place on, into the front of a buffer
 
@@ -58,11 +42,10 @@ bits_held n at s h l =
     let e : length (take n (drop at s)) ≡ n = length-take-le n (drop at s) (simp length-drop (omega arith)) in
     front-there n at s (zeros 15) h l ∙ put_in_zeros 15 (take n (drop at s)) ∙ ap (λ (m : ℕ). take n (drop at s) ++ zeros (15 - m)) e
 
-pub bits_got : (p n : ℕ) (s : List ℕ) → n ≡ get_or s (p + 3) 0 → has_bits p s ≡ true → {out : List ℕ} → out ≡ front_of n (p + 4) s (zeros 15)
-    → record { there = true; count = n; bits = out } ≡ bits_in (has_bits p s) (get_or s (p + 3) 0) (p + 4) s
-bits_got p n s e has {out} o =
-    let m = get_or s (p + 3) 0 in
-    let i = both_true (ltb 0 p) (leb m 15 && leb (p + 4 + m) (length s)) has in
-    let j = both_true (leb m 15) (leb (p + 4 + m) (length s)) i.1 in
-    let held : out ≡ take m (drop (p + 4) s) ++ zeros (15 - m) = o ∙ ap (λ (k : ℕ). front_of k (p + 4) s (zeros 15)) e ∙ bits_held m (p + 4) s (leb-true _ _ j.1) (leb-true _ _ j.0) in
-    ap₂ (λ (k : ℕ) (l : List ℕ). record { there = true; count = k; bits = l }) e held ∙ ap (λ (b : Bool). bits_in b m (p + 4) s) (sym has)
+pub bits_got : (at n : ℕ) (s : List ℕ) → n ≡ get_or s (at + 4) 0 → has_bits at s ≡ true → {out : List ℕ} → out ≡ front_of n (at + 5) s (zeros 15)
+    → record { count = n; bits = out } ≡ bits_at (get_or s (at + 4) 0) (at + 5) s
+bits_got at n s e has {out} o =
+    let m = get_or s (at + 4) 0 in
+    let j = both_true (leb m 15) (leb (at + 5 + m) (length s)) has in
+    let held : out ≡ take m (drop (at + 5) s) ++ zeros (15 - m) = o ∙ ap (λ (k : ℕ). front_of k (at + 5) s (zeros 15)) e ∙ bits_held m (at + 5) s (leb-true _ _ j.1) (leb-true _ _ j.0) in
+    ap₂ (λ (k : ℕ) (l : List ℕ). record { count = k; bits = l }) e held

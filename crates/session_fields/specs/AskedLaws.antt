@@ -2,12 +2,12 @@
 --     first-asked     where the group of units comes first: what this group asks for
 --     record-asked    wherever it comes, and where there is none: what the groups ask for
 -- Assumes nothing.
-use Rattle.std.specs.Prelude.{◌≡◌, Bool, false, ◌&&◌, eqb}
+use Rattle.std.specs.Prelude.{◌≡◌, Bool, false, ◌&&◌, eqb, Option, None, Some, option_map, unwrap_or}
 use Rattle.std.proofs.Math.Path.{refl, ap, ap₂}
 use Rattle.std.proofs.Common.{sym, ◌∙◌}
 use Rattle.std.proofs.Math.Bool.{true, cond}
 use mathlib.Core.List.{List, [], ◌∷◌, ◌++◌, append_assoc}
-use Prim.Native.Nat.{ℕ, suc, ◌+◌, ◌-◌, ◌*◌, ◌/◌, ◌%◌, ◌≤◌, ◌<◌}
+use Prim.Native.Nat.{ℕ, suc, ◌+◌, ◌*◌, ◌/◌, ◌%◌, ◌≤◌, ◌<◌}
 use native.Mathlib.Omega.{arith}
 use Rattle.std.proofs.Math.Dec.{ltb}
 use Rattle.std.proofs.Math.ListN.{length, get_or, length-append}
@@ -18,70 +18,61 @@ use Rattle.numbers.specs.NumberLaws.{number_back, number_after}
 use Rattle.session_groups.specs.Values.{Pair, pair_bytes, pairs_bytes, NumbersFit, Group, group_bytes, groups_bytes, EachInOrder}
 use Rattle.session_groups.specs.Values.Group.{units, bits}
 use Rattle.session_groups.specs.Asked.{asked_of, asked}
-use Rattle.session_fields.specs.SessionFields.{group_from, request_group, group_flag, listed_from, listed_at, group_listed}
-use Rattle.session_fields.specs.AskedFor.{asked_above}
+use Rattle.session_fields.specs.SessionFields.{group_from, request_group, flag_in, group_flag, listed_from, entry_number, listed_in, group_listed}
+use Rattle.session_fields.specs.AskedFor.{unlisted_above, or_listed, asked_above}
 
 -- ---- the pairs
 
-module _ (u base p flag : ℕ) (place : base ≡ p + 4) where
-  pairs_asked : (ps : List Pair) (i : ℕ) (q t : List ℕ) → length q ≡ base + 5 * i → NumbersFit ps
-      → cond (ltb 0 (listed_from (length ps) u i base (q ++ (pairs_bytes ps ++ t)))) (number_at 4 (p + 5 * listed_from (length ps) u i base (q ++ (pairs_bytes ps ++ t))) (q ++ (pairs_bytes ps ++ t))) (cond (eqb flag 1) 4294967295 0)
-      ≡ asked_of flag ps u
+module _ (u at flag : ℕ) where
+  -- what is asked for by the pair that is found
+  abbrev by_pair : List ℕ → Option ℕ → ℕ
+  by_pair s k = or_listed (option_map (entry_number at s) k) (unlisted_above flag)
+
+  pairs_asked : (ps : List Pair) (i : ℕ) (q t : List ℕ) → length q ≡ at + 5 + 5 * i → NumbersFit ps
+      → by_pair (q ++ (pairs_bytes ps ++ t)) (listed_from (length ps) u i (at + 5) (q ++ (pairs_bytes ps ++ t))) ≡ asked_of flag ps u
   unfolding listed_from
   pairs_asked [] i q t l f = refl
   pairs_asked (x ∷ ps) i q t l f =
-      let e : get_or (q ++ (pairs_bytes (x ∷ ps) ++ t)) (base + 5 * i) 0 ≡ x.unit = get_or_at q x.unit ((bytes_of 4 x.number ++ pairs_bytes ps) ++ t) 0 (base + 5 * i) l in
-      let a : (q ++ pair_bytes x) ++ (pairs_bytes ps ++ t) ≡ q ++ (pairs_bytes (x ∷ ps) ++ t) = append_assoc q (pair_bytes x) (pairs_bytes ps ++ t) in
-      let w : p + 5 * suc i ≡ length q + 1 = omega (arith, l, place) in
-      let n : number_at 4 (p + 5 * suc i) (q ++ (pairs_bytes (x ∷ ps) ++ t)) ≡ x.number =
-      ap (λ (j : ℕ). number_at 4 j (q ++ (pairs_bytes (x ∷ ps) ++ t))) w
+      let s : List ℕ = q ++ (pairs_bytes (x ∷ ps) ++ t) in
+      let e : get_or s (at + 5 + 5 * i) 0 ≡ x.unit = get_or_at q x.unit ((bytes_of 4 x.number ++ pairs_bytes ps) ++ t) 0 (at + 5 + 5 * i) l in
+      let a : (q ++ pair_bytes x) ++ (pairs_bytes ps ++ t) ≡ s = append_assoc q (pair_bytes x) (pairs_bytes ps ++ t) in
+      let w : at + 6 + 5 * i ≡ length q + 1 = omega (arith, l) in
+      let n : number_at 4 (at + 6 + 5 * i) s ≡ x.number =
+      ap (λ (j : ℕ). number_at 4 j s) w
       ∙ number_after 4 1 q (pairs_bytes (x ∷ ps) ++ t)
       ∙ number_back 4 x.number (pairs_bytes ps ++ t) f.0 in
       let later = pairs_asked ps (suc i) (q ++ pair_bytes x) t (omega (arith, l, length-append q (pair_bytes x))) f.1 in
-      ap (λ (y : ℕ). at y) (ap (λ (z : ℕ). cond (eqb z u) (suc i) (listed_from (length ps) u (suc i) base (q ++ (pairs_bytes (x ∷ ps) ++ t)))) e)
+      ap (λ (z : ℕ). by_pair s (cond (eqb z u) (Some i) (listed_from (length ps) u (suc i) (at + 5) s))) e
       ∙ by (eqb x.unit u) n (rw a at later)
     where
-      at : ℕ → ℕ
-      at k = cond (ltb 0 k) (number_at 4 (p + 5 * k) (q ++ (pairs_bytes (x ∷ ps) ++ t))) (cond (eqb flag 1) 4294967295 0)
-
-      by : (b : Bool) → number_at 4 (p + 5 * suc i) (q ++ (pairs_bytes (x ∷ ps) ++ t)) ≡ x.number
-          → at (listed_from (length ps) u (suc i) base (q ++ (pairs_bytes (x ∷ ps) ++ t))) ≡ asked_of flag ps u
-          → at (cond b (suc i) (listed_from (length ps) u (suc i) base (q ++ (pairs_bytes (x ∷ ps) ++ t)))) ≡ cond b x.number (asked_of flag ps u)
-      by true n r = ap (λ (c : Bool). cond c (number_at 4 (p + 5 * suc i) (q ++ (pairs_bytes (x ∷ ps) ++ t))) (cond (eqb flag 1) 4294967295 0)) (lt-ltb 0 (suc i) (omega arith)) ∙ n
+      by : (b : Bool) → number_at 4 (at + 6 + 5 * i) (q ++ (pairs_bytes (x ∷ ps) ++ t)) ≡ x.number
+          → by_pair (q ++ (pairs_bytes (x ∷ ps) ++ t)) (listed_from (length ps) u (suc i) (at + 5) (q ++ (pairs_bytes (x ∷ ps) ++ t))) ≡ asked_of flag ps u
+          → by_pair (q ++ (pairs_bytes (x ∷ ps) ++ t)) (cond b (Some i) (listed_from (length ps) u (suc i) (at + 5) (q ++ (pairs_bytes (x ∷ ps) ++ t)))) ≡ cond b x.number (asked_of flag ps u)
+      by true n r = n
       by false n r = r
 
 -- ---- the groups
 
--- what is read of the group of units whose place and one is p
-abbrev told : ℕ → ℕ → List ℕ → ℕ
-told p u s = cond (ltb 0 (listed_at p u s)) (cond (ltb 0 (listed_at p u s)) (number_at 4 (p + 5 * listed_at p u s) s) 0) (cond (eqb (cond (ltb 0 p) (get_or s (p + 2) 0) 0) 1) 4294967295 0)
-
-one-test : (b : Bool) (x y : ℕ) → cond b (cond b x 0) y ≡ cond b x y
-one-test true x y = refl
-one-test false x y = refl
+-- what is read of the group of units at a place
+abbrev told : Option ℕ → ℕ → List ℕ → ℕ
+told p u s = or_listed (listed_in p u s) (unlisted_above (unwrap_or (flag_in p s) 0))
 
 two : (v : ℕ) → v < 65536 → v % 256 + 256 * (v / 256 % 256 + 256 * 0) ≡ v
 two v h = omega arith
 
 module _ (u : ℕ) where
-  units_told : (flag at : ℕ) (ps : List Pair) (q r : List ℕ) → length q ≡ at → NumbersFit ps → told (suc at) u (q ++ (group_bytes (units flag ps) ++ r)) ≡ asked_of flag ps u
+  units_told : (flag at : ℕ) (ps : List Pair) (q r : List ℕ) → length q ≡ at → NumbersFit ps → told (Some at) u (q ++ (group_bytes (units flag ps) ++ r)) ≡ asked_of flag ps u
   units_told flag at ps q r l f =
       let h : List ℕ = bytes_of 2 (5 + 5 * length ps) ++ (0x80 ∷ flag ∷ length ps ∷ []) in
       let s : List ℕ = q ++ (group_bytes (units flag ps) ++ r) in
       let a : (q ++ h) ++ (pairs_bytes ps ++ r) ≡ s = append_assoc q h (pairs_bytes ps ++ r) in
-      let three : suc at + 2 ≡ length q + 3 = omega arith in
-      let four : suc at + 3 ≡ length q + 4 = omega arith in
-      let g : get_or s (suc at + 2) 0 ≡ flag = ap (λ (i : ℕ). get_or s i 0) three ∙ get_or-append-add q (group_bytes (units flag ps) ++ r) 3 0 in
-      let n : get_or s (suc at + 3) 0 ≡ length ps = ap (λ (i : ℕ). get_or s i 0) four ∙ get_or-append-add q (group_bytes (units flag ps) ++ r) 4 0 in
-      let z : ltb 0 (suc at) ≡ true = lt-ltb 0 (suc at) (omega arith) in
-      let k : listed_at (suc at) u s ≡ listed_from (length ps) u 0 (suc at + 4) s =
-      ap₂ (λ (b : Bool) (c : ℕ). cond b (listed_from c u 0 (suc at + 4) s) 0) z n in
-      let y : ◌≡◌ {A = ℕ} (cond (eqb (cond (ltb 0 (suc at)) (get_or s (suc at + 2) 0) 0) 1) 4294967295 0) (cond (eqb flag 1) 4294967295 0) =
-      ap₂ (λ (b : Bool) (c : ℕ). cond (eqb (cond b c 0) 1) 4294967295 0) z g in
-      one-test (ltb 0 (listed_at (suc at) u s)) (number_at 4 (suc at + 5 * listed_at (suc at) u s) s) _
-      ∙ ap₂ (λ (i d : ℕ). cond (ltb 0 i) (number_at 4 (suc at + 5 * i) s) d) k y
-      ∙ ap (λ (y : List ℕ). cond (ltb 0 (listed_from (length ps) u 0 (suc at + 4) y)) (number_at 4 (suc at + 5 * listed_from (length ps) u 0 (suc at + 4) y) y) (cond (eqb flag 1) 4294967295 0)) (sym a)
-      ∙ pairs_asked u (suc at + 4) (suc at) flag refl ps 0 (q ++ h) r (omega (arith, l, length-append q h)) f
+      let three : at + 3 ≡ length q + 3 = omega arith in
+      let four : at + 4 ≡ length q + 4 = omega arith in
+      let g : get_or s (at + 3) 0 ≡ flag = ap (λ (i : ℕ). get_or s i 0) three ∙ get_or-append-add q (group_bytes (units flag ps) ++ r) 3 0 in
+      let n : get_or s (at + 4) 0 ≡ length ps = ap (λ (i : ℕ). get_or s i 0) four ∙ get_or-append-add q (group_bytes (units flag ps) ++ r) 4 0 in
+      ap₂ (λ (m d : ℕ). or_listed (option_map (entry_number at s) (listed_from m u 0 (at + 5) s)) (unlisted_above d)) n g
+      ∙ ap (λ (y : List ℕ). by_pair u at flag y (listed_from (length ps) u 0 (at + 5) y)) (sym a)
+      ∙ pairs_asked u at flag ps 0 (q ++ h) r (omega (arith, l, length-append q h)) f
 
   groups_asked : (gs : List Group) (at : ℕ) (q t : List ℕ) → length q ≡ at → EachInOrder gs → at + length (groups_bytes gs) ≤ 433
       → told (group_from (length gs) 0x80 0 at (q ++ (groups_bytes gs ++ t))) u (q ++ (groups_bytes gs ++ t)) ≡ asked gs u
@@ -95,7 +86,7 @@ module _ (u : ℕ) where
       let w : at + 2 ≡ length q + 2 = omega arith in
       let k : get_or s (at + 2) 0 ≡ 0x80 = ap (λ (i : ℕ). get_or s i 0) w ∙ get_or-append-add q (group_bytes (units flag ps) ++ r) 2 0 in
       ap (λ (y : List ℕ). told (group_from (suc (length gs)) 0x80 0 at (q ++ y)) u (q ++ y)) a
-      ∙ ap₂ (λ (c : Bool) (x : ℕ). told (cond c (cond (eqb x 0x80 && true) (suc at) (group_from (length gs) 0x80 0 (at + number_at 2 at s) s)) 0) u s) b k
+      ∙ ap₂ (λ (c : Bool) (x : ℕ). told (cond c (cond (eqb x 0x80 && true) (Some at) (group_from (length gs) 0x80 0 (at + number_at 2 at s) s)) None) u s) b k
       ∙ units_told flag at ps q r l o.0.1.fit
   groups_asked (bits type list ∷ gs) at q t l o h =
       let g : List ℕ = group_bytes (bits type list) in
@@ -111,7 +102,7 @@ module _ (u : ℕ) where
       let j : (q ++ g) ++ r ≡ s = append_assoc q g r in
       let e : at + number_at 2 at s ≡ at + (5 + length list) = ap (λ (i : ℕ). at + i) m in
       ap (λ (y : List ℕ). told (group_from (suc (length gs)) 0x80 0 at (q ++ y)) u (q ++ y)) a
-      ∙ ap₂ (λ (c : Bool) (x : ℕ). told (cond c (cond (eqb x 0x80 && true) (suc at) (group_from (length gs) 0x80 0 (at + number_at 2 at s) s)) 0) u s) b k
+      ∙ ap₂ (λ (c : Bool) (x : ℕ). told (cond c (cond (eqb x 0x80 && true) (Some at) (group_from (length gs) 0x80 0 (at + number_at 2 at s) s)) None) u s) b k
       ∙ ap (λ (i : ℕ). told (group_from (length gs) 0x80 0 i s) u s) e
       ∙ ap (λ (y : List ℕ). told (group_from (length gs) 0x80 0 (at + (5 + length list)) y) u y) (sym j)
       ∙ groups_asked gs (at + (5 + length list)) (q ++ g) t (omega (arith, length-append q (group_bytes (bits type list)), l)) o.1 (omega (arith, h, n))
@@ -131,12 +122,12 @@ head_long : (names : List ℕ) (n : ℕ) → length names ≡ 18 → length (nam
 head_long names n l = omega (arith, length-append names (n ∷ []), l)
 
 -- a group of units that comes first is found, whatever follows it
-found_first : (n flag : ℕ) (ps : List Pair) (q r : List ℕ) → length q ≡ 19 → group_from (suc n) 0x80 0 19 (q ++ (group_bytes (units flag ps) ++ r)) ≡ 20
+found_first : (n flag : ℕ) (ps : List Pair) (q r : List ℕ) → length q ≡ 19 → group_from (suc n) 0x80 0 19 (q ++ (group_bytes (units flag ps) ++ r)) ≡ Some 19
 unfolding group_from
 found_first n flag ps q r l =
     let s : List ℕ = q ++ (group_bytes (units flag ps) ++ r) in
     let k : get_or s 21 0 ≡ 0x80 = ap (λ (i : ℕ). get_or s (i + 2) 0) (sym l) ∙ get_or-append-add q (group_bytes (units flag ps) ++ r) 2 0 in
-    ap (λ (z : ℕ). cond (eqb z 0x80 && true) 20 (group_from n 0x80 0 (19 + number_at 2 19 s) s)) k
+    ap (λ (z : ℕ). cond (eqb z 0x80 && true) (Some 19) (group_from n 0x80 0 (19 + number_at 2 19 s) s)) k
 
 -- FIRST ASKED: what its group of units asks for, where that comes first, whatever comes after it
 pub first-asked : (x y : ℕ) (names : List ℕ) (n flag u : ℕ) (ps : List Pair) (r : List ℕ) → length names ≡ 18 → NumbersFit ps
@@ -145,7 +136,7 @@ first-asked x y names n flag u ps r l f =
     let q : List ℕ = names ++ (suc n ∷ []) in
     let s : List ℕ = q ++ (group_bytes (units flag ps) ++ r) in
     record_told x y names (suc n) u (group_bytes (units flag ps) ++ r) l
-    ∙ ap (λ (p : ℕ). told p u s) (found_first n flag ps q r (head_long names (suc n) l))
+    ∙ ap (λ (p : Option ℕ). told p u s) (found_first n flag ps q r (head_long names (suc n) l))
     ∙ units_told u flag 19 ps q r (head_long names (suc n) l) f
 
 -- RECORD ASKED: what its groups ask for, which are in order and fit

@@ -1,5 +1,5 @@
 -- What is true of the fields of a session record: what is set is got, and everything else stays as it was. Assumes nothing.
-use Rattle.std.specs.Prelude.{◌≡◌, refl, ◌⊎◌, Bool, true, false, ◌&&◌, ℕ, ◌+◌, ◌-◌, ◌*◌, ◌≤◌, ◌<◌, min, eqb, length, get_or, take, drop}
+use Rattle.std.specs.Prelude.{◌≡◌, refl, ◌⊎◌, Bool, true, false, ◌&&◌, ℕ, ◌+◌, ◌-◌, ◌*◌, ◌^◌, ◌≤◌, ◌<◌, min, eqb, length, get_or, take, drop, None, Some}
 use Rattle.std.proofs.Common.{sym, ◌∙◌, inl, inr, ⊎_elim, arith, length-take, length-drop, length-take-le, get_or-take, get_or-drop, ext_get_or, eq-eqb}
 use Rattle.std.proofs.Math.Path.{ap, ap₂}
 use Rattle.std.proofs.Math.Bool.{cond}
@@ -8,10 +8,17 @@ use Rattle.std.proofs.Math.Dec.{ltb}
 use Rattle.std.proofs.lemmas.List.{get_or_at}
 use Rattle.numbers.specs.Numbers.{number_at, bytes_of, patched, put_buffer}
 use Rattle.numbers.specs.NumberLaws.{put_is_there, read_of_written, put_stores, patched-length, patched-before, patched-after, number_before, number_beyond}
-use Rattle.block.specs.Slots.{zeros}
 use Rattle.session_messages.specs.declared.Record.{Record}
-use Rattle.session_fields.specs.SessionFields.{is_of, bytes_in, byte_in, outgoing_in}
-use Rattle.session_fields.specs.SessionFields.{byte_of, outgoing_of, has_pair, pair_of, text1_of, text4_of, text10_of, text60_of, choose, storing, setting_of}
+use Rattle.table.specs.declared.OutgoingNumber.{OutgoingNumber}
+use Rattle.session_fields.specs.declared.Pair.{Pair}
+use Rattle.session_fields.specs.SessionFields.{is_of, number_of, outgoing_of, text_of, has_pair, pair_of, choose, storing, setting_of}
+
+-- an outgoing number, and a pair, by their numbers
+abbrev outgoing : ℕ → OutgoingNumber
+outgoing x = record { 0 = x }
+
+abbrev pub pair : ℕ → ℕ → Pair
+pair u n = record { unit = record { 0 = u }; number = record { 0 = n } }
 
 -- ---- a record of another type stays as it is
 
@@ -61,45 +68,30 @@ module _ {message at w : ℕ} {r : Record} (i : Part message at w r) where
 
   -- its place holds the bytes that were set
   pub set_is_held : (bytes : List ℕ) → length bytes ≡ w
-      → bytes_in w (is_of message (setting_of message at bytes r)) at (setting_of message at bytes r).body ≡ bytes
+      → text_of w message at (setting_of message at bytes r) ≡ Some bytes
   set_is_held bytes l =
       let h : at + length bytes ≤ length r.body = omega (arith, i.fits, i.whole, l) in
-      ap₂ (λ (b : Bool) (s : List ℕ). bytes_in w b at s) (set-is_of bytes) (set_body bytes l) ∙ put_is_there r.body at bytes w l h
+      ap₂ (λ (b : Bool) (s : List ℕ). cond b (Some (take w (drop at s))) None) (set-is_of bytes) (set_body bytes l)
+      ∙ ap (λ (t : List ℕ). Some t) (put_is_there r.body at bytes w l h)
 
-pub byte_set_is_got : {message at : ℕ} {r : Record} → Part message at 1 r → (v : ℕ)
-    → byte_of message at (setting_of message at (v ∷ []) r) ≡ record { selected = true; value = v }
-unfolding byte_of patched
+  -- a number is got, whatever its width
+  pub number_set_is_got : (v : ℕ) → v < 256 ^ w → number_of w message at (setting_of message at (bytes_of w v) r) ≡ Some v
+  number_set_is_got v h =
+      ap₂ (λ (b : Bool) (s : List ℕ). cond b (Some (number_at w at s)) None) (set-is_of (bytes_of w v)) (set_buffer (bytes_of w v))
+      ∙ ap (λ (x : ℕ). Some x) (read_of_written w v at r.body h (omega (arith, i.fits, i.whole)))
+
+pub byte_set_is_got : {message at : ℕ} {r : Record} → Part message at 1 r → (v : ℕ) → number_of 1 message at (setting_of message at (v ∷ []) r) ≡ Some v
+unfolding patched
 byte_set_is_got {message} {at} {r} i v =
-    ap₂ (λ (b : Bool) (s : List ℕ). byte_in b at s) (set-is_of i (v ∷ [])) (set_body i (v ∷ []) refl)
-    ∙ ap (λ (x : ℕ). record { selected = true; value = x }) (get_or_at (take at r.body) v (drop (at + 1) r.body) 0 at (length-take-le at r.body (omega (arith, i.fits, i.whole))))
+    let e : number_at 1 at (patched r.body at (v ∷ [])) ≡ get_or (patched r.body at (v ∷ [])) at 0 = omega arith in
+    ap₂ (λ (b : Bool) (s : List ℕ). cond b (Some (number_at 1 at s)) None) (set-is_of i (v ∷ [])) (set_body i (v ∷ []) refl)
+    ∙ ap (λ (x : ℕ). Some x) (e ∙ get_or_at (take at r.body) v (drop (at + 1) r.body) 0 at (length-take-le at r.body (omega (arith, i.fits, i.whole))))
 
 pub outgoing_set_is_got : {message at : ℕ} {r : Record} → Part message at 4 r → (v : ℕ) → v < 4294967296
-    → outgoing_of message at (setting_of message at (bytes_of 4 v) r) ≡ record { selected = true; value = record { 0 = v } }
-unfolding outgoing_of
+    → outgoing_of message at (setting_of message at (bytes_of 4 v) r) ≡ Some (record { 0 = v })
 outgoing_set_is_got {message} {at} {r} i v h =
-    ap₂ (λ (b : Bool) (s : List ℕ). outgoing_in b at s) (set-is_of i (bytes_of 4 v)) (set_buffer i (bytes_of 4 v))
-    ∙ ap (λ (x : ℕ). record { selected = true; value = record { 0 = x } }) (read_of_written 4 v at r.body h (omega (arith, i.fits, i.whole)))
-
--- the texts: a field of w bytes answers that it is there, and the bytes
-pub text1_set_is_got : {message at : ℕ} {r : Record} → Part message at 1 r → (bytes : List ℕ) → length bytes ≡ 1
-    → text1_of message at (setting_of message at bytes r) ≡ record { selected = true; bytes = bytes }
-unfolding text1_of
-text1_set_is_got i bytes l = ap₂ (λ (b : Bool) (s : List ℕ). record { selected = b; bytes = s }) (set-is_of i bytes) (set_is_held i bytes l)
-
-pub text4_set_is_got : {message at : ℕ} {r : Record} → Part message at 4 r → (bytes : List ℕ) → length bytes ≡ 4
-    → text4_of message at (setting_of message at bytes r) ≡ record { selected = true; bytes = bytes }
-unfolding text4_of
-text4_set_is_got i bytes l = ap₂ (λ (b : Bool) (s : List ℕ). record { selected = b; bytes = s }) (set-is_of i bytes) (set_is_held i bytes l)
-
-pub text10_set_is_got : {message at : ℕ} {r : Record} → Part message at 10 r → (bytes : List ℕ) → length bytes ≡ 10
-    → text10_of message at (setting_of message at bytes r) ≡ record { selected = true; bytes = bytes }
-unfolding text10_of
-text10_set_is_got i bytes l = ap₂ (λ (b : Bool) (s : List ℕ). record { selected = b; bytes = s }) (set-is_of i bytes) (set_is_held i bytes l)
-
-pub text60_set_is_got : {message at : ℕ} {r : Record} → Part message at 60 r → (bytes : List ℕ) → length bytes ≡ 60
-    → text60_of message at (setting_of message at bytes r) ≡ record { selected = true; bytes = bytes }
-unfolding text60_of
-text60_set_is_got i bytes l = ap₂ (λ (b : Bool) (s : List ℕ). record { selected = b; bytes = s }) (set-is_of i bytes) (set_is_held i bytes l)
+    ap₂ (λ (b : Bool) (s : List ℕ). cond b (Some (outgoing (number_at 4 at s))) None) (set-is_of i (bytes_of 4 v)) (set_buffer i (bytes_of 4 v))
+    ∙ ap (λ (x : ℕ). Some (outgoing x)) (read_of_written 4 v at r.body h (omega (arith, i.fits, i.whole)))
 
 -- ---- setting a field leaves every field that lies apart, of a message of whichever type
 
@@ -158,30 +150,14 @@ module _ {message at w : ℕ} {r : Record} (i : Part message at w r) (bytes : Li
   pub same_type : (type : ℕ) → is_of type (setting_of message at bytes r) ≡ is_of type r
   same_type type = ap (λ (m : ℕ). eqb m type) (setting_keeps_the_rest message at bytes r).same_message
 
-  pub byte_field_kept : (type q : ℕ) → (at + w ≤ q) ⊎ (q < at) → byte_of type q (setting_of message at bytes r) ≡ byte_of type q r
-  unfolding byte_of
-  byte_field_kept type q apart = ap₂ (λ (b : Bool) (x : ℕ). record { selected = b; value = cond b x 0 }) (same_type type) (byte_stays q apart)
+  pub number_field_kept : (type n q : ℕ) → (at + w ≤ q) ⊎ (q + n ≤ at) → number_of n type q (setting_of message at bytes r) ≡ number_of n type q r
+  number_field_kept type n q apart = ap₂ (λ (b : Bool) (x : ℕ). cond b (Some x) None) (same_type type) (number_stays n q apart)
 
   pub outgoing_field_kept : (type q : ℕ) → (at + w ≤ q) ⊎ (q + 4 ≤ at) → outgoing_of type q (setting_of message at bytes r) ≡ outgoing_of type q r
-  unfolding outgoing_of
-  outgoing_field_kept type q apart =
-      ap₂ (λ (b : Bool) (x : ℕ). record { selected = b; value = record { 0 = cond b x 0 } }) (same_type type) (number_stays 4 q apart)
+  outgoing_field_kept type q apart = ap₂ (λ (b : Bool) (x : ℕ). cond b (Some (outgoing x)) None) (same_type type) (number_stays 4 q apart)
 
-  pub text1_field_kept : (type q : ℕ) → (at + w ≤ q) ⊎ (q + 1 ≤ at) → text1_of type q (setting_of message at bytes r) ≡ text1_of type q r
-  unfolding text1_of
-  text1_field_kept type q apart = ap₂ (λ (b : Bool) (x : List ℕ). record { selected = b; bytes = cond b x (zeros 1) }) (same_type type) (run_stays 1 q apart)
-
-  pub text4_field_kept : (type q : ℕ) → (at + w ≤ q) ⊎ (q + 4 ≤ at) → text4_of type q (setting_of message at bytes r) ≡ text4_of type q r
-  unfolding text4_of
-  text4_field_kept type q apart = ap₂ (λ (b : Bool) (x : List ℕ). record { selected = b; bytes = cond b x (zeros 4) }) (same_type type) (run_stays 4 q apart)
-
-  pub text10_field_kept : (type q : ℕ) → (at + w ≤ q) ⊎ (q + 10 ≤ at) → text10_of type q (setting_of message at bytes r) ≡ text10_of type q r
-  unfolding text10_of
-  text10_field_kept type q apart = ap₂ (λ (b : Bool) (x : List ℕ). record { selected = b; bytes = cond b x (zeros 10) }) (same_type type) (run_stays 10 q apart)
-
-  pub text60_field_kept : (type q : ℕ) → (at + w ≤ q) ⊎ (q + 60 ≤ at) → text60_of type q (setting_of message at bytes r) ≡ text60_of type q r
-  unfolding text60_of
-  text60_field_kept type q apart = ap₂ (λ (b : Bool) (x : List ℕ). record { selected = b; bytes = cond b x (zeros 60) }) (same_type type) (run_stays 60 q apart)
+  pub text_field_kept : (type n q : ℕ) → (at + w ≤ q) ⊎ (q + n ≤ at) → text_of n type q (setting_of message at bytes r) ≡ text_of n type q r
+  text_field_kept type n q apart = ap₂ (λ (b : Bool) (x : List ℕ). cond b (Some x) None) (same_type type) (run_stays n q apart)
 
   -- the pairs, of a field before their count
   pub pair_kept : (type q k : ℕ) → at + w ≤ q → pair_of type q k (setting_of message at bytes r) ≡ pair_of type q k r
@@ -191,5 +167,5 @@ module _ {message at w : ℕ} {r : Record} (i : Part message at w r) (bytes : Li
       let u : at + w ≤ p = omega (arith, before) in
       let n : at + w ≤ p + 1 = omega (arith, before) in
       let has : has_pair type q k (setting_of message at bytes r) ≡ has_pair type q k r = ap₂ (λ (b : Bool) (x : ℕ). b && (ltb k x && ltb k 32)) (same_type type) (byte_stays q (inl before)) in
-      ap₂ (λ (b : Bool) (x : ℕ). record { there = b; unit = record { 0 = cond b x 0 }; number = record { 0 = cond b (number_at 4 (p + 1) (setting_of message at bytes r).body) 0 } }) has (byte_stays p (inl u))
-      ∙ ap (λ (x : ℕ). record { there = has_pair type q k r; unit = record { 0 = cond (has_pair type q k r) (get_or r.body p 0) 0 }; number = record { 0 = cond (has_pair type q k r) x 0 } }) (number_stays 4 (p + 1) (inl n))
+      ap₂ (λ (b : Bool) (x : ℕ). cond b (Some (pair x (number_at 4 (p + 1) (setting_of message at bytes r).body))) None) has (byte_stays p (inl u))
+      ∙ ap (λ (x : ℕ). cond (has_pair type q k r) (Some (pair (get_or r.body p 0) x)) None) (number_stays 4 (p + 1) (inl n))

@@ -1,108 +1,79 @@
 -- The loops over pairs and over groups: one more turn, and the end.
 -- Assumes nothing.
 use mathlib.Core.Path.{◌≡◌, refl, sym, ap, ◌∙◌}
-use mathlib.Core.Bool.{true, false, cond, ◌&&◌}
+use mathlib.Core.Bool.{true, cond, ◌&&◌}
 use mathlib.Core.List.{List}
 use Prim.Native.Nat.{ℕ, suc, ◌+◌, ◌-◌, ◌*◌, ◌≤◌, ◌<◌, zero-le}
 use native.Mathlib.Omega.{arith}
 use native.Mathlib.Numerals.{add-one}
 use lib.Dec.{eqb}
-use lib.ListN.{length, get_or, drop, length-drop, length-set, replicate}
-use borrow.Author.Tests.{lt-ltb, le-ltb, eq-eqb, ne_eqb}
-use Rattle.session_groups.specs.Groups.{free, mark, unit_at, units_from, next_size, group_key, group_size, groups_from}
+use lib.ListN.{length, get_or, take, drop, length-drop, length-set, replicate}
+use borrow.Author.Tests.{ne_eqb}
+use Rattle.session_groups.specs.Groups.{free, mark, units_from, next_size, group_key, groups_from, groups_end}
+use Rattle.numbers.proofs.Tail.{tail_is}
 use Rattle.session_groups.proofs.GroupLaws.{next_fits}
-
--- ---- free
-
-pub free-zero : (marks : List ℕ) (u : ℕ) → u ≡ 0 → free marks u ≡ false
-free-zero marks u e = rw (le-ltb 0 u (omega arith))
-
-pub free-past : (marks : List ℕ) (u : ℕ) → 0 < u → length marks ≤ u → free marks u ≡ false
-free-past marks u h k = rw (lt-ltb 0 u h, le-ltb u (length marks) k)
-
-pub free_came : (marks : List ℕ) (u : ℕ) → 0 < u → u < length marks → (get_or marks u 0 ≡ 0 → ⊥) → free marks u ≡ false
-free_came marks u h k n = rw (lt-ltb 0 u h, lt-ltb u (length marks) k, ne_eqb _ _ n)
-
-pub free-yes : (marks : List ℕ) (u : ℕ) → 0 < u → u < length marks → get_or marks u 0 ≡ 0 → free marks u ≡ true
-free-yes marks u h k n = rw (lt-ltb 0 u h, lt-ltb u (length marks) k, eq-eqb _ _ n)
 
 -- ---- units
 
-module _ (s marks : List ℕ) (n i u : ℕ) (h : i < n) (e : u ≡ unit_at s i) where
-  units_more : units_from (n - i) i s marks ≡ ◌&&◌ (free marks u) (units_from (n - (i + 1)) (i + 1) s (mark marks u))
-  unfolding units_from
-  units_more =
-      let k : n - i ≡ suc (n - (i + 1)) = omega arith in
-      ap (λ (m : ℕ). units_from m i s marks) k ∙ rw (add-one i, e) refl
+-- one more pair
+pub units_step : (s marks : List ℕ) (n i : ℕ) → i < n → units_from (n - i) i s marks ≡ ◌&&◌ (free marks (get_or s (5 * i) 0)) (units_from (n - (i + 1)) (i + 1) s (mark marks (get_or s (5 * i) 0)))
+unfolding units_from
+units_step s marks n i h =
+    let k : n - i ≡ suc (n - (i + 1)) = omega arith in
+    ap (λ (m : ℕ). units_from m i s marks) k ∙ rw (add-one i) refl
 
-  pub units_no : free marks u ≡ false → units_from (n - i) i s marks ≡ false
-  units_no f = units_more ∙ rw f
-
-  pub units_yes : free marks u ≡ true → units_from (n - i) i s marks ≡ units_from (n - (i + 1)) (i + 1) s (mark marks u)
-  units_yes f = units_more ∙ rw f
-
+-- and no more
 pub units_none : (s marks : List ℕ) (n i : ℕ) → n ≤ i → units_from (n - i) i s marks ≡ true
 unfolding units_from
 units_none s marks n i h = let k : n - i ≡ 0 = omega arith in ap (λ (m : ℕ). units_from m i s marks) k
 
 -- ---- groups
 
-module _ (s marks : List ℕ) (n i at g k : ℕ) (h : i < n) (e : g ≡ next_size marks (drop at s)) (q : k ≡ group_key (drop at s)) where
-  groups_more : groups_from (n - i) at s marks ≡ cond (eqb g 0) 0 (groups_from (n - (i + 1)) (at + g) s (mark marks k))
-  unfolding groups_from
-  groups_more =
-      let j : n - i ≡ suc (n - (i + 1)) = omega arith in
-      ap (λ (m : ℕ). groups_from m at s marks) j ∙ rw (e, q) refl
-
-  pub groups_no : g ≡ 0 → groups_from (n - i) at s marks ≡ 0
-  groups_no z = groups_more ∙ rw (eq-eqb g 0 z)
-
-  pub groups_yes : (g ≡ 0 → ⊥) → groups_from (n - i) at s marks ≡ groups_from (n - (i + 1)) (at + g) s (mark marks k)
-  groups_yes z = groups_more ∙ rw (ne_eqb g 0 z)
-
-pub groups_none : (s marks : List ℕ) (n i at : ℕ) → n ≤ i → groups_from (n - i) at s marks ≡ at + 1
+-- one more group
+groups_step : (s marks : List ℕ) (n i at : ℕ) → i < n
+    → groups_from (n - i) at s marks ≡ cond (eqb (next_size marks (drop at s)) 0) 0 (groups_from (n - (i + 1)) (at + next_size marks (drop at s)) s (mark marks (group_key (drop at s))))
 unfolding groups_from
-groups_none s marks n i at h = let k : n - i ≡ 0 = omega arith in ap (λ (m : ℕ). groups_from m at s marks) k ∙ sym (add-one at)
+groups_step s marks n i at h = let j : n - i ≡ suc (n - (i + 1)) = omega arith in ap (λ (m : ℕ). groups_from m at s marks) j
 
--- ---- a next_size
-
-pub next_no : (marks s : List ℕ) (k : ℕ) → k ≡ group_key s → free marks k ≡ false → 0 ≡ next_size marks s
-unfolding next_size
-next_no marks s k e f = rw (← e, f)
-
-pub next-yes : (marks s : List ℕ) (k g : ℕ) → k ≡ group_key s → free marks k ≡ true → g ≡ group_size k s → g ≡ next_size marks s
-unfolding next_size
-next-yes marks s k g e f q = rw (← e, f) q
-
--- ---- the loop over groups
-
+-- the loop over groups: the groups still to come end where all of them do
 pub record Going (n : ℕ) (s marks : List ℕ) (at i : ℕ) : Type 0 where
-  pub turns : i ≤ n
   pub inside : at ≤ length s
   pub near : at ≤ 165 * i
   pub places : length marks ≡ 4
-  pub same : groups_from (n - i) at s marks ≡ groups_from n 0 s (replicate 4 0)
+  pub same : groups_from (n - i) at s marks ≡ groups_end n s
 
 pub going_first : (n : ℕ) (s : List ℕ) → Going n s (replicate 4 0) 0 0
 going_first n s =
     let e : n - 0 ≡ n = omega arith in
-    record { turns = zero-le; inside = zero-le; near = zero-le; places = refl; same = ap (λ (m : ℕ). groups_from m 0 s (replicate 4 0)) e }
+    record { inside = zero-le; near = zero-le; places = refl; same = ap (λ (m : ℕ). groups_from m 0 s (replicate 4 0)) e }
 
-module _ (n : ℕ) (s marks : List ℕ) (at i : ℕ) (w : Going n s marks at i) (h : i < n) (g k : ℕ) (e : g ≡ next_size marks (drop at s)) (q : k ≡ group_key (drop at s)) where
-  pub going_stop : g ≡ 0 → 0 ≡ groups_from n 0 s (replicate 4 0)
-  going_stop z = sym (groups_no s marks n i at g k h e q z) ∙ w.same
+module _ (n : ℕ) (s marks : List ℕ) (at i : ℕ) (w : Going n s marks at i) where
+  -- a group against the rules
+  pub going_stop : i < n → next_size marks (take (length s - at) (drop at s)) ≡ 0 → groups_end n s ≡ 0
+  going_stop h z =
+      let e : next_size marks (drop at s) ≡ 0 = ap (next_size marks) (sym (tail_is s at w.inside)) ∙ z in
+      sym w.same ∙ groups_step s marks n i at h ∙ rw e
 
-  pub going_fits : (g ≡ 0 → ⊥) → (at + g ≤ length s) × (g ≤ 165)
-  going_fits z =
-      let f = next_fits marks (drop at s) (λ y. z (e ∙ y)) in
-      (omega (arith, e, f.0, length-drop at s, w.inside), omega (arith, e, f.1))
+  -- a group that is taken
+  pub going_on : i < n → {g k : ℕ} → g ≡ next_size marks (take (length s - at) (drop at s)) → k ≡ group_key (take (length s - at) (drop at s)) → 0 < g
+      → (at + g ≤ length s) × (g ≤ 165) × Going n s (mark marks k) (at + g) (i + 1)
+  going_on h {g} {k} e q z =
+      let t = tail_is s at w.inside in
+      let e' : g ≡ next_size marks (drop at s) = e ∙ ap (next_size marks) t in
+      let q' : k ≡ group_key (drop at s) = q ∙ ap group_key t in
+      let f = next_fits marks (drop at s) (λ y. omega (arith, e', y)) in
+      let l : at + g ≤ length s = omega (arith, e', f.0, length-drop at s, w.inside) in (
+        l,
+        omega (arith, e', f.1),
+        record {
+          inside = l;
+          near = omega (arith, w.near, e', f.1);
+          places = length-set marks k 1 ∙ w.places;
+          same = rw (e', q') (sym (groups_step s marks n i at h ∙ rw (ne_eqb (next_size marks (drop at s)) 0 (λ y. omega (arith, e', y)))) ∙ w.same);
+        },
+      )
 
-  pub going_on : (g ≡ 0 → ⊥) → Going n s (mark marks k) (at + g) (i + 1)
-  going_on z =
-      let f = going_fits z in record {
-        turns = omega arith;
-        inside = f.0;
-        near = omega (arith, w.near, f.1);
-        places = length-set marks k 1 ∙ w.places;
-        same = sym (groups_yes s marks n i at g k h e q z) ∙ w.same;
-      }
+  -- no more groups
+  pub going_none : n ≤ i → groups_end n s ≡ suc at
+  unfolding groups_from
+  going_none h = let k : n - i ≡ 0 = omega arith in sym w.same ∙ ap (λ (m : ℕ). groups_from m at s marks) k

@@ -1,3 +1,4 @@
 pub mod Groups
 pub mod Values
 pub mod Asked
+pub mod Answers

@@ -1,16 +1,18 @@
 -- The parts of a Login Request as they are put one after the other: counts, a group's head, pairs, and groups that may be missing.
 -- Assumes nothing.
 use mathlib.Core.Path.{◌≡◌, refl, sym, ap, ◌∙◌}
-use mathlib.Core.Bool.{Bool, true, false}
+use mathlib.Core.Bool.{Bool, true, false, cond}
 use mathlib.Core.List.{List, [], ◌∷◌, ◌++◌, map}
-use Prim.Native.Nat.{ℕ, zero, suc, ◌+◌, ◌-◌, ◌*◌, ◌≤◌, ◌<◌}
+use Prim.Native.Nat.{ℕ, zero, suc, ◌+◌, ◌*◌, ◌≤◌, ◌<◌}
 use native.Mathlib.Nat.{le_of_suc-le-suc, not-suc-le-zero}
 use native.Mathlib.Numerals.{add-one}
 use native.Mathlib.Omega.{arith}
 use mir.Val.{bool_byte}
+use lib.Dec.{leb}
+use Rattle.std.specs.Prelude.{min}
 use lib.ListN.{length, get_or, take, drop, set}
 use lib.Seq.{set_split, length-take-le}
-use borrow.Author.Tests.{lt-leb, eq-eqb, ne_eqb}
+use borrow.Author.Tests.{leb-true, leb-false, eq-eqb, ne_eqb}
 use Rattle.numbers.specs.Numbers.{bytes_of, patched, put_buffer}
 use Rattle.numbers.specs.NumberLaws.{put_stores, patched-length, patched_join}
 use Rattle.block.specs.Slots.{zeros}
@@ -26,24 +28,12 @@ use Rattle.session_logins.specs.LoginRequests.{numbers_of, least, pairs_for, uni
 
 -- ---- counts
 
-pub least_second : (a b : ℕ) → b < a → b ≡ least a b
-least_second a b h = rw (lt-leb a b h)
-
-pub two_fit : (a b : Bool) → bool_byte a + bool_byte b < 256
-two_fit true true = omega arith
-two_fit true false = omega arith
-two_fit false true = omega arith
-two_fit false false = omega arith
-
-pub three_fit : (a b c : Bool) → bool_byte a + (bool_byte b + bool_byte c) < 256
-three_fit true true true = omega arith
-three_fit true true false = omega arith
-three_fit true false true = omega arith
-three_fit true false false = omega arith
-three_fit false true true = omega arith
-three_fit false true false = omega arith
-three_fit false false true = omega arith
-three_fit false false false = omega arith
+pub least_is : (a b : ℕ) → min a b ≡ least a b
+least_is a b = by (leb a b) refl
+  where
+    by : (t : Bool) → leb a b ≡ t → min a b ≡ cond t a b
+    by true e = let h = leb-true a b e in omega arith
+    by false e = let h = leb-false a b e in omega arith
 
 one_is : (a : Bool) → bool_byte a ≡ one a
 one_is true = refl

@@ -11,7 +11,7 @@ use borrow.Author.Tests.{lt-ltb, le-ltb}
 use Rattle.table.specs.declared.Table.{Table}
 use Rattle.table.specs.declared.Unit.{Unit}
 use Rattle.table.specs.Table.{last_of}
-use Rattle.session_logins.specs.LoginRequests.{only_if, is_used, used_from, filled, used_units}
+use Rattle.session_logins.specs.LoginRequests.{only_if, is_used, used_from, filled}
 use Rattle.session_logins.proofs.UsedUnits.{used-more, used_few}
 
 abbrev unit : ℕ → Unit
@@ -64,9 +64,3 @@ module _ (t : Table) (i : ℕ) {units : List Unit} {count entry : ℕ} (h : i < 
   left_out z =
       let m = more false (le-ltb 0 entry z) ∙ append-nil us in
       record { many = s.many ∙ ap length (sym m); are = s.are ∙ ap filled (sym m) }
-
--- after all 32 they are the choice
-pub all_used : (t : Table) (i : ℕ) {units : List Unit} {count : ℕ} → i ≡ 32 → Sofar t i units count → record { which = 1; flag = (used_units t).flag; count = count; units = units } ≡ used_units t
-all_used t i z s =
-    ap₂ (λ (n : ℕ) (l : List Unit). record { which = 1; flag = (used_units t).flag; count = n; units = l }) s.many s.are
-    ∙ ap (λ (k : ℕ). record { which = 1; flag = (used_units t).flag; count = length (used_from t k 1); units = filled (used_from t k 1) }) z

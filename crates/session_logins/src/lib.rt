@@ -5,13 +5,14 @@ ghost use Rattle.std.specs.Prelude.{◌≡◌, [], ◌∷◌, ◌++◌, ◌*◌,
 ghost use Rattle.numbers.specs.Numbers.{bytes_of, patched};
 ghost use Rattle.session_groups.specs.Values.{pairs_bytes};
 ghost use Rattle.session_messages.specs.Sessions.{record_refusal, record_buffer};
-ghost use Rattle.session_logins.specs.LoginRequests.{blank_units, no_choice, all_units, used_units, numbers_of, choice_of, least, pairs_for, units_part, bits_part, group_count, groups_part, said_of, login_record};
+ghost use Rattle.session_logins.specs.LoginRequests.{blank_units, no_choice, all_units, used_units, numbers_of, choice_of, pairs_for, units_part, bits_part, group_count, groups_part, said_of, login_record};
+ghost use Rattle.refusals.specs.Outcomes.{outcome};
 
+use refusals::Refusal;
 use session_messages::Record;
 use table::{Table, Unit};
 
 // Which units a login lists: 0 no choice given, 1 the first `count` of `units` with `flag`, any other no group of units.
-// A struct, since an enum that holds an array is not covered.
 #[derive(Clone, Copy)]
 pub struct Choice {
     pub which: u8,
@@ -115,20 +116,19 @@ pub fn used_units(table: Table) -> Choice
 {
     let mut units = [Unit(0); 32];
     let mut count: usize = 0;
-    let mut i: usize = 0;
-    while i < 32 {
-        let unit = Unit((i + 1) as u8);
+    for i in 0u8..32 {
+        let unit = Unit(i + 1);
         let held = table.entry(unit);
         if held.last.0 > 0 {
             units[count] = unit;
             count += 1;
         }
-        i += 1;
     }
     chosen(0, count as u8, units)
 }
 
 // The choice as it is carried out: the units whose entry is above 0 where none is given.
+#[tactic(auto, unfolding(crate::specs::LoginRequests::choice_of))]
 fn choice_of(table: Table, choice: Choice) -> Choice
     ensures { result ≡ choice_of table choice }
 {
@@ -138,23 +138,12 @@ fn choice_of(table: Table, choice: Choice) -> Choice
     choice
 }
 
-// The lesser of a count and the most there are.
-fn lesser(count: u8, most: usize) -> usize
-    ensures { result ≡ least count most }
-{
-    let n = count as usize;
-    if n <= most {
-        return n;
-    }
-    most
-}
-
 // A group's length, type, flag or message type, and number of entries, into the front of a lent tail.
 fn put_group_head(size: u16, kind: u8, x: u8, count: u8, tail: &mut [u8])
     requires { 5 ≤ length tail.old }
     ensures { tail.new ≡ patched tail.old 0 (bytes_of 2 size ++ (kind ∷ x ∷ count ∷ [])) }
 {
-    numbers::write_u16(tail, 0, size);
+    let _ = numbers::write_u16(tail, 0, size);
     tail[2] = kind;
     tail[3] = x;
     tail[4] = count;
@@ -165,13 +154,11 @@ pub fn put_pairs(table: Table, choice: Choice, n: usize, tail: &mut [u8])
     requires { (n ≤ 32) × (5 * n ≤ length tail.old) }
     ensures { tail.new ≡ patched tail.old 0 (pairs_bytes (pairs_for table (take n (numbers_of choice.units)))) }
 {
-    let mut i: usize = 0;
-    while i < n {
+    for i in 0..n {
         let unit = choice.units[i];
         let entry = table.entry(unit);
         tail[5 * i] = unit.0;
-        numbers::write_u32(tail, 5 * i + 1, entry.last.0);
-        i += 1;
+        let _ = numbers::write_u32(tail, 5 * i + 1, entry.last.0);
     }
 }
 
@@ -183,7 +170,7 @@ fn put_units(table: Table, choice: Choice, tail: &mut [u8]) -> usize
     if choice.which != 1 {
         return 0;
     }
-    let n = lesser(choice.count, 32);
+    let n = (choice.count as usize).min(32);
     put_group_head(
         5 + 5 * (choice.count as u16),
         0x80,
@@ -204,7 +191,7 @@ fn put_bits(kind: u8, b: Bitfields, tail: &mut [u8]) -> usize
         return 0;
     }
     let bits = b.bits;
-    let n = lesser(b.count, 15);
+    let n = (b.count as usize).min(15);
     put_group_head(5 + (b.count as u16), 0x81, kind, b.count, tail);
     block::copy_front(&bits, n, &mut tail[5..]);
     5 + n
@@ -235,6 +222,7 @@ fn put_groups(
 }
 
 // The number of groups.
+#[tactic(auto, using(crate::proofs::Parts::counts), unfolding(crate::specs::LoginRequests::group_count))]
 fn group_count(choice: Choice, acknowledgments: Bitfields, executions: Bitfields) -> u8
     ensures { result ≡ group_count choice acknowledgments executions }
 {
@@ -286,7 +274,7 @@ pub fn login_record(
     }
 }
 
-// Writes that record: 0, and the buffer begins with the message's bytes and is otherwise as it was; or the refusal (10, 11 or 13), and the
+// Writes that record: Ok, and the buffer begins with the message's bytes and is otherwise as it was; or the refusal (10, 11 or 13), and the
 // buffer is as it was.
 pub fn write_login(
     table: Table,
@@ -295,8 +283,8 @@ pub fn write_login(
     acknowledgments: Bitfields,
     executions: Bitfields,
     out: &mut [u8],
-) -> u32
-    ensures { (result ≡ record_refusal (login_record table choice names acknowledgments executions) (length out.old)) × (out.new ≡ record_buffer (login_record table choice names acknowledgments executions) out.old) }
+) -> Result<(), Refusal>
+    ensures { (result ≡ outcome (record_refusal (login_record table choice names acknowledgments executions) (length out.old))) × (out.new ≡ record_buffer (login_record table choice names acknowledgments executions) out.old) }
 {
     session_messages::write_session(
         login_record(table, choice, names, acknowledgments, executions),

@@ -4,7 +4,7 @@ use Rattle.std.specs.Prelude.{◌≡◌, Bool, not, ◌||◌, List, ◌++◌, ge
 use Rattle.std.proofs.Math.Path.{refl, sym, ap}
 use Rattle.std.proofs.Common.{ap₂, ◌∙◌, length-drop, length-append}
 use Rattle.std.proofs.Math.Bool.{true, false, cond}
-use Prim.Native.Nat.{ℕ, zero, suc, ◌+◌, ◌-◌, ◌*◌, ◌≤◌, ◌<◌, zero-le}
+use Prim.Native.Nat.{ℕ, zero, suc, ◌+◌, ◌-◌, ◌*◌, ◌≤◌, ◌<◌}
 use native.Mathlib.Omega.{arith}
 use Rattle.std.proofs.Math.Dec.{ltb, eqb}
 use Rattle.std.proofs.Math.ListN.{length}
@@ -32,11 +32,6 @@ pub record After (k x e : ℕ) : Type 0 where
 pub after_of : (k x e : ℕ) → after k x ≡ suc e → After k x e
 after_of k zero e h = absurd (omega arith)
 after_of k (suc y) e h = record { rest = y; was = refl; sum = omega (arith, h) }
-
--- a scan's answer is at most its bytes and one
-pub steady_small : (most : ℕ) (f : List ℕ → ℕ) → Steady most f → (s : List ℕ) (x : ℕ) → x ≡ f s → x ≤ most + 1
-steady_small most f w s zero e = zero-le
-steady_small most f w s (suc x) e = let i = w.inside s x (sym e) in omega (arith, i.1)
 
 long : (p u : List ℕ) → length p ≤ length (p ++ u)
 long p u = omega (arith, length-append p u)

@@ -11,7 +11,7 @@ use Rattle.block.specs.Slots.{zeros}
 use Rattle.session_groups.specs.Groups.{pairs_good, groups_end}
 use Rattle.session_messages.specs.ValueFields.{values_wrong}
 use Rattle.session_messages.specs.declared.Record.{Record}
-use Rattle.session_messages.specs.declared.Reading.{Reading}
+use Rattle.session_messages.specs.Reading.{Reading}
 
 -- ---- types
 
@@ -53,6 +53,10 @@ values_good message b =
     (cond (eqb message 0x08) (reason_good b)
     true))
 
+-- 10 at the place of the first that is bad
+unfoldable pub values_refusal : ℕ → List ℕ → ℕ
+values_refusal message b = cond (values_good message b) 0 (told bad_value (values_wrong message b))
+
 -- 01, The bit dictionary: a flag from the venue is 0 or 1, as in a group; the Login Response's own stands at 61 of its body
 unfoldable pub flag_good : ℕ → List ℕ → Bool
 flag_good message b = cond (eqb message 0x24) (ltb (get_or b 61 0) 2) true
@@ -88,6 +92,10 @@ body_end message b =
 -- its bytes
 abbrev pub size_of : ℕ → List ℕ → ℕ
 size_of message b = body_end message b - 1
+
+-- 11 where it is against the rules
+abbrev pub lists_refusal : ℕ → List ℕ → ℕ
+lists_refusal message b = cond (eqb (body_end message b) 0) bad_group 0
 
 -- ---- reading a whole message m
 

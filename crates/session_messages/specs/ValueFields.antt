@@ -1,6 +1,8 @@
 -- The values of a session message's fixed part that have a test, in message order, each with its place in the message. Definitions alone. Assumes
 -- nothing.
 use Rattle.std.specs.Prelude.{ℕ, cond, ◌||◌, List, [], ◌∷◌, eqb, get_or, take, drop}
+use Rattle.refusals.specs.Names.{bad_value}
+use Rattle.refusals.specs.Told.{told}
 use Rattle.refusals.specs.FirstBad.{Tested, tested, first_bad}
 use Rattle.kinds.specs.declared.Kind.TheVariants.{Alphanumeric, Text}
 use Rattle.kinds.specs.Kinds.{agrees_of}
@@ -40,3 +42,7 @@ value_fields message b =
 -- 10: the place of the first that is bad; 0 where none is
 unfoldable pub values_wrong : ℕ → List ℕ → ℕ
 values_wrong message b = first_bad (value_fields message b)
+
+-- 02, request 3: 10 with that place, where there is one
+unfoldable pub told_bad : ℕ → ℕ
+told_bad place = cond (eqb place 0) 0 (told bad_value place)

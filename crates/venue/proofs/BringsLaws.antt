@@ -5,7 +5,7 @@
 --     idle_is_whole        where a step with room is idle, all of it was sent
 --     no_group_wants_all   a login with no group of units wants all
 -- Assumes nothing.
-use Rattle.std.specs.Prelude.{ℕ, zero, suc, ◌≤◌, ◌<◌, ◌≡◌, Bool, true, false, cond, not, ltb, eqb, get_or, take, drop, replicate}
+use Rattle.std.specs.Prelude.{ℕ, zero, suc, ◌≤◌, ◌<◌, ◌≡◌, Bool, true, false, not, ltb, eqb, get_or, take, drop, replicate, Option, None, Some, unwrap_or}
 use Rattle.std.proofs.Common.{arith, ap₂, ◌∙◌, true≢false, length-drop, take-append-drop, eqb-true, lt-ltb, le-ltb}
 use Rattle.std.proofs.Math.Path.{refl, sym, ap, subst}
 use mathlib.Core.List.{List, [], ◌∷◌, ◌++◌, map, append-nil, append_assoc, map-append}
@@ -20,6 +20,7 @@ use Rattle.table.specs.Table.{unit_refusal, last_of}
 use Rattle.table.proofs.TableLaws.{no_entry}
 use Rattle.session_messages.specs.declared.Record.{Record}
 use Rattle.session_messages.specs.Sessions as logins
+use Rattle.table.specs.declared.UnitNumber.{UnitNumber}
 use Rattle.session_fields.specs.SessionFields.{group_flag, group_listed}
 use Rattle.day_model.specs.Model.{Msg, Table, keep, count, above, Sent, message, complete, Venue}
 use Rattle.day_model.specs.Story.{Bytes}
@@ -30,7 +31,7 @@ use Rattle.day_model.proofs.BringsCalls.{login_followed}
 use Rattle.day_model.proofs.SameReplay.{spoken_all}
 use Rattle.day_line.specs.Lines.{our_line, msg_of, says}
 use Rattle.venue.specs.declared.Venue as state
-use Rattle.session_fields.specs.AskedFor.{units_at}
+use Rattle.session_fields.specs.AskedFor.{units_at, flag_of}
 use Rattle.venue.specs.Venues.{pick_answer, refused, response_record, logged_in, login_refusal, login_of, complete_bytes, next_bytes, next_venue, send_of, step_of}
 use Rattle.venue.specs.VenueDay.{Bench, our_venue, empty, messages_in, accepts, takes_login, step_to, step_sends}
 use Rattle.venue.specs.VenueView.{view_v, GoodV}
@@ -43,7 +44,7 @@ use Rattle.venue.proofs.VenueSent.{steps, steps_as_told}
 use Rattle.venue.proofs.VenueLogin.{takes_good, lowest, strays_is}
 use Rattle.venue.proofs.VenueMust as must
 use Rattle.venue.proofs.MeetsVenue.{meets}
-use Rattle.venue.specs.Brings.{wants, only_if, wanted_of, list_for, Use, call, login, breaks, used, used_all, bench, OnItsLine}
+use Rattle.venue.specs.Brings.{wanted_by, wants, only_if, wanted_of, list_for, Use, call, login, breaks, used, used_all, bench, OnItsLine}
 
 -- ---- the states that the bench can come to are good
 
@@ -166,7 +167,7 @@ module _ (room : ℕ) (b : Bytes) (w : Bench) (g : GoodV w) (ok : accepts room b
     is : (view_v (takes_login room b w)).listed u ≡ t u
     is = ap (λ (x : Venue). x.listed u) (strays_is room b w g ok)
 
-    by_flag : (group_listed (units_at r) u r).there ≡ false → (f : Bool) → eqb (group_flag (units_at r) r).value 1 ≡ f → ltb (t u) (number_of m) ≡ not f
+    by_flag : group_listed (units_at r) u r ≡ None → (f : Bool) → eqb (flag_of r) 1 ≡ f → ltb (t u) (number_of m) ≡ not f
     by_flag e true z =
         let n : t u ≡ count u (view_v w).log = sym is ∙ must.unlisted-none room b w g ok u h.unit e (eqb-true _ _ z) in
         le-ltb (t u) (number_of m) (omega (arith, n, h.high))
@@ -174,15 +175,14 @@ module _ (room : ℕ) (b : Bytes) (w : Bench) (g : GoodV w) (ok : accepts room b
         let n : t u ≡ 0 = sym is ∙ must.unlisted_all room b w g ok u h.unit e (eqb-false _ _ z) in
         lt-ltb (t u) (number_of m) (omega (arith, n, h.low))
 
-    by_list : (k : Bool) → (group_listed (units_at r) u r).there ≡ k
-        → ltb (t u) (number_of m) ≡ cond k (ltb (group_listed (units_at r) u r).number.0 (number_of m)) (not (eqb (group_flag (units_at r) r).value 1))
-    by_list true e =
+    by_list : (k : Option UnitNumber) → group_listed (units_at r) u r ≡ k → ltb (t u) (number_of m) ≡ wanted_by k (flag_of r) (number_of m)
+    by_list (Some listed) e =
         ap (λ (n : ℕ). ltb n (number_of m)) (sym is ∙ must.listed_above room b w g ok u h.unit e)
-        ∙ ltb-min _ (group_listed (units_at r) u r).number.0 (count u (view_v w).log) (number_of m) refl h.high
-    by_list false e = by_flag e (eqb (group_flag (units_at r) r).value 1) refl
+        ∙ ltb-min _ listed.0 (count u (view_v w).log) (number_of m) refl h.high
+    by_list None e = by_flag e (eqb (flag_of r) 1) refl
 
     wants_is : above t (msg_of m) ≡ wants r m
-    wants_is = by_list (group_listed (units_at r) u r).there refl
+    wants_is = by_list (group_listed (units_at r) u r) refl
 
   wanted_is : (l : List Bytes) → ((k : ℕ) → k < length l → Held w (get_or l k [])) → map body (above_of t (map msg_of l)) ≡ wanted_of r l
   wanted_is [] h = refl
@@ -289,7 +289,7 @@ idle_is_whole b log sent now x room h e = sym (append-nil sent) ∙ ap (λ (l : 
     none (y ∷ l) z = let n : ◌≡◌ {A = ℕ} 1 0 = ap length z in absurd (omega (arith, n))
 
 -- NO GROUP WANTS ALL
-pub no_group_wants_all : (r : Record) (m : Bytes) → units_at r ≡ 0 → wants r m ≡ true
+pub no_group_wants_all : (r : Record) (m : Bytes) → units_at r ≡ None → wants r m ≡ true
 unfolding group_listed group_flag
 no_group_wants_all r m z =
-    ap (λ (p : ℕ). cond (group_listed p (unit_of m) r).there (ltb (group_listed p (unit_of m) r).number.0 (number_of m)) (not (eqb (group_flag p r).value 1))) z
+    ap (λ (p : Option ℕ). wanted_by (group_listed p (unit_of m) r) (unwrap_or (group_flag p r) 0) (number_of m)) z

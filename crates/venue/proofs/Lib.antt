@@ -10,11 +10,14 @@ pub mod VenueExample
 pub mod VenueLaws
 pub mod VenueLive
 pub mod VenueMust
+pub mod VenueNumbers
 pub mod LoginLaws
+pub mod LoginNumbers
 pub mod MeetsVenue
 pub mod Responses
 pub mod Seeks
 pub mod ThresholdLaws
+pub mod Told
 pub mod VenueAdds
 pub mod VenueCalls
 pub mod VenueLine

@@ -1,9 +1,8 @@
 -- The response to a login that is read: its flag is 0 or 1, its body is in order, and it is refused for room alone.
 -- Assumes nothing.
-use Rattle.std.specs.Prelude.{◌≡◌, ◌⊎◌, Bool, eqb, ltb, take, replicate}
+use Rattle.std.specs.Prelude.{◌≡◌, Bool, eqb, ltb, take, replicate, Option, None, Some, IfSome, unwrap_or}
 use Rattle.std.proofs.Math.Path.{refl, ap}
-use Rattle.std.proofs.Common.{sym, ap₂, ◌∙◌, inl, inr, length-append, length-drop, drop-drop, get_or-drop, drop-cons, drop_at, take_at, length-take-le}
-use Rattle.std.proofs.Math.Logic.{⊎_elim}
+use Rattle.std.proofs.Common.{sym, ap₂, ◌∙◌, length-append, length-drop, drop-drop, get_or-drop, drop-cons, drop_at, take_at, length-take-le}
 use Rattle.std.proofs.Math.Bool.{true, false, cond, and-eq-true_iff}
 use mathlib.Core.List.{List, [], ◌∷◌, ◌++◌, append_assoc, append-nil}
 use Prim.Native.Nat.{ℕ, zero, suc, ◌+◌, ◌-◌, ◌≤◌, ◌<◌}
@@ -25,10 +24,10 @@ use Rattle.session_messages.proofs.SessionLaws.{After, after_of, body-steady, go
 use Rattle.session_messages.proofs.SessionTrip.{Sound}
 use Rattle.session_logins.specs.LoginRequests.{up_from, pairs_for, padded}
 use Rattle.session_logins.proofs.LoginRequestLaws.{pairs_size}
-use Rattle.session_fields.specs.SessionFields.{group_is, group_from, request_group, group_flag}
+use Rattle.session_fields.specs.SessionFields.{group_is, group_from, request_group, flag_in, group_flag}
 use Rattle.session_fields.specs.GroupFieldLaws.{same_step}
 use Rattle.venue.specs.declared.Venue.{Venue}
-use Rattle.session_fields.specs.AskedFor.{units_at}
+use Rattle.session_fields.specs.AskedFor.{flag_of}
 use Rattle.venue.specs.Venues.{response_record}
 use Rattle.venue.specs.VenueStages.{lists_part, answer_part}
 
@@ -50,9 +49,12 @@ known_flag d e h = by (ltb (length d) 5) h
     by false k = key_flag (get_or d 2 0) (get_or d 3 0) e k
 
 -- the group of units that is found among groups in order, if there is one, has such a flag
-flags : (n at k e : ℕ) (b marks : List ℕ) → groups_from n at (drop k b) marks ≡ suc e → (group_from n 0x80 0 (k + at) b ≡ 0) ⊎ (get_or b (group_from n 0x80 0 (k + at) b + 2) 0 < 2)
+abbrev Small : List ℕ → Option ℕ → Type 0
+Small b p = IfSome p (λ at. get_or b (at + 3) 0 < 2)
+
+flags : (n at k e : ℕ) (b marks : List ℕ) → groups_from n at (drop k b) marks ≡ suc e → Small b (group_from n 0x80 0 (k + at) b)
 unfolding group_from
-flags zero at k e b marks h = inl refl
+flags zero at k e b marks h = tt
 flags (suc n) at k e b marks h =
     let f = first_of n marks (drop k b) at e h in
     let d : drop at (drop k b) ≡ drop (k + at) b = drop-drop at k b in
@@ -61,24 +63,21 @@ flags (suc n) at k e b marks h =
     let step : number_at 2 (k + at) b ≡ next_size marks (drop (k + at) b) = same_step marks b (k + at) _ one_more in
     let place : k + (at + next_size marks (drop at (drop k b))) ≡ k + at + number_at 2 (k + at) b = omega (arith, step, ap (next_size marks) d) in
     let later = flags n (at + next_size marks (drop at (drop k b))) k e b (mark marks (group_key (drop at (drop k b)))) f.others in
-    let rest : (group_from n 0x80 0 (k + at + number_at 2 (k + at) b) b ≡ 0) ⊎ (get_or b (group_from n 0x80 0 (k + at + number_at 2 (k + at) b) b + 2) 0 < 2) = rw place at later in
+    let rest : Small b (group_from n 0x80 0 (k + at + number_at 2 (k + at) b) b) = rw place at later in
     by (ltb (k + at) 433) (group_is 0x80 0 (k + at) b) refl (taken_of marks (drop (k + at) b) some).some rest
   where
     more : (x : ℕ) → (x ≡ 0 → ⊥) → x ≡ suc (x - 1)
     more x n = omega arith
 
     by : (p q : Bool) → group_is 0x80 0 (k + at) b ≡ q → 0 < group_key (drop (k + at) b)
-        → (group_from n 0x80 0 (k + at + number_at 2 (k + at) b) b ≡ 0) ⊎ (get_or b (group_from n 0x80 0 (k + at + number_at 2 (k + at) b) b + 2) 0 < 2)
-        → (cond p (cond q (suc (k + at)) (group_from n 0x80 0 (k + at + number_at 2 (k + at) b) b)) 0 ≡ 0)
-        ⊎ (get_or b (cond p (cond q (suc (k + at)) (group_from n 0x80 0 (k + at + number_at 2 (k + at) b) b)) 0 + 2) 0 < 2)
+        → Small b (group_from n 0x80 0 (k + at + number_at 2 (k + at) b) b)
+        → Small b (cond p (cond q (Some (k + at)) (group_from n 0x80 0 (k + at + number_at 2 (k + at) b) b)) None)
     by true true i g r =
         let t : get_or b (k + at + 2) 0 ≡ 0x80 = eqb-true _ _ ((and-eq-true_iff (eqb (get_or b (k + at + 2) 0) 0x80) _).0 i).0 in
         let x = known_flag (drop (k + at) b) (get_or-drop (k + at) b 2 0 ∙ t) g in
-        let w : k + at + 3 ≡ suc (k + at) + 2 = omega arith in
-        let y : get_or (drop (k + at) b) 3 0 ≡ get_or b (suc (k + at) + 2) 0 = get_or-drop (k + at) b 3 0 ∙ ap (λ (j : ℕ). get_or b j 0) w in
-        inr (omega (arith, x, y))
+        omega (arith, x, get_or-drop (k + at) b 3 0)
     by true false i g r = r
-    by false q i g r = inl refl
+    by false q i g r = tt
 
 -- ---- a login that is read
 
@@ -110,7 +109,7 @@ module _ (m : List ℕ) (typed : type_of m ≡ 0x37) (reads : read_refusal m ≡
   groups_there = drop-cons m 28 0 (omega (arith, login_long))
 
   -- FLAG: the flag that is echoed is 0 or 1
-  pub flag_small : (group_flag (units_at (record_of m)) (record_of m)).value < 2
+  pub flag_small : flag_of (record_of m) < 2
   unfolding body_of request_group group_flag
   flag_small =
       let b : List ℕ = drop 10 m ++ zeros (433 - length (drop 10 m)) in
@@ -119,13 +118,10 @@ module _ (m : List ℕ) (typed : type_of m ≡ 0x37) (reads : read_refusal m ≡
       let f = flags (get_or b 18 0) 0 19 a.rest b (replicate 4 0) a.was in
       at (eqb (type_of m) 0x37) (group_from (get_or b 18 0) 0x80 0 19 b) f
     where
-      at : (t : Bool) (p : ℕ) → (p ≡ 0) ⊎ (get_or (drop 10 m ++ zeros (433 - length (drop 10 m))) (p + 2) 0 < 2)
-          → cond (ltb 0 (cond t p 0)) (get_or (drop 10 m ++ zeros (433 - length (drop 10 m))) (cond t p 0 + 2) 0) 0 < 2
-      at true p f = ⊎_elim (λ (z : p ≡ 0). rw z (omega arith)) (λ (h : get_or (drop 10 m ++ zeros (433 - length (drop 10 m))) (p + 2) 0 < 2). found (ltb 0 p) h) f
-        where
-          found : (c : Bool) {x : ℕ} → x < 2 → cond c x 0 < 2
-          found true h = h
-          found false h = omega arith
+      at : (t : Bool) (p : Option ℕ) → Small (drop 10 m ++ zeros (433 - length (drop 10 m))) p
+          → unwrap_or (flag_in (cond t p None) (drop 10 m ++ zeros (433 - length (drop 10 m)))) 0 < 2
+      at true (Some k) f = f
+      at true None f = omega arith
       at false p f = omega arith
 
 -- ---- the body of a response
@@ -175,7 +171,7 @@ module _ (flag received n k : ℕ) (table : Table) (gs : List ℕ) where
 
 module _ (v : Venue) (m : List ℕ) (typed : type_of m ≡ 0x37) (reads : read_refusal m ≡ 0) where
   abbrev flag : ℕ
-  flag = (group_flag (units_at (record_of m)) (record_of m)).value
+  flag = flag_of (record_of m)
 
   abbrev said : List ℕ
   said = answer_part flag v.received.0 v.table (get_or m 28 0 ∷ drop 29 m)

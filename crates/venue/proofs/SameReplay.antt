@@ -3,7 +3,7 @@
 --                          state, and so whatever is called then sends the same bytes
 --     fine-clear           what a step sends is known by what it says, of any venue on our line
 -- Assumes nothing.
-use Prim.Native.Nat.{ℕ, zero, suc, ◌+◌, ◌-◌, ◌≤◌, ◌<◌}
+use Prim.Native.Nat.{ℕ, zero, suc, ◌+◌, ◌≤◌, ◌<◌}
 use Rattle.std.proofs.Common.{arith, ap₂, ◌∙◌, ext_get_or, eqb-true}
 use Rattle.std.specs.Prelude.{◌≡◌, refl, Bool, true, false, ◌||◌, eqb, get_or, drop}
 use Rattle.std.proofs.Math.Path.{sym, ap}

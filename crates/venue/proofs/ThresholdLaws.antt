@@ -4,7 +4,7 @@
 --     unlisted-all     all of an unlisted unit's, if it is not
 --     no_group_all     all, if no group of units came
 -- Assumes nothing.
-use Rattle.std.specs.Prelude.{◌≡◌, refl, true, false, ℕ, zero, suc, ◌+◌, ◌-◌, ◌≤◌, ◌<◌, get_or}
+use Rattle.std.specs.Prelude.{◌≡◌, refl, Option, None, Some, unwrap_or, ℕ, zero, suc, ◌+◌, ◌-◌, ◌≤◌, ◌<◌, get_or}
 use Rattle.std.proofs.Common.{sym, ◌∙◌}
 use Rattle.std.proofs.Math.Path.{ap}
 use native.Mathlib.Omega.{arith}
@@ -13,7 +13,7 @@ use Rattle.table.proofs.TableLaws.{unit-taken}
 use Rattle.session_messages.specs.declared.Record.{Record}
 use Rattle.session_logins.specs.LoginRequests.{up_from}
 use Rattle.session_fields.specs.SessionFields.{group_flag, group_listed}
-use Rattle.session_fields.specs.AskedFor.{units_at, asked_above}
+use Rattle.session_fields.specs.AskedFor.{units_at, flag_of, asked_above}
 use Rattle.venue.specs.Venues.{numbers_for, thresholds_of, wanted_above}
 use Rattle.venue.proofs.LoginLaws.{listed_number, none-wanted, all_wanted, above_is}
 
@@ -33,21 +33,21 @@ module _ (r : Record) (u : ℕ) where
       above_is (thresholds_of r) u (unit-taken u h k) ∙ numbers_at (asked_above r) 32 1 (u - 1) _ (omega arith) ∙ ap (asked_above r) z
 
   -- LISTED ABOVE
-  pub listed_above : 1 ≤ u → u ≤ 32 → (group_listed (units_at r) u r).there ≡ true → wanted_above (thresholds_of r) u ≡ (group_listed (units_at r) u r).number.0
+  pub listed_above : 1 ≤ u → u ≤ 32 → {n : UnitNumber} → group_listed (units_at r) u r ≡ Some n → wanted_above (thresholds_of r) u ≡ n.0
   listed_above h k t = threshold_at h k ∙ sym (listed_number r u refl t)
 
   -- UNLISTED NONE: no number is above this
-  pub unlisted-none : 1 ≤ u → u ≤ 32 → (group_listed (units_at r) u r).there ≡ false → (group_flag (units_at r) r).value ≡ 1 → wanted_above (thresholds_of r) u ≡ 4294967295
+  pub unlisted-none : 1 ≤ u → u ≤ 32 → group_listed (units_at r) u r ≡ None → flag_of r ≡ 1 → wanted_above (thresholds_of r) u ≡ 4294967295
   unlisted-none h k t f = threshold_at h k ∙ sym (none-wanted r u refl refl t f)
 
   -- UNLISTED ALL: every number is above 0
-  pub unlisted_all : 1 ≤ u → u ≤ 32 → (group_listed (units_at r) u r).there ≡ false → ((group_flag (units_at r) r).value ≡ 1 → ⊥) → wanted_above (thresholds_of r) u ≡ 0
+  pub unlisted_all : 1 ≤ u → u ≤ 32 → group_listed (units_at r) u r ≡ None → (flag_of r ≡ 1 → ⊥) → wanted_above (thresholds_of r) u ≡ 0
   unlisted_all h k t f = threshold_at h k ∙ sym (all_wanted r u refl refl t f)
 
   -- NO GROUP ALL
-  pub no_group_all : 1 ≤ u → u ≤ 32 → units_at r ≡ 0 → wanted_above (thresholds_of r) u ≡ 0
+  pub no_group_all : 1 ≤ u → u ≤ 32 → units_at r ≡ None → wanted_above (thresholds_of r) u ≡ 0
   unfolding group_listed group_flag
   no_group_all h k z =
       unlisted_all h k
-      (ap (λ (p : ℕ). (group_listed p u r).there) z)
-      (λ e. let f : (group_flag (units_at r) r).value ≡ 0 = ap (λ (p : ℕ). (group_flag p r).value) z in omega (arith, f, e))
+      (ap (λ (p : Option ℕ). group_listed p u r) z)
+      (λ e. let f : flag_of r ≡ 0 = ap (λ (p : Option ℕ). unwrap_or (group_flag p r) 0) z in omega (arith, f, e))

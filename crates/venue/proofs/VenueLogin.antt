@@ -1,5 +1,5 @@
 -- A login that the bench takes is the model's, with the numbers that it lists; ours is taken, with room for the answer. Assumes nothing.
-use Prim.Native.Nat.{ℕ, ◌-◌, ◌≤◌, min}
+use Prim.Native.Nat.{ℕ, ◌≤◌, min}
 use Rattle.std.proofs.Common.{arith, sym, ◌∙◌, true≢false, eqb-true}
 use Rattle.std.specs.Prelude.{◌≡◌, refl, Bool, true, cond, take, eqb}
 use Rattle.std.proofs.Math.Path.{ap, fun_ext}
@@ -21,7 +21,7 @@ use Rattle.day_model.specs.Story.{Bytes}
 use Rattle.day_line.specs.Lines.{msg_of, lists, login_of_table, OurLogin}
 use Rattle.day_line.specs.OurLogins.{body_long}
 use Rattle.venue.specs.declared.Thresholds.{Thresholds}
-use Rattle.venue.specs.declared.Answer.{Answer}
+use Rattle.venue.specs.Answer.{Answer}
 use Rattle.session_fields.specs.AskedFor.{asked_above}
 use Rattle.venue.specs.Venues.{thresholds_of, wanted_above, logged_in}
 use Rattle.venue.proofs.LoginLaws.{none_above}

@@ -8,7 +8,7 @@
 -- Assumes nothing.
 use Prim.Native.Nat.{ℕ, zero, suc, ◌+◌, ◌≤◌, ◌<◌, min}
 use Rattle.std.proofs.Common.{arith, ◌∙◌}
-use Rattle.std.specs.Prelude.{◌≡◌, refl, List, [], ◌∷◌, map, Bool, cond, length, eqb}
+use Rattle.std.specs.Prelude.{◌≡◌, refl, List, [], ◌∷◌, map, Bool, cond, length, eqb, Option, None, Some}
 use Rattle.std.proofs.Math.Path.{sym, ap}
 use Rattle.std.proofs.Math.Bool.{true, false}
 use borrow.Author.Tests.{eq-eqb, ne_eqb, eqb-true, eqb-false}
@@ -20,12 +20,13 @@ use Rattle.book.specs.Books.{limit, roomless, message_refusal, next_refusal, app
 use Rattle.book.proofs.BookLaws.{frames, by_count}
 use Rattle.session_messages.specs.declared.Record.{Record}
 use Rattle.session_messages.specs.Sessions as logins
-use Rattle.session_fields.specs.SessionFields.{group_flag, group_listed}
+use Rattle.table.specs.declared.UnitNumber.{UnitNumber}
+use Rattle.session_fields.specs.SessionFields.{group_listed}
 use Rattle.day_model.specs.Model.{Msg, keep, of_unit, count, above, Sent, Venue, passes, move, logged, next_in_log}
 use Rattle.day_model.specs.Steps.{Stepped, doc_step, move-tells, move-passes}
 use Rattle.day_model.specs.Story.{Bytes}
 use Rattle.day_line.specs.Lines.{msg_of, says}
-use Rattle.session_fields.specs.AskedFor.{units_at, asked_above}
+use Rattle.session_fields.specs.AskedFor.{units_at, flag_of, unlisted_above, or_listed, asked_above}
 use Rattle.venue.specs.Venues.{log_book}
 use Rattle.venue.specs.VenueDay.{Bench, alone, adds, accepts, takes_login, step_sends}
 use Rattle.venue.specs.VenueView.{view_v, GoodV}
@@ -80,25 +81,25 @@ module _ (room : ℕ) (b : Bytes) (w : Bench) (g : GoodV w) (ok : accepts room b
       omega (arith, e, few_of u (map msg_of g.messages), map_long msg_of g.messages, fewer g.messages l.whole, ap length l.is, l.long, l.within)
 
   -- LISTED: what is above the listed number, or nothing where the log held no more
-  pub listed_above : (group_listed (units_at r) u r).there ≡ true → (view_v (takes_login room b w)).listed u ≡ min (group_listed (units_at r) u r).number.0 (count u (view_v w).log)
+  pub listed_above : {n : UnitNumber} → group_listed (units_at r) u r ≡ Some n → (view_v (takes_login room b w)).listed u ≡ min n.0 (count u (view_v w).log)
   unfolding asked_above
   listed_above t =
-      listed_is ∙ ap (λ (x : Bool). min (cond x (group_listed (units_at r) u r).number.0 (cond (eqb (group_flag (units_at r) r).value 1) 4294967295 0)) (count u (view_v w).log)) t
+      listed_is ∙ ap (λ (x : Option UnitNumber). min (or_listed x (unlisted_above (flag_of r))) (count u (view_v w).log)) t
 
-  module _ (t : (group_listed (units_at r) u r).there ≡ false) where
-    by_flag : (f : Bool) → eqb (group_flag (units_at r) r).value 1 ≡ f → (view_v (takes_login room b w)).listed u ≡ min (cond f 4294967295 0) (count u (view_v w).log)
+  module _ (t : group_listed (units_at r) u r ≡ None) where
+    by_flag : (f : Bool) → eqb (flag_of r) 1 ≡ f → (view_v (takes_login room b w)).listed u ≡ min (cond f 4294967295 0) (count u (view_v w).log)
     unfolding asked_above
     by_flag f e =
         listed_is
-        ∙ ap (λ (x : Bool). min (cond x (group_listed (units_at r) u r).number.0 (cond (eqb (group_flag (units_at r) r).value 1) 4294967295 0)) (count u (view_v w).log)) t
+        ∙ ap (λ (x : Option UnitNumber). min (or_listed x (unlisted_above (flag_of r))) (count u (view_v w).log)) t
         ∙ ap (λ (x : Bool). min (cond x 4294967295 0) (count u (view_v w).log)) e
 
     -- UNLISTED ALL: the flag is not 1
-    pub unlisted_all : ((group_flag (units_at r) r).value ≡ 1 → ⊥) → (view_v (takes_login room b w)).listed u ≡ 0
+    pub unlisted_all : (flag_of r ≡ 1 → ⊥) → (view_v (takes_login room b w)).listed u ≡ 0
     unlisted_all n = by_flag false (ne_eqb _ 1 n) ∙ omega arith
 
     -- UNLISTED NONE: the flag is 1, and no number that the log held is above
-    pub unlisted-none : (group_flag (units_at r) r).value ≡ 1 → (view_v (takes_login room b w)).listed u ≡ count u (view_v w).log
+    pub unlisted-none : flag_of r ≡ 1 → (view_v (takes_login room b w)).listed u ≡ count u (view_v w).log
     unlisted-none o = by_flag true (eq-eqb _ 1 o) ∙ omega (arith, count_small)
 
 -- ---- idle

@@ -23,13 +23,13 @@ use Rattle.session_messages.proofs.SessionLaws.{Fit, fit, body-ends}
 use Rattle.session_messages.proofs.SessionTrip.{Sound, bytes-length, read_accepts, framed-after, framed_as_written}
 use Rattle.session_logins.specs.LoginRequests.{up_from, pairs_for}
 use Rattle.session_logins.proofs.LoginRequestLaws.{pairs_size}
-use Rattle.messages.specs.Messages.{carries, is_session, own_refusal, read_refusal}
+use Rattle.messages.specs.Messages.{carries, is_session, own_refusal}
 use Rattle.messages.proofs.MessageLaws.{own_refusal_lem}
 use Rattle.day_model.specs.Model.{response}
 use Rattle.day_model.specs.Story.{Bytes}
 use Rattle.day_line.specs.Lines.{says, Fine}
 use Rattle.venue.specs.declared.Venue as state
-use Rattle.venue.specs.declared.Answer.{Answer}
+use Rattle.venue.specs.Answer.{Answer}
 use Rattle.venue.specs.Venues.{pick_answer, refused, login_read_refusal, said_of, response_record, logged_in, login_refusal, login_of, login_out}
 use Rattle.venue.proofs.Responses.{login_long, login-short, response_refusal_lem}
 use Rattle.venue.specs.VenueDay.{Bench, unless, sent_of, accepts}

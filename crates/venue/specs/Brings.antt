@@ -1,14 +1,15 @@
 -- What a login brings on the bench's line, as one list of messages in their bytes, and the states that the bench can come to. Definitions alone.
 -- Assumes nothing.
-use Rattle.std.specs.Prelude.{ℕ, ◌≤◌, ◌≡◌, Bool, true, false, cond, not, List, [], ◌∷◌, ◌++◌, ltb, eqb, length, take, replicate}
+use Rattle.std.specs.Prelude.{ℕ, ◌≤◌, ◌≡◌, Bool, true, false, not, List, [], ◌∷◌, ◌++◌, ltb, eqb, length, take, replicate, Option, None, Some}
 use Rattle.wire.specs.Header.{unit_of, number_of}
 use Rattle.wire.specs.Frame.{framed}
 use Rattle.session_messages.specs.declared.Record.{Record}
 use Rattle.session_messages.specs.Sessions as logins
-use Rattle.session_fields.specs.SessionFields.{group_flag, group_listed}
+use Rattle.table.specs.declared.UnitNumber.{UnitNumber}
+use Rattle.session_fields.specs.SessionFields.{group_listed}
 use Rattle.day_model.specs.Story.{Bytes}
 use Rattle.day_model.specs.Brings.{Call, steps, called, sent_by}
-use Rattle.session_fields.specs.AskedFor.{units_at}
+use Rattle.session_fields.specs.AskedFor.{units_at, flag_of}
 use Rattle.venue.specs.Venues.{complete_bytes}
 use Rattle.venue.specs.VenueDay.{Bench, our_venue, empty, messages_in, takes_login, step_sends, stop}
 
@@ -16,10 +17,12 @@ use Rattle.venue.specs.VenueDay.{Bench, our_venue, empty, messages_in, takes_log
 
 -- 01, Session and replay: of a listed unit the login wants what is above the listed number; of an unlisted one nothing if its flag is 1, and all if the
 -- flag is 0 or no group of units came
+abbrev pub wanted_by : Option UnitNumber → ℕ → ℕ → Bool
+wanted_by (Some listed) flag number = ltb listed.0 number
+wanted_by None flag number = not (eqb flag 1)
+
 abbrev pub wants : Record → Bytes → Bool
-wants r m =
-    cond (group_listed (units_at r) (unit_of m) r).there (ltb (group_listed (units_at r) (unit_of m) r).number.0 (number_of m))
-    (not (eqb (group_flag (units_at r) r).value 1))
+wants r m = wanted_by (group_listed (units_at r) (unit_of m) r) (flag_of r) (number_of m)
 
 abbrev pub only_if : Bool → Bytes → List Bytes → List Bytes
 only_if true m ms = m ∷ ms

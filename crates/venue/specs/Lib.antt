@@ -1,3 +1,4 @@
+pub mod Answer
 pub mod Venues
 pub mod VenueStages
 pub mod VenueDay

@@ -3,25 +3,31 @@ ghost use Rattle.std.specs.Prelude.{◌≡◌, ◌∷◌, ◌+◌, ◌≤◌, le
 ghost use Rattle.numbers.specs.Numbers.{patched};
 ghost use Rattle.session_groups.specs.Values.{pairs_bytes};
 ghost use Rattle.session_logins.specs.LoginRequests.{up_from, pairs_for};
-ghost use Rattle.session_fields.specs.AskedFor.{asked_above};
+ghost use Rattle.session_fields.specs.AskedFor.{flag_of, asked_above};
 ghost use Rattle.venue.specs.Venues.{thresholds_of, accepted_text};
 ghost use Rattle.venue.specs.VenueStages.{lists_part, counted_part, answer_part, answer_record};
 
 use crate::{Thresholds, Venue};
 use session_messages::Record;
-use table::{OutgoingNumber, Table, Unit, UnitNumber};
+use table::{Table, Unit, UnitNumber};
+
+// The flag of a login's group of units: 0 where no such group came.
+fn flag_of(r: Record) -> u8
+    ensures { result ≡ flag_of r }
+{
+    session_fields::login_request::flag(r).unwrap_or(0)
+}
 
 // The number above which a login wants a unit's messages.
+#[tactic(auto, unfolding(session_fields::specs::AskedFor::asked_above))]
 pub fn threshold(r: Record, unit: u8) -> u32
     ensures { result ≡ asked_above r unit }
 {
-    let listed = session_fields::login_request::listed(r, Unit(unit));
-    if listed.there {
-        return listed.number.0;
+    if let Some(number) = session_fields::login_request::listed(r, Unit(unit)) {
+        return number.0;
     }
-    let flag = session_fields::login_request::flag(r);
-    if flag.value == 1 {
-        return 4294967295;
+    if flag_of(r) == 1 {
+        return u32::MAX;
     }
     0
 }
@@ -31,11 +37,8 @@ pub fn thresholds(r: Record) -> Thresholds
     ensures { result ≡ thresholds_of r }
 {
     let mut t = Thresholds::new();
-    let mut i: usize = 0;
-    while i < 32 {
-        let number = threshold(r, (i + 1) as u8);
-        t.numbers[i] = UnitNumber(number);
-        i += 1;
+    for i in 0..32 {
+        t.numbers[i] = UnitNumber(threshold(r, (i + 1) as u8));
     }
     t
 }
@@ -58,15 +61,15 @@ pub fn put_lists(table: Table, groups: &[u8], tail: &mut [u8])
     block::copy(groups, &mut tail[160..]);
 }
 
-// The flag, the last number received, the count of pairs, and these.
-pub fn put_counted(flag: u8, received: OutgoingNumber, table: Table, groups: &[u8], tail: &mut [u8])
+// The flag, the last number that a venue received, the count of pairs, and these.
+pub fn put_counted(v: Venue, flag: u8, groups: &[u8], tail: &mut [u8])
     requires { 166 + length groups.now ≤ length tail.old }
-    ensures { tail.new ≡ patched tail.old 0 (counted_part flag received.0 table groups.now) }
+    ensures { tail.new ≡ patched tail.old 0 (counted_part flag v.received.0 v.table groups.now) }
 {
     tail[0] = flag;
-    numbers::write_u32(tail, 1, received.0);
+    let _ = numbers::write_u32(tail, 1, v.received.0); // it fits
     tail[5] = 32;
-    put_lists(table, groups, &mut tail[6..]);
+    put_lists(v.table, groups, &mut tail[6..]);
 }
 
 // The status A and its text.
@@ -80,12 +83,12 @@ pub fn put_status(tail: &mut [u8])
 }
 
 // A Login Response's body into the front of a buffer.
-pub fn put_answer(flag: u8, received: OutgoingNumber, table: Table, groups: &[u8], out: &mut [u8])
+pub fn put_answer(v: Venue, flag: u8, groups: &[u8], out: &mut [u8])
     requires { 227 + length groups.now ≤ length out.old }
-    ensures { out.new ≡ patched out.old 0 (answer_part flag received.0 table groups.now) }
+    ensures { out.new ≡ patched out.old 0 (answer_part flag v.received.0 v.table groups.now) }
 {
     put_status(out);
-    put_counted(flag, received, table, groups, &mut out[61..]);
+    put_counted(v, flag, groups, &mut out[61..]);
 }
 
 // The record of the Login Response to a login, by its record, its groups' count and their bytes.
@@ -93,9 +96,8 @@ pub fn response(v: Venue, r: Record, groups: &[u8]) -> Record
     requires { length groups.now ≤ 206 }
     ensures { result ≡ answer_record v r groups.now }
 {
-    let flag = session_fields::login_request::flag(r);
     let mut body = [0u8; 433];
-    put_answer(flag.value, v.received, v.table, groups, &mut body);
+    put_answer(v, flag_of(r), groups, &mut body);
     Record {
         message: 0x24,
         unit: 0,

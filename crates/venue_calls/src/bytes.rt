@@ -1,9 +1,11 @@
 // The bench venue from the bytes in which a caller keeps it, and into them.
 ghost use Rattle.std.specs.Prelude.{◌≡◌, ◌≤◌, length};
 ghost use Rattle.numbers.specs.Numbers.{patched};
-ghost use Rattle.venue_calls.specs.VenueBytes.{thresholds_at, wants_bytes, venue_of, venue_bytes};
+ghost use Rattle.refusals.specs.Outcomes.{outcome, outcome_with};
+ghost use Rattle.venue_calls.specs.VenueBytes.{called, thresholds_at, wants_bytes, venue_of, venue_bytes};
 
 use book::Book;
+use refusals::{Reason, Refusal};
 use table::{OutgoingNumber, UnitNumber};
 use venue::{Thresholds, Venue};
 
@@ -12,35 +14,38 @@ fn thresholds_in(state: &[u8]) -> Thresholds
     ensures { result ≡ (venue_of state.now).thresholds }
 {
     let mut t = Thresholds::new();
-    let mut i: usize = 0;
-    while i < 32 {
-        let number = numbers::read_u32(state, 272 + 4 * i);
-        t.numbers[i] = UnitNumber(number);
-        i += 1;
+    for i in 0..32 {
+        t.numbers[i] = UnitNumber(numbers::read_u32(state, 272 + 4 * i));
     }
     t
 }
 
-// The venue of a state.
-pub fn load(state: &[u8]) -> Venue
-    requires { 402 ≤ length state.now }
-    ensures { result ≡ venue_of state.now }
+// Whether a state can hold a venue: Ok; or 13 where it is under 402 bytes.
+pub fn check_size(state: &[u8]) -> Result<(), Refusal>
+    ensures { result ≡ outcome (called state.now 0) }
 {
-    let table = book_calls::books::table_in(state);
+    if state.len() < 402 {
+        return Err(Refusal::new(Reason::NoRoom));
+    }
+    Ok(())
+}
+
+// The venue of a state; or 13 where it is under 402 bytes.
+pub fn load(state: &[u8]) -> Result<Venue, Refusal>
+    ensures { result ≡ outcome_with (called state.now 0) (venue_of state.now) }
+{
+    check_size(state)?;
     let e = book_calls::books::extent_in(state);
-    let thresholds = thresholds_in(state);
-    let running = numbers::byte_at(state, 400) != 0;
-    let told = numbers::byte_at(state, 401) != 0;
-    Venue {
-        running: running,
-        told: told,
+    Ok(Venue {
+        running: numbers::byte_at(state, 400) != 0,
+        told: numbers::byte_at(state, 401) != 0,
         at: e.date,
         upto: e.last,
         length: e.length,
         received: OutgoingNumber(e.count),
-        thresholds: thresholds,
-        table: table,
-    }
+        thresholds: thresholds_in(state),
+        table: book_calls::books::table_in(state),
+    })
 }
 
 // What the login wants of each unit, into a state.
@@ -48,11 +53,8 @@ fn store_thresholds(t: Thresholds, state: &mut [u8])
     requires { 402 ≤ length state.old }
     ensures { state.new ≡ patched state.old thresholds_at (wants_bytes 32 0 t.numbers) }
 {
-    let mut i: usize = 0;
-    while i < 32 {
-        let n = t.numbers[i];
-        numbers::write_u32(state, 272 + 4 * i, n.0);
-        i += 1;
+    for i in 0..32 {
+        let _ = numbers::write_u32(state, 272 + 4 * i, t.numbers[i].0); // it fits
     }
 }
 
@@ -61,17 +63,15 @@ pub fn store(v: Venue, state: &mut [u8])
     requires { 402 ≤ length state.old }
     ensures { state.new ≡ patched state.old 0 (venue_bytes v) }
 {
-    let table = v.table;
     let front = Book {
-        table: table,
+        table: v.table,
         date: v.at,
         length: v.length,
         last: v.upto,
         count: v.received.0,
     };
     book_calls::books::store(front, state);
-    let t = v.thresholds;
-    store_thresholds(t, state);
+    store_thresholds(v.thresholds, state);
     state[400] = v.running as u8;
     state[401] = v.told as u8;
 }

@@ -2,6 +2,9 @@
 ghost use Rattle.std.specs.Prelude.{◌≡◌};
 ghost use Rattle.numbers.specs.Numbers.{put_refusal, put_buffer};
 ghost use Rattle.wire.specs.Header.{header_bytes, length_of, type_of, unit_of, number_of, total_of};
+ghost use Rattle.refusals.specs.Outcomes.{outcome};
+
+use refusals::{Reason, Refusal};
 
 // The length field.
 pub(crate) fn length_of(m: &[u8]) -> u16
@@ -39,26 +42,24 @@ pub fn number_of(m: &[u8]) -> u32
     numbers::read_u32(m, 6)
 }
 
-// A header into the front of a lent tail: 0, or 13 where the tail is shorter than ten bytes, which then keeps its bytes.
-pub fn write_header(tail: &mut [u8], length: u16, type_byte: u8, unit: u8, number: u32) -> u32
-    ensures { (result ≡ put_refusal tail.old 0 (header_bytes length type_byte unit number)) × (tail.new ≡ put_buffer tail.old 0 (header_bytes length type_byte unit number)) }
+// A header into the front of a lent tail: Ok, or 13 where the tail is shorter than ten bytes, which then keeps its bytes.
+pub fn write_header(
+    tail: &mut [u8],
+    length: u16,
+    type_byte: u8,
+    unit: u8,
+    number: u32,
+) -> Result<(), Refusal>
+    ensures { (result ≡ outcome (put_refusal tail.old 0 (header_bytes length type_byte unit number))) × (tail.new ≡ put_buffer tail.old 0 (header_bytes length type_byte unit number)) }
 {
     if tail.len() < 10 {
-        return refusals::NO_ROOM;
+        return Err(Refusal::new(Reason::NoRoom));
     }
-    let a = length / 256;
-    let b = number / 256;
-    let c = b / 256;
-    let d = c / 256;
-    tail[0] = 0xBA;
-    tail[1] = 0xBA;
-    tail[2] = (length % 256) as u8;
-    tail[3] = (a % 256) as u8;
-    tail[4] = type_byte;
-    tail[5] = unit;
-    tail[6] = (number % 256) as u8;
-    tail[7] = (b % 256) as u8;
-    tail[8] = (c % 256) as u8;
-    tail[9] = (d % 256) as u8;
-    0
+    let l = length.to_le_bytes();
+    let n = number.to_le_bytes();
+    let header = [
+        0xBA, 0xBA, l[0], l[1], type_byte, unit, n[0], n[1], n[2], n[3],
+    ];
+    tail[..10].copy_from_slice(&header);
+    Ok(())
 }

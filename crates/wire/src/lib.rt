@@ -8,6 +8,9 @@ ghost use Rattle.refusals.specs.Names.{wrong_total};
 ghost use Rattle.refusals.specs.Told.{told};
 ghost use Rattle.wire.specs.Header.{total_of};
 ghost use Rattle.wire.specs.Frame.{not_ba, starts_bad, length_bad, cut_short, frame_refusal, framed};
+ghost use Rattle.refusals.specs.Outcomes.{outcome};
+
+use refusals::{Reason, Refusal};
 
 // Whether a byte is present at a place and is not BA.
 fn is_not_ba(s: &[u8], i: usize) -> bool
@@ -53,27 +56,28 @@ fn cut_short(s: &[u8]) -> bool
     s.len() < header::total_of(s)
 }
 
-// 0 where a buffer starts with a whole message, or the number of the refusal: 1, 2 or 3.
-pub fn frame_refusal(s: &[u8]) -> u32
-    ensures { result ≡ frame_refusal s.now }
+// Ok where a buffer starts with a whole message, or the refusal: 1, 2 or 3.
+#[tactic(auto, unfolding(refusals::specs::Outcomes::outcome_with, crate::specs::Frame::frame_refusal))]
+pub fn check_frame(s: &[u8]) -> Result<(), Refusal>
+    ensures { result ≡ outcome (frame_refusal s.now) }
 {
     if starts_bad(s) {
-        return refusals::BAD_START;
+        return Err(Refusal::new(Reason::BadStart));
     }
     if length_bad(s) {
-        return refusals::BAD_LENGTH;
+        return Err(Refusal::new(Reason::BadLength));
     }
     if cut_short(s) {
-        return refusals::INCOMPLETE;
+        return Err(Refusal::new(Reason::Incomplete));
     }
-    0
+    Ok(())
 }
 
 // The first whole message, a part of the caller's buffer; empty where framing refuses.
 pub fn frame(s: &[u8]) -> &[u8]
     ensures { result.now ≡ framed s.now }
 {
-    if frame_refusal(s) == 0 {
+    if check_frame(s).is_ok() {
         let n = header::total_of(s);
         &s[..n]
     } else {
@@ -82,11 +86,11 @@ pub fn frame(s: &[u8]) -> &[u8]
 }
 
 // Refusal 6, which is told at the message's end: its total, as the header has it.
-pub fn wrong_total(m: &[u8]) -> u32
+pub fn wrong_total(m: &[u8]) -> Refusal
     ensures { result ≡ told wrong_total (total_of m.now) }
 {
     let n = header::length_of(m);
-    refusals::told(refusals::WRONG_TOTAL, (n as usize) + 2)
+    Refusal::at(Reason::WrongTotal, (n as usize) + 2)
 }
 
 // The first n bytes of a buffer, as far as they are lent.

@@ -1,11 +1,11 @@
 -- `block_judge::judge_bits` meets its contract. The loop's invariant: the walk over the byte's other bits, from the state reached, ends as the walk over
--- all eight; what was found before them is asked at the end. The measure is the count of bits that are left. Assumes nothing.
+-- all eight; what was found before them is asked at the end. Assumes nothing.
 use Rattle.block.specs.Loops.{bit-turn, bits_end_lem}
 use Rattle.block.specs.Walk.{Judging, judge_here}
 use Rattle.block.proofs.OneByte.{judge_byte}
 use Rattle.block_judge.specs.State.{judging}
 use native.Mathlib.Omega.{arith}
-use Prim.Native.Nat.{ℕ, ◌-◌}
+use Prim.Native.Nat.{ℕ}
 use mathlib.Core.Path.{refl, ap, ◌∙◌}
 use Rattle.block_judge.proofs.judge_bits.Goals as goal
 

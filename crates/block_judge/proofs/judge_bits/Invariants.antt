@@ -7,6 +7,3 @@ use Rattle.block_judge.proofs.judge_bits.Given as goal
 abbrev pub invariant-loop-bit : goal.invariant-loop-bit
 invariant-loop-bit l = (l.bit ≤ 8) × (l.r.at ≤ l.t.at + 255 * l.bit)
     × (bits_from (judge_here l.msg l.byte) l.message l.byte (8 - l.bit) l.bit l.x (judging l.r) ≡ in_byte (judge_here l.msg l.byte) l.message l.byte l.value (record { at = l.t.at; wrong = l.t.wrong; bad = 0 }))
-
-abbrev pub decreases-loop-bit : goal.decreases-loop-bit
-decreases-loop-bit l = 8 - l.bit

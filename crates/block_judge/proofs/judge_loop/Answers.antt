@@ -1,10 +1,9 @@
 -- `block_judge::judge_loop` meets its contract. The loop's invariant: the walk over the places of the other bytes, from the state reached, ends as the
--- walk over all. The measure is the count of bytes that are left. Assumes nothing.
+-- walk over all. Assumes nothing.
 use Rattle.block_judge.specs.State.{judging}
 use Rattle.block.specs.Loops.{byte_turn, bytes_end}
 use Rattle.block.specs.Walk.{judge_entry}
 use native.Mathlib.Omega.{arith}
-use Prim.Native.Nat.{◌-◌}
 use mathlib.Core.Path.{refl}
 use Rattle.block_judge.proofs.judge_loop.Goals as goal
 

@@ -1,7 +1,6 @@
 -- `block_store::store_bits` meets its contract. The loop's invariant: the layout keeps its length, what the byte's other bits take ends where all
--- eight end, and so does the walk over them, from the state reached. The measure is the count of bits that are left. Assumes nothing.
+-- eight end, and so does the walk over them, from the state reached. Assumes nothing.
 use mathlib.Core.Path.{refl, ◌∙◌}
-use Prim.Native.Nat.{◌-◌}
 use native.Mathlib.Omega.{arith}
 use Rattle.block.specs.Walk.{store_entry}
 use Rattle.block.specs.Loops.{bit-turn, bits_end_lem}

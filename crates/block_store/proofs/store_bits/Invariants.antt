@@ -12,6 +12,3 @@ invariant-loop-bit l =
     × (length l.layout ≡ length l.initial.layout)
     × (l.at + bits_take l.message l.byte (8 - l.bit) l.bit l.x ≡ l.start + bits_take l.message l.byte 8 0 l.value)
     × (bits_from (store_entry l.msg) l.message l.byte (8 - l.bit) l.bit l.x (storing l.at l.layout) ≡ in_byte (store_entry l.msg) l.message l.byte l.value (storing l.start l.initial.layout))
-
-abbrev pub decreases-loop-bit : goal.decreases-loop-bit
-decreases-loop-bit l = 8 - l.bit

@@ -12,6 +12,3 @@ invariant-loop-j l =
     × (length l.layout ≡ length l.initial.layout)
     × (l.at + left l.message l.count l.bits (all_places - 8 * l.j) (8 * l.j) ≤ length l.msg)
     × (store_walk l.message l.count l.bits l.msg (all_places - 8 * l.j) (8 * l.j) (storing l.at l.layout) ≡ store_walk l.message l.count l.bits l.msg all_places 0 (storing 0 l.initial.layout))
-
-abbrev pub decreases-loop-j : goal.decreases-loop-j
-decreases-loop-j l = l.count - l.j

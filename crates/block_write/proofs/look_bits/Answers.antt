@@ -1,7 +1,7 @@
 -- `block_write::look_bits` meets its contract. The loop's invariant: the layout keeps its length, and the walk over the byte's other bits, from the state
--- reached, ends as the walk over all eight; what was found before them is asked at the end. The measure is the count of bits that are left. Assumes nothing.
+-- reached, ends as the walk over all eight; what was found before them is asked at the end. Assumes nothing.
 use mathlib.Core.Path.{refl, sym, ap, ◌∙◌}
-use Prim.Native.Nat.{ℕ, ◌-◌}
+use Prim.Native.Nat.{ℕ}
 use native.Mathlib.Omega.{arith}
 use Rattle.block.specs.Loops.{bit-turn, bits_end_lem}
 use Rattle.block.specs.Walk.{Looking, look_here}

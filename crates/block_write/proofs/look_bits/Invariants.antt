@@ -12,6 +12,3 @@ invariant-loop-bit l =
     × (length l.rest ≡ layout_size)
     × (l.r.total ≤ l.s.total + 255 * l.bit)
     × (bits_from (look_here l.byte) l.message l.byte (8 - l.bit) l.bit l.x (looking l.r l.rest) ≡ in_byte (look_here l.byte) l.message l.byte l.value (record { total = l.s.total; wrong = l.s.wrong; bad = 0; rest = l.initial.rest }))
-
-abbrev pub decreases-loop-bit : goal.decreases-loop-bit
-decreases-loop-bit l = 8 - l.bit

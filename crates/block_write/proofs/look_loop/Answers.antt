@@ -1,7 +1,6 @@
 -- `block_write::look_loop` meets its contract. The loop's invariant: what holds between two bytes, and that the walk over the places of the other bytes,
--- from the state reached, ends as the walk over all after the first `from` bytes. The measure is the count of bytes that are left. Assumes nothing.
+-- from the state reached, ends as the walk over all after the first `from` bytes. Assumes nothing.
 use mathlib.Core.Path.{refl, sym, ◌∙◌}
-use Prim.Native.Nat.{◌-◌}
 use native.Mathlib.Omega.{arith}
 use Rattle.block.specs.Walk.{look_entry}
 use Rattle.block.specs.Loops.{byte_turn, bytes_end}

@@ -8,6 +8,3 @@ abbrev pub invariant-loop-j : goal.invariant-loop-j
 invariant-loop-j l =
     Midway l.count l.bits l.j l.r.total l.rest
     × (look_walk l.message l.count l.bits (all_places - 8 * l.j) (8 * l.j) (looking l.r l.rest) ≡ look_walk l.message l.count l.bits (all_places - 8 * l.from) (8 * l.from) (looking l.initial.r l.initial.rest))
-
-abbrev pub decreases-loop-j : goal.decreases-loop-j
-decreases-loop-j l = l.count - l.j

@@ -1,12 +1,9 @@
 use mathlib.Core.Path.{◌≡◌}
 use mathlib.Core.Bool.{◌&&◌}
-use Prim.Native.Nat.{◌-◌}
-use lib.ListN.{length, drop}
+use lib.ListN.{drop}
 use Rattle.kinds.specs.Kinds.{all_allowed}
 use Rattle.kinds.proofs.every.Given as goal
 
-abbrev pub invariant-loop-i : goal.invariant-loop-i
-invariant-loop-i l = (all_allowed l.kind (drop l.i l.s) && l.ok) ≡ all_allowed l.kind l.s
-
-abbrev pub decreases-loop-i : goal.decreases-loop-i
-decreases-loop-i l = length l.s - l.i
+-- the kind allows the bytes that are left and allowed those before, if and only if it allows all of them
+abbrev pub invariant-loop-byte : goal.invariant-loop-byte
+invariant-loop-byte l = (all_allowed l.kind (drop l.byte-index l.s) && l.ok) ≡ all_allowed l.kind l.s

@@ -2,6 +2,7 @@
 use Rattle.messages.specs.Messages.{session_at}
 use Rattle.messages.proofs.Stages.{size_stops, sized-writes}
 use Rattle.session_messages.specs.Sessions as sessions
+use Rattle.messages.proofs.Passing.{refuses_with, answers_as}
 use native.Mathlib.Omega.{arith}
 use Prim.Native.Nat.{ℕ}
 use lib.ListN.{length, get_or, take, drop}
@@ -11,18 +12,16 @@ use Rattle.messages.proofs.write_session.Goals as goal
 pub returns-then-given-lt-RECORD : goal.returns-then-given-lt-RECORD
 returns-then-given-lt-RECORD c =
     let a = c.args in
-    size_stops _ _ _ _ a.out.now (omega (arith, c.if-given-lt-RECORD.true))
+    refuses_with _ c.new.ensures (omega arith) (size_stops _ _ _ _ a.out.now (omega (arith, c.if-given-lt-RECORD.true)))
 
 pub returns : goal.returns
 unfolding session_at
 returns c =
-    let wrote = c in
-    let number = wrote in
-    let whole = number in
-    let a = whole.args in
+    let a = c.args in
     let s = a.given.now in
-    let n = number.read_u32-number.ensures in
-    sized-writes _ _ _ _ a.out.now (omega (arith, whole.if-given-lt-RECORD.false)) (
-      wrote.write_body.ensures.0 ∙ ap (λ (x : ℕ). sessions.write_refusal (get_or s 0 0) (get_or s 1 0) x (take 433 (drop 6 s)) (length a.out.now)) n,
-      wrote.write_body.ensures.1 ∙ ap (λ (x : ℕ). sessions.write_buffer (get_or s 0 0) (get_or s 1 0) x (take 433 (drop 6 s)) a.out.now) n,
-    )
+    let n = c.read_u32-number.ensures in
+    let wrote = c.write_body.ensures in
+    answers_as _ wrote.0 (sized-writes _ _ _ _ a.out.now (omega (arith, c.if-given-lt-RECORD.false)) (
+      ap (λ (x : ℕ). sessions.write_refusal (get_or s 0 0) (get_or s 1 0) x (take 433 (drop 6 s)) (length a.out.now)) n,
+      wrote.1 ∙ ap (λ (x : ℕ). sessions.write_buffer (get_or s 0 0) (get_or s 1 0) x (take 433 (drop 6 s)) a.out.now) n,
+    ))

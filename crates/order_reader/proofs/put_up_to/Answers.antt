@@ -6,10 +6,6 @@ use Prim.Native.Nat.{◌-◌}
 use lib.ListN.{length, take, drop, length-drop}
 use lib.Seq.{length-take-le}
 use native.Mathlib.Omega.{arith}
-use Rattle.order_reader.proofs.put_up_to.Reads as reads
-use Rattle.order_reader.proofs.put_up_to.Lts as lts
-use Rattle.block.proofs.clear.Reads as clear_reads
-use Rattle.block.proofs.move_field.Reads as move_field_reads
 use Rattle.block.specs.Sizes.{fixed_end}
 use Rattle.order_reader.proofs.put_up_to.Goals as goal
 

@@ -1,4 +1,6 @@
 -- `order_reader::read_order` meets its contract: a message under its own type is the message. Assumes nothing.
+use Rattle.refusals.specs.Outcomes.{outcome}
+use Rattle.orders.proofs.Refusing.{tells}
 use Rattle.order_reader.proofs.Heads.{no_type}
 use Rattle.order_reader.proofs.Readings.{refused-keeps}
 use Rattle.order_reader.specs.Stages.{read_record}
@@ -13,18 +15,14 @@ use Rattle.order_reader.proofs.read_order.Goals as goal
 
 pub returns-then-m-lt5 : goal.returns-then-m-lt5
 returns-then-m-lt5 c =
-    let start = c in
-    let m = start.args.m.now in
-    refused-keeps m start.args.buffer.now (no_type m c.if-m-lt5.true) (λ z. omega (arith, z))
+    let m = c.args.m.now in
+    let k = refused-keeps m c.args.buffer.now (no_type m c.if-m-lt5.true) (λ z. omega (arith, z)) in
+    (tells (c.new.ensures ∙ k.0) (λ z. omega (arith, c.new.ensures, z)), k.1)
 
 pub returns : goal.returns
 returns c =
-    let read = c in
-    let named = read in
-    let long = named in
-    let start = long in
-    let m = start.args.m.now in
-    let same : typed named.type_of.result m ≡ m = ap (λ (t : ℕ). typed t m) named.type_of.ensures ∙ (same_but 0 m (omega (arith, long.if-m-lt5.false))).same in (
-      read.read_as.ensures.0 ∙ ap read_refusal same,
-      read.read_as.ensures.1 ∙ ap (λ (x : List ℕ). read_record x start.args.buffer.now) same,
+    let m = c.args.m.now in
+    let same : typed c.type_of.result m ≡ m = ap (λ (t : ℕ). typed t m) c.type_of.ensures ∙ (same_but 0 m (omega (arith, c.if-m-lt5.false))).same in (
+      c.read_as.ensures.0 ∙ ap outcome (ap read_refusal same),
+      c.read_as.ensures.1 ∙ ap (λ (x : List ℕ). read_record x c.args.buffer.now) same,
     )

@@ -1,4 +1,5 @@
 -- `order_writer::write_order` meets its contract: the parts given are those of the record of the bytes. Assumes nothing.
+use Rattle.refusals.specs.Outcomes.{outcome}
 use Rattle.order_records.specs.RecordLaws.{record_is}
 use Rattle.orders.specs.Orders.{write_refusal, write_buffer}
 use Rattle.orders.specs.declared.Record.{Record}
@@ -23,4 +24,4 @@ returns c =
     let a = number.args in
     let s = a.given.now in
     let e = record_is s (number.read_u32-number.ensures ∙ number_front 4 2 6 s (omega arith)) refl refl refl in
-    (wrote.write_parts.ensures.0 ∙ ap (λ (r : Record). write_refusal r (length a.out.now)) e, wrote.write_parts.ensures.1 ∙ ap (λ (r : Record). write_buffer r a.out.now) e)
+    (wrote.write_parts.ensures.0 ∙ ap (λ (r : Record). outcome (write_refusal r (length a.out.now))) e, wrote.write_parts.ensures.1 ∙ ap (λ (r : Record). write_buffer r a.out.now) e)

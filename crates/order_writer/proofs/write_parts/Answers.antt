@@ -1,6 +1,10 @@
 -- `order_writer::write_parts` meets its contract: where nothing is refused by what was seen, the middle is good, so that the message is small. Assumes
 -- nothing.
-use Rattle.order_writer.specs.Stages.{top_refusal, record_from}
+use Rattle.refusals.specs.OutcomeLaws.{passed}
+use Rattle.orders.proofs.Refusing.{tells, tells_none, passes_with}
+use Rattle.orders.specs.Middle.{middle_size, middle_good}
+use Rattle.orders.specs.declared.Record.{Record}
+use Rattle.order_writer.specs.Stages.{seen_refusal, record_from}
 use Rattle.order_writer.proofs.Held.{middle-held}
 use Rattle.order_writer.proofs.Writing.{count_fits, seen-middle, bad_near, wrong_near, seen_stops, room_decides, size_is, total_small, buffer_kept, buffer_written, bytes_are, top_stops}
 use Rattle.refusals.specs.Names.{no_room}
@@ -8,141 +12,113 @@ use Rattle.numbers.specs.Numbers.{patched}
 use Rattle.numbers.specs.NumberLaws.{patched-whole}
 use Rattle.block_write.specs.State.{looking, unseen, look_walk}
 use Rattle.orders.specs.Shapes.{count_at}
-use Rattle.orders.specs.Middle.{middle_good}
 use Rattle.orders.specs.Orders.{write_slots, write_rest, size_of, write_refusal}
 use Rattle.orders.proofs.OrderLaws.{middle-fits}
 use lib.Dec.{ltb}
 use lib.ListN.{length, drop}
 use borrow.Author.Tests.{lt-ltb, le-ltb}
 use native.Mathlib.Omega.{arith}
-use Prim.Native.Nat.{ℕ, ◌-◌, ◌≤◌}
+use Prim.Native.Nat.{ℕ, ◌+◌, ◌-◌, ◌≤◌}
 use mathlib.Core.Bool.{Bool, true, cond}
 use mathlib.Core.List.{List}
 use mathlib.Core.Path.{◌≡◌, refl, sym, ap, ◌∙◌}
 use Rattle.block.specs.Sizes.{all_places, layout_size, most_bitfields}
-use Rattle.order_writer.proofs.write_parts.Goals.{After-look_all-s, After-size_of-size, Else-seen-ne0, Else-top-ne0, Start}
+use Rattle.order_writer.proofs.write_parts.Goals.{After-copy_layout, After-look_all-s}
 use Rattle.order_writer.proofs.write_parts.Goals as goal
 
 -- a layout copied over zeros
 whole_layout : (v z : List ℕ) → length z ≡ layout_size → length v ≡ layout_size → patched z 0 v ≡ v
 whole_layout v z e l = patched-whole z v (e ∙ sym l)
 
--- the record of the parts
-
 -- past the top
-top-zero : (c : Else-top-ne0) → top_refusal c.args.message c.args.unit c.args.number c.args.count ≡ 0
-top-zero c = sym c.top_refusal-top.ensures ∙ c.if-top-ne0.false
-
-few : (c : Else-top-ne0) → c.args.count ≤ most_bitfields
-few c =
-    let a = c.args in
-    count_fits a.message a.unit a.number a.count (sym c.top_refusal-top.ensures ∙ c.if-top-ne0.false)
+few : (c : After-copy_layout) → c.args.count ≤ most_bitfields
+few c = count_fits c.args.message c.args.unit c.args.number c.args.count (passed _ _ c.check_top.ensures c.in_ok-check_top.was)
 
 -- what was looked at is a copy of the layout
 looked_at : (c : After-look_all-s) → looking c.look_all-s.result c.look_all-s.new.rest ≡ look_walk c.args.message c.args.count c.args.bits.now all_places 0 (unseen c.args.slots.now)
 looked_at c =
-    let start = c in
-    let a = start.args in
-    let copied = c in
-    c.look_all-s.ensures ∙ ap (λ (l : List ℕ). look_walk a.message a.count a.bits.now all_places 0 (unseen l)) (copied.copy_layout.ensures ∙ whole_layout a.slots.now _ refl start.requires.1)
+    let a = c.args in
+    c.look_all-s.ensures ∙ ap (λ (l : List ℕ). look_walk a.message a.count a.bits.now all_places 0 (unseen l)) (c.copy_layout.ensures ∙ whole_layout a.slots.now _ refl c.requires.1)
+
+-- the record of the parts
+abbrev made : (c : After-look_all-s) → Record
+made c = record_from c.args.message c.args.unit c.args.number c.args.fixed.now c.args.count c.args.bits.now c.args.slots.now
 
 few_bytes : (c : After-look_all-s) → c.look_all-s.result.total ≤ layout_size
-few_bytes c = total_small (let a = c.args in record_from a.message a.unit a.number a.fixed.now a.count a.bits.now a.slots.now) c.look_all-s.result _ c.requires.1 (let start = c in let a = start.args in let copied = c in c.look_all-s.ensures ∙ ap (λ (l : List ℕ). look_walk a.message a.count a.bits.now all_places 0 (unseen l)) (copied.copy_layout.ensures ∙ whole_layout a.slots.now _ refl start.requires.1))
+few_bytes c = total_small (made c) c.look_all-s.result _ c.requires.1 (looked_at c)
 
-decided : (c : Else-seen-ne0) → write_refusal (let a = c.args in record_from a.message a.unit a.number a.fixed.now a.count a.bits.now a.slots.now) (length c.args.out.now) ≡ cond (ltb (length c.args.out.now) (size_of (let a = c.args in record_from a.message a.unit a.number a.fixed.now a.count a.bits.now a.slots.now))) no_room 0
-decided c =
-    let look = c in
-    let start = look in
-    room_decides (let a = start.args in record_from a.message a.unit a.number a.fixed.now a.count a.bits.now a.slots.now) look.look_all-s.result _ start.requires.1 (let start = look in let a = start.args in let copied = look in look.look_all-s.ensures ∙ ap (λ (l : List ℕ). look_walk a.message a.count a.bits.now all_places 0 (unseen l)) (copied.copy_layout.ensures ∙ whole_layout a.slots.now _ refl start.requires.1)) (length start.args.out.now) (sym look.top_refusal-top.ensures ∙ look.if-top-ne0.false) (sym c.seen_refusal-seen.ensures ∙ c.if-seen-ne0.false)
+-- where nothing is refused of what was seen, the room decides, and the middle is good
+module _ (c : After-look_all-s) (z : seen_refusal c.args.message c.args.count c.args.fixed.now c.args.bits.now c.args.slots.now c.look_all-s.new.rest c.look_all-s.result ≡ 0) where
+  decided : write_refusal (made c) (length c.args.out.now) ≡ cond (ltb (length c.args.out.now) (size_of (made c))) no_room 0
+  decided = room_decides (made c) c.look_all-s.result _ c.requires.1 (looked_at c) (length c.args.out.now) (passed _ _ c.check_top.ensures c.in_ok-check_top.was) z
 
-good : (c : Else-seen-ne0) → (let a = c.args in middle_good a.message a.count a.bits.now (drop (count_at a.message - 10) a.fixed.now)) ≡ true
-good c =
-    let look = c in
-    let a = look.args in
-    seen-middle a.message a.count a.fixed.now a.bits.now a.slots.now _ look.look_all-s.result (sym c.seen_refusal-seen.ensures ∙ c.if-seen-ne0.false)
+  good : middle_good c.args.message c.args.count c.args.bits.now (drop (count_at c.args.message - 10) c.args.fixed.now) ≡ true
+  good = seen-middle c.args.message c.args.count c.args.fixed.now c.args.bits.now c.args.slots.now _ c.look_all-s.result z
 
--- the size
-size : (c : After-size_of-size) → c.size_of-size.result ≡ size_of (let a = c.args in record_from a.message a.unit a.number a.fixed.now a.count a.bits.now a.slots.now)
-size c =
-    let look = c in
-    let start = look in
-    size_is (let a = start.args in record_from a.message a.unit a.number a.fixed.now a.count a.bits.now a.slots.now) look.look_all-s.result _ start.requires.1 (let start = look in let a = start.args in let copied = look in look.look_all-s.ensures ∙ ap (λ (l : List ℕ). look_walk a.message a.count a.bits.now all_places 0 (unseen l)) (copied.copy_layout.ensures ∙ whole_layout a.slots.now _ refl start.requires.1)) c.size_of-size.ensures
+  -- the size
+  module _ (n : ℕ) (e : n ≡ count_at c.args.message + 1 + c.args.count + (middle_size c.args.message c.args.count c.args.bits.now (drop (count_at c.args.message - 10) c.args.fixed.now) + c.look_all-s.result.total)) where
+    size : n ≡ size_of (made c)
+    size = size_is (made c) c.look_all-s.result _ c.requires.1 (looked_at c) e
 
-small : (c : After-size_of-size) → c.size_of-size.result ≤ 2048
-small c =
-    let look = c in
-    let a = look.args in
-    let fits = middle-fits a.message a.count a.bits.now (drop (count_at a.message - 10) a.fixed.now) (let look = c in let a = look.args in seen-middle a.message a.count a.fixed.now a.bits.now a.slots.now _ look.look_all-s.result (sym c.seen_refusal-seen.ensures ∙ c.if-seen-ne0.false)) in
-    omega (arith, c.size_of-size.ensures, fits, (let a = look.args in count_fits a.message a.unit a.number a.count (sym look.top_refusal-top.ensures ∙ look.if-top-ne0.false)), (total_small (let a = look.args in record_from a.message a.unit a.number a.fixed.now a.count a.bits.now a.slots.now) look.look_all-s.result _ look.requires.1 (let start = look in let a = start.args in let copied = look in look.look_all-s.ensures ∙ ap (λ (l : List ℕ). look_walk a.message a.count a.bits.now all_places 0 (unseen l)) (copied.copy_layout.ensures ∙ whole_layout a.slots.now _ refl start.requires.1))))
+    small : n ≤ 2048
+    small =
+        let few = count_fits c.args.message c.args.unit c.args.number c.args.count (passed _ _ c.check_top.ensures c.in_ok-check_top.was) in
+        omega (arith, e, middle-fits c.args.message c.args.count c.args.bits.now (drop (count_at c.args.message - 10) c.args.fixed.now) good, few, few_bytes c)
 
-pub returns-then-top-ne0 : goal.returns-then-top-ne0
-returns-then-top-ne0 c =
-    let start = c in
-    let a = start.args in
-    let top = c.top_refusal-top in
-    let stops = top_stops (let a = start.args in record_from a.message a.unit a.number a.fixed.now a.count a.bits.now a.slots.now) (length a.out.now) (λ z. c.if-top-ne0.true (top.ensures ∙ z)) in
-    let e = top.ensures ∙ stops in
-    (e, buffer_kept (let a = start.args in record_from a.message a.unit a.number a.fixed.now a.count a.bits.now a.slots.now) a.out.now e c.if-top-ne0.true)
+pub returns-in_err-check_top : goal.returns-in_err-check_top
+returns-in_err-check_top c =
+    let a = c.args in
+    let r = record_from a.message a.unit a.number a.fixed.now a.count a.bits.now a.slots.now in
+    passes_with _ c.check_top.ensures c.in_err-check_top.was c.from_residual.ensures.1
+    (λ h. let e = top_stops r (length a.out.now) h in (e, buffer_kept r a.out.now e h))
 
 pub look_all-s-requires : goal.look_all-s-requires
 look_all-s-requires c =
-    let copied = c in
-    let past = copied in
-    let start = past in
-    (ap length (copied.copy_layout.ensures ∙ whole_layout start.args.slots.now _ refl start.requires.1) ∙ start.requires.1, omega (arith, few (goal.at.look_all-s-requires c).Else-top-ne0, start.requires.2), few (goal.at.look_all-s-requires c).Else-top-ne0)
+    let n = few (goal.at.look_all-s-requires c).After-copy_layout in
+    (ap length (c.copy_layout.ensures ∙ whole_layout c.args.slots.now _ refl c.requires.1) ∙ c.requires.1, omega (arith, n, c.requires.2), n)
 
-pub seen_refusal-seen-requires : goal.seen_refusal-seen-requires
-seen_refusal-seen-requires c =
-    let look = c in
-    let start = look in
-    let p = start.requires in
-    let near = bad_near (let a = start.args in record_from a.message a.unit a.number a.fixed.now a.count a.bits.now a.slots.now) look.look_all-s.result _ p.1 (looked_at (goal.at.seen_refusal-seen-requires c).After-look_all-s) in
-    let close = wrong_near (let a = start.args in record_from a.message a.unit a.number a.fixed.now a.count a.bits.now a.slots.now) look.look_all-s.result _ p.1 (looked_at (goal.at.seen_refusal-seen-requires c).After-look_all-s) in
-    let copied = look in
-    let long = look.look_all-s.auto.rest ∙ ap length (copied.copy_layout.ensures ∙ whole_layout start.args.slots.now _ refl p.1) ∙ p.1 in
-    (p.0, p.2, few (goal.at.seen_refusal-seen-requires c).Else-top-ne0, near, close, p.1, long)
+pub check_seen-requires : goal.check_seen-requires
+check_seen-requires c =
+    let k = (goal.at.check_seen-requires c).After-look_all-s in
+    let p = c.requires in
+    let near = bad_near (made k) c.look_all-s.result _ p.1 (looked_at k) in
+    let close = wrong_near (made k) c.look_all-s.result _ p.1 (looked_at k) in
+    let long = c.look_all-s.auto.rest ∙ ap length (c.copy_layout.ensures ∙ whole_layout c.args.slots.now _ refl p.1) ∙ p.1 in
+    (p.0, p.2, few (goal.at.check_seen-requires c).After-copy_layout, near, close, p.1, long)
 
-pub returns-then-seen-ne0 : goal.returns-then-seen-ne0
-returns-then-seen-ne0 c =
-    let look = c in
-    let start = look in
-    let a = start.args in
-    let seen = c.seen_refusal-seen in
-    let stops = seen_stops (let a = start.args in record_from a.message a.unit a.number a.fixed.now a.count a.bits.now a.slots.now) look.look_all-s.result _ start.requires.1 (looked_at (goal.at.returns-then-seen-ne0 c).After-look_all-s) (length a.out.now) (top-zero (goal.at.returns-then-seen-ne0 c).Else-top-ne0) (λ z. c.if-seen-ne0.true (seen.ensures ∙ z)) in
-    let e = seen.ensures ∙ stops in
-    (e, buffer_kept (let a = start.args in record_from a.message a.unit a.number a.fixed.now a.count a.bits.now a.slots.now) a.out.now e c.if-seen-ne0.true)
+pub returns-in_err-check_seen : goal.returns-in_err-check_seen
+returns-in_err-check_seen c =
+    let k = (goal.at.returns-in_err-check_seen c).After-look_all-s in
+    passes_with _ c.check_seen.ensures c.in_err-check_seen.was c.from_residual-in_err-check_seen.ensures.1
+    (λ h.
+    let e = seen_stops (made k) c.look_all-s.result _ c.requires.1 (looked_at k) (length c.args.out.now) (passed _ _ c.check_top.ensures c.in_ok-check_top.was) h in
+    (e, buffer_kept (made k) c.args.out.now e h))
 
 pub size_of-size-requires : goal.size_of-size-requires
-size_of-size-requires c =
-    let look = c in
-    (look.requires.0, few_bytes (goal.at.size_of-size-requires c).After-look_all-s)
+size_of-size-requires c = (c.requires.0, few_bytes (goal.at.size_of-size-requires c).After-look_all-s)
 
 pub returns-then-out-size : goal.returns-then-out-size
 returns-then-out-size c =
-    let sized = c in
-    let start = sized in
-    let a = start.args in
-    let e : 13 ≡ write_refusal (let a = start.args in record_from a.message a.unit a.number a.fixed.now a.count a.bits.now a.slots.now) (length a.out.now) =
-    sym (decided (goal.at.returns-then-out-size c).Else-seen-ne0 ∙ ap (λ (b : Bool). cond b no_room 0) (lt-ltb (length a.out.now) (size_of (let a = start.args in record_from a.message a.unit a.number a.fixed.now a.count a.bits.now a.slots.now)) (omega (arith, size (goal.at.returns-then-out-size c).After-size_of-size, c.if-out-size.true)))) in
-    (e, buffer_kept (let a = start.args in record_from a.message a.unit a.number a.fixed.now a.count a.bits.now a.slots.now) a.out.now e (λ z. omega (arith, z)))
+    let k = (goal.at.returns-then-out-size c).After-look_all-s in
+    let z = passed _ _ c.check_seen.ensures c.in_ok-check_seen.was in
+    let e : 13 ≡ write_refusal (made k) (length c.args.out.now) =
+    sym (decided k z ∙ ap (λ (b : Bool). cond b no_room 0) (lt-ltb (length c.args.out.now) (size_of (made k)) (omega (arith, size k z _ c.size_of-size.ensures, c.if-out-size.true)))) in
+    (tells (c.new.ensures ∙ e) (λ y. omega (arith, c.new.ensures, y)), buffer_kept (made k) c.args.out.now e (λ y. omega (arith, y)))
 
 pub put_order-requires : goal.put_order-requires
 unfolding size_of write_slots write_rest
 put_order-requires c =
-    let sized = c in
-    let look = sized in
-    let start = look in
-    let a = start.args in
-    let p = start.requires in
-    (few (goal.at.put_order-requires c).Else-top-ne0, p.0, p.1, p.2, middle-held a.message a.count a.fixed.now a.bits.now p.0 (good (goal.at.put_order-requires c).Else-seen-ne0), size (goal.at.put_order-requires c).After-size_of-size, c.if-out-size.false, small (goal.at.put_order-requires c).After-size_of-size)
+    let k = (goal.at.put_order-requires c).After-look_all-s in
+    let a = c.args in
+    let p = c.requires in
+    let z = passed _ _ c.check_seen.ensures c.in_ok-check_seen.was in
+    (few (goal.at.put_order-requires c).After-copy_layout, p.0, p.1, p.2, middle-held a.message a.count a.fixed.now a.bits.now p.0 (good k z), size k z _ c.size_of-size.ensures, c.if-out-size.false, small k z _ c.size_of-size.ensures)
 
 pub returns : goal.returns
 returns c =
-    let put = c in
-    let else = put in
-    let sized = else in
-    let start = sized in
-    let a = start.args in
-    let z : write_refusal (let a = start.args in record_from a.message a.unit a.number a.fixed.now a.count a.bits.now a.slots.now) (length a.out.now) ≡ 0 =
-    decided (goal.at.returns c).Else-seen-ne0 ∙ ap (λ (b : Bool). cond b no_room 0) (le-ltb (length a.out.now) (size_of (let a = start.args in record_from a.message a.unit a.number a.fixed.now a.count a.bits.now a.slots.now)) (omega (arith, size (goal.at.returns c).After-size_of-size, else.if-out-size.false))) in
-    (sym z, buffer_written (let a = start.args in record_from a.message a.unit a.number a.fixed.now a.count a.bits.now a.slots.now) a.out.now z (put.put_order.ensures ∙ ap (patched a.out.now 0) (bytes_are (let a = start.args in record_from a.message a.unit a.number a.fixed.now a.count a.bits.now a.slots.now) (size (goal.at.returns c).After-size_of-size))))
+    let k = (goal.at.returns c).After-look_all-s in
+    let out = c.args.out.now in
+    let s = passed _ _ c.check_seen.ensures c.in_ok-check_seen.was in
+    let n = size k s _ c.size_of-size.ensures in
+    let z : write_refusal (made k) (length out) ≡ 0 = decided k s ∙ ap (λ (b : Bool). cond b no_room 0) (le-ltb (length out) (size_of (made k)) (omega (arith, n, c.if-out-size.false))) in
+    (tells_none (sym z), buffer_written (made k) out z (c.put_order.ensures ∙ ap (patched out 0) (bytes_are (made k) n)))

@@ -4,10 +4,10 @@ use mathlib.Core.List.{List, [], ◌∷◌, ◌++◌}
 use Prim.Native.Nat.{ℕ, ◌+◌, ◌≤◌}
 use native.Mathlib.Omega.{arith}
 use lib.ListN.{length, take}
-use Rattle.numbers.proofs.Tail.{puts_then, tail_length}
+use Rattle.numbers.proofs.Tail.{puts_then}
 use Rattle.numbers.specs.Numbers.{bytes_of, patched}
 use Rattle.session_logins.specs.LoginRequests.{least}
-use Rattle.session_logins.proofs.Parts.{no_bits, bits_there, nothing_put, bits_size}
+use Rattle.session_logins.proofs.Parts.{least_is, no_bits, bits_there, nothing_put, bits_size}
 use Rattle.session_logins.proofs.LoginRequestLaws.{least-most, take-most}
 use borrow.Author.Rules.{rules}
 use borrow.Author.Tests.{not-true, not-false}
@@ -19,26 +19,12 @@ returns-then-not-b c =
     let e = no_bits a.kind a.b (not-true _ c.if-not-b.true) in
     (ap length e, nothing_put a.tail.now ∙ ap (λ (l : List ℕ). patched a.tail.now 0 l) e)
 
-pub copy_front-requires : goal.copy_front-requires
-copy_front-requires c =
-    let start = c in
-    let a = start.args in
-    let n = c.lesser-n.result in
-    let h : n ≤ 15 = omega (arith, least-most a.b.count 15, c.lesser-n.ensures) in
-    let m = take-most n a.b.bits in
-    let t = tail_length a.tail.now _ (bytes_of 2 (5 + a.b.count) ++ (0x81 ∷ a.kind ∷ a.b.count ∷ [])) (take n a.b.bits) 5 refl (omega (arith, h, m, start.requires)) c.put_group_head.ensures in
-    let w : length a.b.bits ≡ 15 = search rules in
-    (omega (arith, h, w), omega (arith, h, t, start.requires))
-
-pub overflow_add-result : goal.overflow_add-result
-overflow_add-result c = omega (arith, least-most c.args.b.count 15, c.lesser-n.ensures)
-
 pub returns : goal.returns
 returns c =
     let start = c in
     let a = start.args in
-    let n = c.lesser-n.result in
-    let q : n ≡ least a.b.count 15 = c.lesser-n.ensures in
+    let n = c.min-n.result in
+    let q : n ≡ least a.b.count 15 = c.min-n.ensures ∙ least_is a.b.count 15 in
     let h : n ≤ 15 = omega (arith, least-most a.b.count 15, q) in
     let m = take-most n a.b.bits in
     let w : length a.b.bits ≡ 15 = search rules in

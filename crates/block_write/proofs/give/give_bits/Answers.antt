@@ -1,8 +1,6 @@
 -- `block_write::give::give_bits` meets its contract. The loop's invariant: the message keeps its length, and the walk over the byte's other bits, from
--- the state reached, ends as the walk over all eight; what they select is what is left of what all eight select. The measure is the count of bits that
--- are left. Assumes nothing.
+-- the state reached, ends as the walk over all eight; what they select is what is left of what all eight select. Assumes nothing.
 use mathlib.Core.Path.{refl, ◌∙◌}
-use Prim.Native.Nat.{◌-◌}
 use native.Mathlib.Omega.{arith}
 use Rattle.block.specs.Loops.{bit-turn, bits_end_lem}
 use Rattle.block.specs.Walk.{give_entry}

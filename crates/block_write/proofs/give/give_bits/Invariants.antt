@@ -12,6 +12,3 @@ invariant-loop-bit l =
     × (length l.out ≡ length l.initial.out)
     × (l.at + bits_take l.message l.byte (8 - l.bit) l.bit l.x ≡ l.start + bits_take l.message l.byte 8 0 l.value)
     × (bits_from (give_entry l.layout) l.message l.byte (8 - l.bit) l.bit l.x (giving l.at l.out) ≡ in_byte (give_entry l.layout) l.message l.byte l.value (giving l.start l.initial.out))
-
-abbrev pub decreases-loop-bit : goal.decreases-loop-bit
-decreases-loop-bit l = 8 - l.bit

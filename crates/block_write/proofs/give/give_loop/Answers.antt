@@ -1,7 +1,6 @@
 -- `block_write::give::give_loop` meets its contract. The loop's invariant: the message keeps its length, and the walk over the places of the other bytes,
--- from the state reached, ends as the walk over all; what they select fits. The measure is the count of bytes that are left. Assumes nothing.
+-- from the state reached, ends as the walk over all; what they select fits. Assumes nothing.
 use mathlib.Core.Path.{refl, ◌∙◌}
-use Prim.Native.Nat.{◌-◌}
 use native.Mathlib.Omega.{arith}
 use Rattle.block.specs.Walk.{any_byte, give_entry}
 use Rattle.block.specs.Loops.{byte_turn, bytes_end}

@@ -12,6 +12,3 @@ invariant-loop-j l =
     × (length l.out ≡ length l.initial.out)
     × (l.at + left l.message l.count l.bits (all_places - 8 * l.j) (8 * l.j) ≤ length l.initial.out)
     × (give_walk l.message l.count l.bits l.layout (all_places - 8 * l.j) (8 * l.j) (giving l.at l.out) ≡ give_walk l.message l.count l.bits l.layout all_places 0 (giving l.start l.initial.out))
-
-abbrev pub decreases-loop-j : goal.decreases-loop-j
-decreases-loop-j l = l.count - l.j

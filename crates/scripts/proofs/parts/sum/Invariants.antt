@@ -1,8 +1,6 @@
-use Prim.Native.Nat.{◌+◌, ◌*◌, ◌-◌, ◌≤◌}
+-- No number is above 32 bits.
+use Rattle.std.proofs.Common.{◌*◌, ◌≤◌}
 use Rattle.scripts.proofs.parts.sum.Given as goal
 
 abbrev pub invariant-loop-u : goal.invariant-loop-u
-invariant-loop-u l = (1 ≤ l.u) × (l.u ≤ 33) × (l.total + 4294967295 ≤ 4294967295 * l.u)
-
-abbrev pub decreases-loop-u : goal.decreases-loop-u
-decreases-loop-u l = 33 - l.u
+invariant-loop-u g l = l.total ≤ 4294967295 * l.u

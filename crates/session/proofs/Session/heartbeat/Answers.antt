@@ -1,16 +1,25 @@
 -- `session::Session::heartbeat` meets its contract. Assumes nothing.
+use Rattle.std.proofs.Common.{sym, ◌∙◌, arith}
+use Rattle.refusals.specs.OutcomeLaws.{passed}
+use Rattle.session.proofs.Passing.{passes_answer, refuses_answer, accepts_answer}
 use Rattle.session.proofs.SessionLaws.{beats, no_beat}
-use mathlib.Core.Path.{sym, ◌∙◌}
 use Rattle.session.proofs.Session.heartbeat.Goals as goal
 
-pub returns-then-is_open : goal.returns-then-is_open
-returns-then-is_open c =
-    let wrote = c in
-    let then = wrote in
-    let a = then.args in
-    beats a.self a.out.now (sym then.is_open.ensures ∙ then.if-is_open.true) wrote.write_body-refusal.ensures
+pub returns-then-not-is_open : goal.returns-then-not-is_open
+returns-then-not-is_open c =
+    let a = c.args in
+    refuses_answer c.new.ensures (omega arith) (no_beat a.self a.out.now (sym c.is_open.ensures ∙ c.if-not-is_open.true))
+
+pub returns-in_err-write_body : goal.returns-in_err-write_body
+returns-in_err-write_body c =
+    let a = c.args in
+    let wrote = c.write_body.ensures in
+    passes_answer _ _ wrote.0 c.in_err-write_body.was c.from_residual.ensures.1
+    (λ z k. beats a.self a.out.now (sym c.is_open.ensures ∙ c.if-not-is_open.false) (z, wrote.1))
 
 pub returns : goal.returns
 returns c =
     let a = c.args in
-    no_beat a.self a.out.now (sym c.is_open.ensures ∙ c.if-is_open.false)
+    let wrote = c.write_body.ensures in
+    accepts_answer
+    (beats a.self a.out.now (sym c.is_open.ensures ∙ c.if-not-is_open.false) (sym (passed _ _ wrote.0 c.in_ok-write_body.was), wrote.1))

@@ -4,6 +4,5 @@ use Rattle.session_calls.proofs.beside.put.Goals as goal
 
 pub returns : goal.returns
 returns c =
-    let start = c in
-    let a = start.args in
-    beside_put a.state.now _ a.phase a.outgoing.0 a.market start.requires c.write_u32.ensures.1 c.phase_number.ensures c.market_number.ensures
+    let a = c.args in
+    beside_put a.state.now _ a.phase a.outgoing.0 a.market c.requires c.write_u32.ensures.1 c.phase_number.ensures c.market_number.ensures

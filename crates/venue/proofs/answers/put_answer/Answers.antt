@@ -12,4 +12,4 @@ pub returns : goal.returns
 returns c =
     let start = c in
     let a = start.args in
-    puts_then a.out.now _ (65 ∷ accepted_text) (counted_part a.flag a.received.0 a.table a.groups.now) 61 refl (omega (arith, start.requires, lists_long a.table a.groups.now)) c.put_status.ensures c.put_counted.ensures
+    puts_then a.out.now _ (65 ∷ accepted_text) (counted_part a.flag a.v.received.0 a.v.table a.groups.now) 61 refl (omega (arith, start.requires, lists_long a.v.table a.groups.now)) c.put_status.ensures c.put_counted.ensures

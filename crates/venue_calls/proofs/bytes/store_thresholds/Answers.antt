@@ -1,47 +1,21 @@
 -- `venue_calls::bytes::store_thresholds` meets its contract: unit after unit, each with its number. Assumes nothing.
-use native.Mathlib.Omega.{arith}
-use mathlib.Core.Path.{refl, ◌∙◌}
-use Prim.Native.Nat.{◌-◌}
+use Rattle.std.specs.Prelude.{refl}
+use Rattle.std.proofs.Common.{◌∙◌, arith}
 use Rattle.venue_calls.proofs.VenueBytesLaws.{wants-start, wants_go_on, wants_end}
 use Rattle.venue_calls.proofs.bytes.store_thresholds.Goals as goal
 
 pub loop-i-init : goal.loop-i-init
-loop-i-init c =
-    (omega arith, refl, wants-start c.args.state.now c.args.t.numbers c.requires)
-
-pub offset_bounds-t-i : goal.offset_bounds-t-i
-offset_bounds-t-i c = omega arith
-
-pub bounds-t-i : goal.bounds-t-i
-bounds-t-i c = omega arith
-
-pub overflow_mul-i : goal.overflow_mul-i
-overflow_mul-i c = omega arith
-
-pub overflow_add-i : goal.overflow_add-i
-overflow_add-i c = omega arith
-
-pub overflow_add-i-in-loop-i : goal.overflow_add-i-in-loop-i
-overflow_add-i-in-loop-i c = omega arith
-
-pub loop-i-smaller : goal.loop-i-smaller
-loop-i-smaller c = omega arith
+loop-i-init c = (refl, wants-start c.args.state.now c.args.t.numbers c.requires)
 
 pub loop-i-preserved : goal.loop-i-preserved
 loop-i-preserved c =
-    let start = c in
     let l = c.loop-i in
     let w = c.write_u32 in (
-      omega arith,
-      w.auto.out ∙ l.invariant.1,
-      w.ensures.1 ∙ wants_go_on start.args.state.now start.args.t.numbers start.requires l.i (omega arith) (omega arith) l.invariant.2,
+      w.auto.out ∙ l.invariant.0,
+      w.ensures.1 ∙ wants_go_on c.args.state.now c.args.t.numbers c.requires l.i c.loop-i-test.true (omega arith) l.invariant.1,
     )
-
-pub shape_of-state : goal.shape_of-state
-shape_of-state c = c.loop-i.invariant.1
 
 pub returns : goal.returns
 returns c =
     let l = c.loop-i in
-    let start = c in
-    wants_end start.args.state.now start.args.t.numbers start.requires l.i l.invariant.0 c.loop-i-test.false l.invariant.2
+    wants_end c.args.state.now c.args.t.numbers c.requires l.i l.auto.i-end c.loop-i-test.false l.invariant.1

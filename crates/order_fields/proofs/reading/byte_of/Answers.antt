@@ -1,8 +1,0 @@
--- `order_fields::reading::byte_of` meets its contract. Assumes nothing.
-use Rattle.order_fields.specs.declared.Found.{Found}
-use Rattle.order_fields.specs.Named.{byte_in}
-use mathlib.Core.Path.{ap, ◌∙◌}
-use Rattle.order_fields.proofs.reading.byte_of.Goals as goal
-
-pub returns : goal.returns
-returns c = c.byte_in.ensures ∙ ap (λ (f : Found). byte_in f c.args.r.slots) c.optional.ensures.0

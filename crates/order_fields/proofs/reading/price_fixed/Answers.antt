@@ -1,8 +1,0 @@
--- `order_fields::reading::price_fixed` meets its contract. Assumes nothing.
-use Rattle.order_fields.specs.declared.Found.{Found}
-use Rattle.order_fields.specs.Named.{price_in}
-use mathlib.Core.Path.{ap, ◌∙◌}
-use Rattle.order_fields.proofs.reading.price_fixed.Goals as goal
-
-pub returns : goal.returns
-returns c = c.price_in.ensures ∙ ap (λ (f : Found). price_in f c.args.r.fixed) c.fixed.ensures.0

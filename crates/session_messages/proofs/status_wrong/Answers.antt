@@ -1,9 +1,0 @@
--- `session_messages::status_wrong` meets its contract. Assumes nothing.
-use mathlib.Core.Path.{sym, ◌∙◌}
-use Rattle.session_messages.proofs.status_wrong.Goals as goal
-
-pub returns-then-not-agrees : goal.returns-then-not-agrees
-returns-then-not-agrees c = rw (sym c.agrees.ensures ∙ c.if-not-agrees.true)
-
-pub returns : goal.returns
-returns c = rw (sym c.agrees.ensures ∙ c.if-not-agrees.false) c.text_wrong.ensures
