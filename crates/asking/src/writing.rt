@@ -42,8 +42,8 @@ pub fn outcome<T>(rt: &impl Print, r: &Result<T, Refusal>) -> io::Result<()> {
 
 // A refusal as C is told it: its number in the low byte, and after an @ its place where it has one.
 pub fn refusal(rt: &impl Print, r: u32) -> io::Result<()> {
-    let number = r % 256;
-    let place = r / 256;
+    let number = refusals::number_in(r);
+    let place = refusals::place_in(r);
     if place == 0 {
         rt.print(number)
     } else {

@@ -1,14 +1,34 @@
--- Bytes moved through a local, and from both ends. Assumes nothing.
+-- Bytes copied one by one, and moved through a local and from both ends. Assumes nothing.
 use mathlib.Core.Path.{◌≡◌, refl, ap, ◌∙◌}
-use mathlib.Core.List.{List, ◌++◌}
-use Prim.Native.Nat.{ℕ, ◌+◌, ◌-◌, ◌≤◌}
+use mathlib.Core.List.{List, [], ◌∷◌, ◌++◌}
+use Prim.Native.Nat.{ℕ, zero, suc, ◌+◌, ◌-◌, ◌≤◌, ◌<◌}
+use native.Mathlib.Nat.{le_of_suc-le-suc, not-suc-le-zero}
+use native.Mathlib.Numerals.{add-one}
 use native.Mathlib.Omega.{arith}
-use lib.ListN.{length, take, drop}
-use lib.Seq.{take_at, length-take-le}
+use lib.ListN.{length, take, drop, get_or, set}
+use lib.Seq.{take_all, take_at, length-take-le}
 use Rattle.numbers.specs.Numbers.{patched}
 use Rattle.numbers.specs.NumberLaws.{patched-length}
 use Rattle.numbers.proofs.Tail.{tail_is, lent-patched}
 use Rattle.block.specs.Ends.{both_ends_put}
+
+copy_suc : (s d : List ℕ) (i : ℕ) → i < length s → i < length d → set (take i s ++ drop i d) i (get_or s i 0) ≡ take (suc i) s ++ drop (suc i) d
+copy_suc [] d i hs hd = absurd (not-suc-le-zero hs)
+copy_suc (x ∷ s) [] i hs hd = absurd (not-suc-le-zero hd)
+copy_suc (x ∷ s) (y ∷ d) zero hs hd = refl
+copy_suc (x ∷ s) (y ∷ d) (suc i) hs hd = ap (λ (l : List ℕ). x ∷ l) (copy_suc s d i (le_of_suc-le-suc hs) (le_of_suc-le-suc hd))
+
+-- one byte more is copied
+pub copy_more : (s d : List ℕ) (i : ℕ) → i < length s → i < length d → set (take i s ++ drop i d) i (get_or s i 0) ≡ take (i + 1) s ++ drop (i + 1) d
+copy_more s d i hs hd = rw add-one (copy_suc s d i hs hd)
+
+-- all are copied
+pub copy_all : (s d : List ℕ) (i : ℕ) → length s ≤ i → i ≤ length s → take i s ++ drop i d ≡ patched d 0 s
+unfolding patched
+copy_all s d i h l =
+    let e : i ≡ length s = omega arith in
+    let z : 0 + length s ≡ length s = omega arith in
+    rw (take_all i s h, e, z)
 
 -- the front of a local that bytes were copied into
 pub held-front : (s d l : List ℕ) → l ≡ patched d 0 s → take (length s) l ≡ s

@@ -26,13 +26,14 @@ pub const BITS_AT: usize = 97;
 
 pub const SLOTS_AT: usize = 116;
 
-// A field's bytes into the front of a lent tail, which has room for them.
-#[tactic(auto, unfolding(numbers::specs::Numbers::patched))]
+// A field's bytes into the front of a lent tail, which has room for them. `copy_from_slice` calls the C library's copy, whatever the length, also for none.
 pub fn copy(from: &[u8], to: &mut [u8])
     requires { length from.now ≤ length to.old }
     ensures { to.new ≡ patched to.old 0 from.now }
 {
-    to[..from.len()].copy_from_slice(from);
+    for i in 0..from.len() {
+        to[i] = from[i];
+    }
 }
 
 // The first n bytes into the front of a lent tail.

@@ -2,14 +2,22 @@
 -- Assumes nothing.
 use mathlib.Core.Path.{◌≡◌, refl, sym, ap, ap₂, ◌∙◌}
 use mathlib.Core.List.{List, [], ◌∷◌, ◌++◌, append-nil}
+use mathlib.Core.Logic.{◌⊎◌, inl, inr, ⊎_elim}
+use mathlib.Core.Bool.{Bool, true, false}
+use lib.Dec.{leb}
 use Prim.Native.Nat.{ℕ, ◌+◌, ◌-◌, ◌≤◌, ◌<◌}
 use native.Mathlib.Omega.{arith}
-use lib.ListN.{length, take, drop, set, length-drop, drop_of_length-le}
+use lib.ListN.{length, take, drop, set, length-drop, take-append-drop, drop_of_length-le}
 use lib.Seq.{take_all, drop-drop}
-use Rattle.std.specs.Prelude.{Err}
+use borrow.Author.Tests.{leb-true, leb-false}
+use Rattle.std.specs.Prelude.{Err, Result, ⊤}
 use Rattle.refusals.specs.Outcomes.{outcome, outcome_with}
 use Rattle.numbers.specs.Numbers.{patched, put_refusal, put_buffer}
-use Rattle.numbers.specs.NumberLaws.{put_refuses, put_keeps, patched-length, patched_join}
+use Rattle.numbers.specs.NumberLaws.{put-takes, put_stores, put_refuses, put_keeps, patched-length, patched_join}
+
+le_by : (b : Bool) (i j : ℕ) → leb i j ≡ b → (i ≤ j) ⊎ (j < i)
+le_by true i j e = inl (leb-true i j e)
+le_by false i j e = inr (leb-false i j e)
 
 -- the tail that a part `&s[a..]` is
 pub tail_is : (xs : List ℕ) (a : ℕ) → a ≤ length xs → take (length xs - a) (drop a xs) ≡ drop a xs
@@ -25,6 +33,36 @@ module _ (xs : List ℕ) (a : ℕ) (bs : List ℕ) (h : a ≤ length xs) where
   patched_of_tail =
       let z : 0 + length bs ≡ length bs = omega arith in
       simp (z, drop-drop)
+
+  rest-length : length (drop a xs) ≡ length xs - a
+  rest-length = length-drop a xs
+
+  refusal_of_tail : put_refusal (drop a xs) 0 bs ≡ put_refusal xs a bs
+  refusal_of_tail =
+      ⊎_elim
+      (λ (l : a + length bs ≤ length xs). put-takes (drop a xs) 0 bs (omega (arith, rest-length)) ∙ sym (put-takes xs a bs l))
+      (λ (l : length xs < a + length bs). put_refuses (drop a xs) 0 bs (omega (arith, rest-length)) ∙ sym (put_refuses xs a bs l))
+      (le_by _ (a + length bs) (length xs) refl)
+
+  buffer_of_tail : take a xs ++ put_buffer (drop a xs) 0 bs ≡ put_buffer xs a bs
+  buffer_of_tail =
+      ⊎_elim
+      (λ (l : a + length bs ≤ length xs).
+      ap (λ (y : List ℕ). take a xs ++ y) (put_stores (drop a xs) 0 bs (omega (arith, rest-length)))
+      ∙ patched_of_tail ∙ sym (put_stores xs a bs l))
+      (λ (l : length xs < a + length bs).
+      ap (λ (y : List ℕ). take a xs ++ y) (put_keeps (drop a xs) 0 bs (omega (arith, rest-length)))
+      ∙ take-append-drop a xs ∙ sym (put_keeps xs a bs l))
+      (le_by _ (a + length bs) (length xs) refl)
+
+  -- as a function has it: the tail lent as a part, and what the callee made of it back in its place
+  pub lent : {r : Result ⊤ ℕ} {ys : List ℕ}
+      → (r ≡ outcome (put_refusal (take (length xs - a) (drop a xs)) 0 bs)) × (ys ≡ put_buffer (take (length xs - a) (drop a xs)) 0 bs)
+      → (r ≡ outcome (put_refusal xs a bs)) × (take a xs ++ (ys ++ drop (length xs - a) (drop a xs)) ≡ put_buffer xs a bs)
+  lent {r} {ys} e = (
+    e.0 ∙ ap (λ (t : List ℕ). outcome (put_refusal t 0 bs)) (tail_is xs a h) ∙ ap outcome refusal_of_tail,
+    tail_back xs ys a h ∙ ap (λ (y : List ℕ). take a xs ++ y) (e.1 ∙ ap (λ (t : List ℕ). put_buffer t 0 bs) (tail_is xs a h)) ∙ buffer_of_tail,
+  )
 
 -- bytes put with room for them into a tail that is lent, and the tail back in its place
 pub lent-patched : (xs : List ℕ) (a : ℕ) (bs : List ℕ) → a ≤ length xs → {ys : List ℕ} → ys ≡ patched (take (length xs - a) (drop a xs)) 0 bs

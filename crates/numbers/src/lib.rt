@@ -27,7 +27,10 @@ pub fn read_u16(s: &[u8], at: usize) -> u16
     if s.len() <= at {
         return 0;
     }
-    u16::from_le_bytes([byte_at(s, at), byte_at(s, at + 1)])
+    if s.len() - at < 2 {
+        return s[at] as u16;
+    }
+    u16::from_le_bytes([s[at], s[at + 1]])
 }
 
 // The number of the four bytes from a place on.
@@ -37,12 +40,10 @@ pub fn read_u32(s: &[u8], at: usize) -> u32
     if s.len() <= at {
         return 0;
     }
-    u32::from_le_bytes([
-        byte_at(s, at),
-        byte_at(s, at + 1),
-        byte_at(s, at + 2),
-        byte_at(s, at + 3),
-    ])
+    if s.len() - at < 4 {
+        return u32::from_le_bytes([s[at], byte_at(s, at + 1), byte_at(s, at + 2), 0]);
+    }
+    u32::from_le_bytes([s[at], s[at + 1], s[at + 2], s[at + 3]])
 }
 
 // The number of the eight bytes from a place on.
@@ -52,49 +53,68 @@ pub fn read_u64(s: &[u8], at: usize) -> u64
     if s.len() <= at {
         return 0;
     }
+    if s.len() - at < 8 {
+        return u64::from_le_bytes([
+            s[at],
+            byte_at(s, at + 1),
+            byte_at(s, at + 2),
+            byte_at(s, at + 3),
+            byte_at(s, at + 4),
+            byte_at(s, at + 5),
+            byte_at(s, at + 6),
+            0,
+        ]);
+    }
     u64::from_le_bytes([
-        byte_at(s, at),
-        byte_at(s, at + 1),
-        byte_at(s, at + 2),
-        byte_at(s, at + 3),
-        byte_at(s, at + 4),
-        byte_at(s, at + 5),
-        byte_at(s, at + 6),
-        byte_at(s, at + 7),
+        s[at],
+        s[at + 1],
+        s[at + 2],
+        s[at + 3],
+        s[at + 4],
+        s[at + 5],
+        s[at + 6],
+        s[at + 7],
     ])
 }
 
-// Bytes written at a place.
-fn put(out: &mut [u8], at: usize, bytes: &[u8]) -> Result<(), Refusal>
-    ensures { (result ≡ outcome (put_refusal out.old at bytes.now)) × (out.new ≡ put_buffer out.old at bytes.now) }
+// Bytes into the front of a lent tail.
+fn put_front<const N: usize>(tail: &mut [u8], bytes: [u8; N]) -> Result<(), Refusal>
+    ensures { (result ≡ outcome (put_refusal tail.old 0 bytes.entry)) × (tail.new ≡ put_buffer tail.old 0 bytes.entry) }
+{
+    if tail.len() < N {
+        return Err(Refusal::new(Reason::NoRoom));
+    }
+    tail[..N].copy_from_slice(&bytes);
+    Ok(())
+}
+
+// Bytes written at a place: into the tail from there on.
+fn put<const N: usize>(out: &mut [u8], at: usize, bytes: [u8; N]) -> Result<(), Refusal>
+    ensures { (result ≡ outcome (put_refusal out.old at bytes.entry)) × (out.new ≡ put_buffer out.old at bytes.entry) }
 {
     if out.len() < at {
         return Err(Refusal::new(Reason::NoRoom));
     }
-    if out.len() - at < bytes.len() {
-        return Err(Refusal::new(Reason::NoRoom));
-    }
-    out[at..at + bytes.len()].copy_from_slice(bytes);
-    Ok(())
+    put_front(&mut out[at..], bytes)
 }
 
 // A number of two bytes written at a place.
 pub fn write_u16(out: &mut [u8], at: usize, v: u16) -> Result<(), Refusal>
     ensures { (result ≡ outcome (put_refusal out.old at (bytes_of 2 v))) × (out.new ≡ put_buffer out.old at (bytes_of 2 v)) }
 {
-    put(out, at, &v.to_le_bytes())
+    put(out, at, v.to_le_bytes())
 }
 
 // A number of four bytes written at a place.
 pub fn write_u32(out: &mut [u8], at: usize, v: u32) -> Result<(), Refusal>
     ensures { (result ≡ outcome (put_refusal out.old at (bytes_of 4 v))) × (out.new ≡ put_buffer out.old at (bytes_of 4 v)) }
 {
-    put(out, at, &v.to_le_bytes())
+    put(out, at, v.to_le_bytes())
 }
 
 // A number of eight bytes written at a place.
 pub fn write_u64(out: &mut [u8], at: usize, v: u64) -> Result<(), Refusal>
     ensures { (result ≡ outcome (put_refusal out.old at (bytes_of 8 v))) × (out.new ≡ put_buffer out.old at (bytes_of 8 v)) }
 {
-    put(out, at, &v.to_le_bytes())
+    put(out, at, v.to_le_bytes())
 }

@@ -40,7 +40,7 @@ impl Value<2> for u16 {
     ghost stored = { bytes_of 2 };
 
     fn read(s: &[u8], at: usize) -> u16 {
-        crate::read_u16(s, at)
+        u16::from_le_bytes([s[at], s[at + 1]])
     }
 
     fn bytes(self) -> [u8; 2] {
@@ -54,7 +54,7 @@ impl Value<4> for u32 {
     ghost stored = { bytes_of 4 };
 
     fn read(s: &[u8], at: usize) -> u32 {
-        crate::read_u32(s, at)
+        u32::from_le_bytes([s[at], s[at + 1], s[at + 2], s[at + 3]])
     }
 
     fn bytes(self) -> [u8; 4] {

@@ -1,13 +1,23 @@
 -- Laws of what a call answers: what an answer that is good, or refused, says of the number; and how a refusal is passed on. Assumes nothing.
 use Rattle.std.specs.Prelude.{◌≡◌, refl, ℕ, zero, suc, cond, false, eqb, Result, Ok, Err}
 use Rattle.std.proofs.Common.{sym, ap, ◌∙◌, ne_eqb}
-use Rattle.refusals.specs.Outcomes.{outcome_with, code_of}
+use Rattle.refusals.specs.Outcomes.{outcome_with, code_of, held_by}
 
 -- the number of an answer is the number that it is from
 pub code_back : {A : Type 0} (n : ℕ) (x : A) → code_of (outcome_with n x) ≡ n
 unfolding outcome_with
 code_back zero x = refl
 code_back (suc n) x = refl
+
+-- and so it is of any answer that is what a contract says
+pub code_is : {A : Type 0} {r : Result A ℕ} (n : ℕ) (x : A) → r ≡ outcome_with n x → code_of r ≡ n
+code_is n x e = ap code_of e ∙ code_back n x
+
+-- and what its caller then has is the value stated, where the one stated of a refusal is the one given
+pub held : {A : Type 0} {r : Result A ℕ} {given : A} (n : ℕ) (x : A) → r ≡ outcome_with n x → (eqb n 0 ≡ false → x ≡ given) → held_by given r ≡ x
+unfolding outcome_with
+held {given = given} zero x e k = ap (held_by given) e
+held {given = given} (suc n) x e k = ap (held_by given) e ∙ sym (k (ne_eqb (suc n) 0 (λ z. cc z)))
 
 -- a call that is not refused: the number is 0
 pub passed : {A : Type 0} {r : Result A ℕ} {y : A} (n : ℕ) (x : A) → r ≡ outcome_with n x → r ≡ Ok y → n ≡ 0

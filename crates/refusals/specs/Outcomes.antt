@@ -14,3 +14,8 @@ outcome n = outcome_with n (record {})
 abbrev pub code_of : {A : Type 0} → Result A ℕ → ℕ
 code_of (Ok _) = 0
 code_of (Err refusal) = refusal
+
+-- what a caller has after a call that may be refused: the value answered, or still the one that it gave
+abbrev pub held_by : {A : Type 0} → A → Result A ℕ → A
+held_by given (Ok x) = x
+held_by given (Err refusal) = given

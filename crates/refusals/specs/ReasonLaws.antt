@@ -1,10 +1,10 @@
 -- A reason and a place are told apart again by the number that tells both. Assumes nothing.
 use Rattle.std.specs.Prelude.{◌≡◌, refl, ℕ, ◌%◌, ◌/◌, ◌<◌}
-use Rattle.std.proofs.Common.{arith, ap, ◌∙◌}
+use Rattle.std.proofs.Common.{arith, ap, sym, ◌∙◌}
 use Rattle.refusals.specs.declared.Reason.{Reason}
 use Rattle.refusals.specs.declared.Reason.TheVariants.{BadStart, BadLength, Incomplete, UnknownType, BadUnit, WrongTotal, TooManyBitfields, UnlistedBit, NotSelected, BadValue, BadGroup, NotZero, NoRoom, AlreadyTaken, Gap, OutOfPhase, OtherDate, BadBook, NotADay, NumbersUsedUp, OldNumber, NoFirstMark, Conflict, NoMessage}
 use Rattle.refusals.specs.Told.{told}
-use Rattle.refusals.specs.Reasons.{number_of, reason_of}
+use Rattle.refusals.specs.Reasons.{number_of, reason_of, IsRefusal}
 
 pub reason_back : (r : Reason) → reason_of (number_of r) ≡ r
 reason_back BadStart = refl
@@ -91,3 +91,16 @@ reason_of-told r at =
 
 pub place_of-told : (r : Reason) (at : ℕ) → told (number_of r) at / 256 ≡ at
 place_of-told r at = omega (arith, number_small r)
+
+-- a reason's number is a refusal's, and so is that with a place under 1,000,000
+pub number_is_refusal : (r : Reason) → IsRefusal (number_of r)
+unfolding IsRefusal
+number_is_refusal r =
+    let low : number_of r % 256 ≡ number_of r = omega (arith, number_small r) in
+    (ap number_of (ap reason_of low ∙ reason_back r) ∙ sym low, omega (arith, number_small r))
+
+pub told_is_refusal : (r : Reason) (at : ℕ) → at < 1000000 → IsRefusal (told (number_of r) at)
+unfolding IsRefusal
+told_is_refusal r at h =
+    let low : told (number_of r) at % 256 ≡ number_of r = omega (arith, number_small r) in
+    (ap number_of (reason_of-told r at) ∙ sym low, omega (arith, h, place_of-told r at))

@@ -1,7 +1,8 @@
 -- The reasons to refuse, each by its number. Definitions alone. Assumes nothing.
-use Rattle.std.specs.Prelude.{ℕ, cond, eqb}
+use Rattle.std.specs.Prelude.{◌≡◌, ℕ, ◌<◌, cond, eqb}
 use Rattle.refusals.specs.declared.Reason.{Reason}
 use Rattle.refusals.specs.declared.Reason.TheVariants.{BadStart, BadLength, Incomplete, UnknownType, BadUnit, WrongTotal, TooManyBitfields, UnlistedBit, NotSelected, BadValue, BadGroup, NotZero, NoRoom, AlreadyTaken, Gap, OutOfPhase, OtherDate, BadBook, NotADay, NumbersUsedUp, OldNumber, NoFirstMark, Conflict, NoMessage}
+use Rattle.refusals.specs.Told.{number_in, place_in}
 use Rattle.refusals.specs.Names.{bad_start, bad_length, incomplete, unknown_type, bad_unit, wrong_total, too_many_bitfields, unlisted_bit, not_selected, bad_value, bad_group, not_zero, no_room, already_taken, gap, out_of_phase, other_date, bad_book, not_a_day, numbers_used_up, old_number, no_first_mark, conflict, no_message}
 
 -- the number of a reason
@@ -58,3 +59,7 @@ reason_of n =
     (cond (eqb n no_first_mark) NoFirstMark
     (cond (eqb n conflict) Conflict
     NoMessage)))))))))))))))))))))))
+
+-- whether a number is a refusal's: the low byte is a reason's number, and the place above it is under 1,000,000
+unfoldable pub IsRefusal : ℕ → Type 0
+IsRefusal n = (number_of (reason_of (number_in n)) ≡ number_in n) × (place_in n < 1000000)

@@ -96,29 +96,27 @@ impl Reason {
     }
 }
 
-// A refusal: its reason, and the place in the message of the byte that it is about, 0 where it has none. In a clause it is the number that tells both.
-#[derive(Clone, Copy)]
+// A refusal: its reason, and the place in the message of the byte that it is about, 0 where it has none. In a clause it is the number that tells both,
+// which is all that it keeps: one word, so that an answer is handed back in registers.
+#[derive(Clone, Copy, Debug, PartialEq, Eq, PartialOrd, Ord, Hash)]
 pub struct Refusal {
-    reason: Reason,
-    place: u32,
+    code: u32,
 }
 
 impl Model for Refusal {
-    ghost use Rattle.std.specs.Prelude.{ℕ, ◌<◌};
+    ghost use Rattle.std.specs.Prelude.{refl, ℕ};
 
     ghost Value = { ℕ };
 
-    ghost use Rattle.refusals.specs.Told.{told};
-    ghost use Rattle.refusals.specs.Reasons.{number_of};
-    ghost use Rattle.refusals.specs.RefusalLaws.{parts_of, refusal_back};
+    ghost use Rattle.refusals.specs.Reasons.{IsRefusal};
 
-    ghost view = { λ r. told (number_of r.reason) r.place };
+    ghost view = { λ r. r.code };
 
-    ghost invariant = { λ r. r.place < 1000000 };
+    ghost invariant = { λ r. IsRefusal r.code };
 
-    ghost inverse = { parts_of };
+    ghost inverse = { λ n. record { code = n } };
 
-    ghost inverse_ok = { λ r h. refusal_back r };
+    ghost inverse_ok = { λ r h. refl };
 }
 
 impl Refusal {
@@ -126,7 +124,9 @@ impl Refusal {
     pub fn new(reason: Reason) -> Refusal
         ensures { result ≡ number_of reason }
     {
-        Refusal { reason, place: 0 }
+        Refusal {
+            code: reason.number(),
+        }
     }
 
     // A refusal about the byte at a place.
@@ -135,8 +135,7 @@ impl Refusal {
         ensures { result ≡ told (number_of reason) place }
     {
         Refusal {
-            reason,
-            place: place as u32,
+            code: told(reason.number(), place),
         }
     }
 
@@ -144,22 +143,44 @@ impl Refusal {
     pub fn is(self, reason: Reason) -> bool
         ensures { result ≡ eqb (number_in self) (number_of reason) }
     {
-        self.reason == reason
+        number_in(self.code) == reason.number()
     }
 
     // Its place, 0 where it has none.
     pub fn place(self) -> u32
         ensures { result ≡ place_in self }
     {
-        self.place
+        place_in(self.code)
     }
 
     // Its number in the low byte, and its place above it.
     pub fn code(self) -> u32
         ensures { result ≡ self }
     {
-        self.reason.number() + 256 * self.place
+        self.code
     }
+}
+
+// A number and a place in one number: the number in the low byte, the place above it.
+pub fn told(number: u32, place: usize) -> u32
+    requires { (number < 256) × (place < 1000000) }
+    ensures { result ≡ told number place }
+{
+    number + 256 * (place as u32)
+}
+
+// The number of a refusal that is told in one number.
+pub fn number_in(refusal: u32) -> u32
+    ensures { result ≡ number_in refusal }
+{
+    refusal % 256
+}
+
+// Its place, 0 where it has none.
+pub fn place_in(refusal: u32) -> u32
+    ensures { result ≡ place_in refusal }
+{
+    refusal / 256
 }
 
 // What a caller of C is told: 0, or the refusal's number and place.

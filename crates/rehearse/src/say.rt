@@ -110,7 +110,7 @@ pub struct Refused(pub Refusal);
 
 impl fmt::Display for Refused {
     fn fmt<W: fmt::Write>(&self, f: &mut fmt::Formatter<W>) -> fmt::Result {
-        let number = self.0.code() % 256;
+        let number = refusals::number_in(self.0.code());
         let place = self.0.place();
         write!(f, "refused, {number}")?;
         if place != 0 {

@@ -67,7 +67,7 @@ pub fn put(phase: Phase, outgoing: OutgoingNumber, market: Market, state: &mut [
     requires { 278 ≤ length state.old }
     ensures { state.new ≡ patched state.old outgoing_at (beside_bytes phase outgoing.0 market) }
 {
-    let _ = numbers::write_u32(state, 272, outgoing.0);
+    book_calls::books::put_number(state, 272, outgoing.0);
     state[276] = phase_number(phase);
     state[277] = market_number(market);
 }

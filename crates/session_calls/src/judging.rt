@@ -3,12 +3,12 @@ ghost use Rattle.std.specs.Prelude.{◌≡◌, cond};
 ghost use Rattle.refusals.specs.Names.{unknown_type};
 ghost use Rattle.refusals.specs.Outcomes.{outcome};
 ghost use Rattle.wire.specs.Header.{type_of};
-ghost use Rattle.messages.specs.Messages.{carries, own_refusal, read_refusal};
+ghost use Rattle.messages.specs.Messages.{carries, own_refusal};
 
 use refusals::{Reason, Refusal};
 
 // A whole message: Ok; or 4 for a type that is none of the venue's, or its own refusal.
-fn check_whole(m: &[u8]) -> Result<(), Refusal>
+pub fn check_whole(m: &[u8]) -> Result<(), Refusal>
     ensures { result ≡ outcome (cond (carries 1 (type_of m.now)) (own_refusal m.now) unknown_type) }
 {
     let message = wire::header::type_of(m);
@@ -19,12 +19,4 @@ fn check_whole(m: &[u8]) -> Result<(), Refusal>
         return session_messages::check_session(m);
     }
     Err(Refusal::new(Reason::UnknownType))
-}
-
-// The first whole message of any bytes: Ok; or 1 to 11, as reading has them in the venue's direction.
-pub fn check_message(bytes: &[u8]) -> Result<(), Refusal>
-    ensures { result ≡ outcome (read_refusal 1 bytes.now) }
-{
-    wire::check_frame(bytes)?;
-    check_whole(wire::frame(bytes))
 }

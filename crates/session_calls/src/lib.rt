@@ -198,13 +198,18 @@ fn book(m: &[u8], buffer: &mut [u8], state: &mut [u8]) -> Result<(), Refusal>
     Ok(())
 }
 
-// Takes a readable message, the first of the bytes: Ok, and the state is as it says; or 16 for a type out of phase, 14, 15 or 13, and buffer and state are
+// Takes a readable message m, the first of the bytes: Ok, and the state is as it says; or 16 for a type out of phase, 14, 15 or 13, and buffer and state are
 // as they were.
-fn take(phase: Phase, bytes: &[u8], buffer: &mut [u8], state: &mut [u8]) -> Result<(), Refusal>
-    requires { (278 ≤ length state.old) × (phase ≡ (session_of state.old).phase) × (is_closed phase ≡ false) × (read_refusal 1 bytes.now ≡ 0) }
+fn take(
+    phase: Phase,
+    bytes: &[u8],
+    m: &[u8],
+    buffer: &mut [u8],
+    state: &mut [u8],
+) -> Result<(), Refusal>
+    requires { (278 ≤ length state.old) × (phase ≡ (session_of state.old).phase) × (is_closed phase ≡ false) × (read_refusal 1 bytes.now ≡ 0) × (m.now ≡ framed bytes.now) }
     ensures { (result ≡ outcome (receive_of (session_of state.old) (length buffer.old) bytes.now).refusal) × (buffer.new ≡ receive_buffer (session_of state.old) buffer.old bytes.now) × (state.new ≡ session_after (receive_of (session_of state.old) (length buffer.old) bytes.now).refusal (receive_of (session_of state.old) (length buffer.old) bytes.now).session state.old) }
 {
-    let m = wire::frame(bytes);
     let message = wire::header::type_of(m);
     if !phases::passes(phase, message) {
         return Err(Refusal::new(Reason::OutOfPhase));
@@ -245,8 +250,10 @@ pub fn receive(
     if phases::is_closed(phase) {
         return Err(Refusal::new(Reason::OutOfPhase));
     }
-    judging::check_message(bytes)?;
-    take(phase, bytes, buffer, state)?;
+    wire::check_frame(bytes)?;
+    let m = wire::frame(bytes);
+    judging::check_whole(m)?;
+    take(phase, bytes, m, buffer, state)?;
     *told = told_number(numbers::byte_at(bytes, 4));
     Ok(())
 }

@@ -144,11 +144,11 @@ abbrev pub pick_reading : Bool → Reading → Reading → Reading
 pick_reading true a b = a
 pick_reading false a b = b
 
--- what a refused message answers
+-- what is told of a refused message
 abbrev pub refuse : ℕ → Reading
 refuse n = record { refusal = n; session = blank }
 
--- what reading answers: 0 and the record, or the refusal and the blank record
+-- what reading tells: 0 and the record, or the refusal and the blank record, of which a call answers the refusal alone
 unfoldable pub read_of : List ℕ → Reading
 read_of m = pick_reading (eqb (read_refusal m) 0) (record { refusal = 0; session = record_of m }) (refuse (read_refusal m))
 

@@ -5,17 +5,19 @@ ghost use Rattle.refusals.specs.Outcomes.{outcome, outcome_with};
 ghost use Rattle.venue_calls.specs.VenueBytes.{called, thresholds_at, wants_bytes, venue_of, venue_bytes};
 
 use book::Book;
+use numbers::values::Value;
 use refusals::{Reason, Refusal};
 use table::{OutgoingNumber, UnitNumber};
 use venue::{Thresholds, Venue};
 
 // What the login wants of each unit, in a state.
 fn thresholds_in(state: &[u8]) -> Thresholds
+    requires { 402 ≤ length state.now }
     ensures { result ≡ (venue_of state.now).thresholds }
 {
     let mut t = Thresholds::new();
     for i in 0..32 {
-        t.numbers[i] = UnitNumber(numbers::read_u32(state, 272 + 4 * i));
+        t.numbers[i] = UnitNumber(u32::read(state, 272 + 4 * i));
     }
     t
 }
@@ -54,7 +56,7 @@ fn store_thresholds(t: Thresholds, state: &mut [u8])
     ensures { state.new ≡ patched state.old thresholds_at (wants_bytes 32 0 t.numbers) }
 {
     for i in 0..32 {
-        let _ = numbers::write_u32(state, 272 + 4 * i, t.numbers[i].0); // it fits
+        book_calls::books::put_number(state, 272 + 4 * i, t.numbers[i].0);
     }
 }
 

@@ -5,4 +5,4 @@ use Rattle.session_calls.proofs.beside.put.Goals as goal
 pub returns : goal.returns
 returns c =
     let a = c.args in
-    beside_put a.state.now _ a.phase a.outgoing.0 a.market c.requires c.write_u32.ensures.1 c.phase_number.ensures c.market_number.ensures
+    beside_put a.state.now _ a.phase a.outgoing.0 a.market c.requires c.put_number.ensures c.phase_number.ensures c.market_number.ensures

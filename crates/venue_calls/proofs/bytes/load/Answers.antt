@@ -14,6 +14,9 @@ returns-in_err-check_size c = pass c.from_residual.ensures.1 (told_on (called c.
 pub extent_in-e-requires : goal.extent_in-e-requires
 extent_in-e-requires c = omega (arith, holds_one c.args.state.now (passed _ _ c.check_size.ensures c.in_ok-check_size.was))
 
+pub thresholds_in-requires : goal.thresholds_in-requires
+thresholds_in-requires c = omega (arith, holds_one c.args.state.now (passed _ _ c.check_size.ensures c.in_ok-check_size.was))
+
 pub returns : goal.returns
 returns c =
     let state = c.args.state.now in

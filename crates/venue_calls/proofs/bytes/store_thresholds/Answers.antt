@@ -10,9 +10,9 @@ loop-i-init c = (refl, wants-start c.args.state.now c.args.t.numbers c.requires)
 pub loop-i-preserved : goal.loop-i-preserved
 loop-i-preserved c =
     let l = c.loop-i in
-    let w = c.write_u32 in (
-      w.auto.out ∙ l.invariant.0,
-      w.ensures.1 ∙ wants_go_on c.args.state.now c.args.t.numbers c.requires l.i c.loop-i-test.true (omega arith) l.invariant.1,
+    let w = c.put_number in (
+      w.auto.state ∙ l.invariant.0,
+      w.ensures ∙ wants_go_on c.args.state.now c.args.t.numbers c.requires l.i c.loop-i-test.true (omega arith) l.invariant.1,
     )
 
 pub returns : goal.returns
