@@ -1,13 +1,13 @@
 -- The head of a message: its refusals by its type, and what a good head says of the places of the message.
 -- Assumes nothing.
-use mathlib.Core.Path.{◌≡◌, sym, ap, ap₂, ◌∙◌}
+use mathlib.Core.Path.{◌≡◌, refl, sym, ap, ap₂, ◌∙◌}
 use mathlib.Core.Bool.{Bool, true, false, cond, not, ◌||◌}
 use mathlib.Core.List.{List}
 use Prim.Native.Nat.{ℕ, ◌+◌, ◌≤◌, ◌<◌}
 use native.Mathlib.Omega.{arith}
 use lib.Dec.{leb, ltb}
 use lib.ListN.{length, get_or, get_or-eq_default}
-use borrow.Author.Tests.{ltb-false, ne_eqb}
+use borrow.Author.Tests.{ltb-true, ltb-false, ne_eqb}
 use Rattle.refusals.specs.Names.{unknown_type, bad_unit}
 use Rattle.refusals.specs.ToldLaws.{passed_told}
 use Rattle.wire.specs.Header.{type_of, unit_of, number_of}
@@ -62,6 +62,17 @@ module _ (m : List ℕ) (message : ℕ) (h : 5 ≤ length m) where
 pub no_type : (m : List ℕ) → length m < 5 → unknown_type ≡ read_refusal m
 unfolding read_refusal head_refusal
 no_type m l = let e : type_of m ≡ 0 = get_or-eq_default m 0 (omega (arith, l)) in rw e
+
+-- so that one that is not refused has a type, and under its own type it is the message
+pub whole_type : (m : List ℕ) → read_refusal m ≡ 0 → 5 ≤ length m
+whole_type m z = by (ltb (length m) 5) refl
+  where
+    by : (b : Bool) → ltb (length m) 5 ≡ b → 5 ≤ length m
+    by true e = absurd (cc (no_type m (ltb-true (length m) 5 e), z))
+    by false e = ltb-false (length m) 5 e
+
+pub typed_itself : (m : List ℕ) → 5 ≤ length m → {message : ℕ} → message ≡ type_of m → typed message m ≡ m
+typed_itself m h e = ap (λ (t : ℕ). typed t m) e ∙ (same_but 0 m h).same
 
 -- ---- those of a message of a type, by its unit and number
 

@@ -240,7 +240,7 @@ pub fn check_as(message: u8, m: &[u8]) -> Result<(), Refusal>
 {
     let at = orders::count_at(message);
     check_head(m, message)?;
-    let count = numbers::byte_at(m, at);
+    let count = m[at];
     check_body(m, message, at, count)
 }
 
@@ -374,6 +374,24 @@ fn put_there(m: &[u8], message: u8, at: usize, count: u8, buffer: &mut [u8])
     put_record(m, message, count, &m[start..end], &m[end..], buffer);
 }
 
+// Stores the record of a whole message that was judged under its record's type, and is good, in the front of a buffer that has room for it.
+fn put_as(message: u8, m: &[u8], buffer: &mut [u8])
+    requires { (5 ≤ length m.now) × (read_refusal (typed message m.now) ≡ 0) × (record_size ≤ length buffer.old) }
+    ensures { buffer.new ≡ read_record (typed message m.now) buffer.old }
+{
+    let at = orders::count_at(message);
+    let count = m[at];
+    put_there(m, message, at, count, buffer);
+}
+
+// The same of a message whose type is its record's: for callers that have judged it themselves.
+pub fn put_order(m: &[u8], buffer: &mut [u8])
+    requires { (read_refusal m.now ≡ 0) × (record_size ≤ length buffer.old) }
+    ensures { buffer.new ≡ read_record m.now buffer.old }
+{
+    put_as(wire::header::type_of(m), m, buffer);
+}
+
 // Reads a whole message, as framing answers it, under its record's type, into a buffer that has room for its record: Ok, and the record's bytes stand in the
 // front of the buffer; or the refusal (4 to 10, from 6 on with its place, or 23), and the buffer is as it was.
 pub fn read_as(message: u8, m: &[u8], buffer: &mut [u8]) -> Result<(), Refusal>
@@ -381,9 +399,7 @@ pub fn read_as(message: u8, m: &[u8], buffer: &mut [u8]) -> Result<(), Refusal>
     ensures { (result ≡ outcome (read_refusal (typed message m.now))) × (buffer.new ≡ read_record (typed message m.now) buffer.old) }
 {
     check_as(message, m)?;
-    let at = orders::count_at(message);
-    let count = numbers::byte_at(m, at);
-    put_there(m, message, at, count, buffer);
+    put_as(message, m, buffer);
     Ok(())
 }
 
