@@ -19,6 +19,10 @@ cc+=(-std=c11 -Wall -Wextra -Werror -O2 -Iinclude)
 
 made=$(mktemp -d)
 trap 'rm -rf "$made"' EXIT
+make_quick() { # the folder $quick, for files that are flushed again and again: in memory, where the machine has that, so that a test does not hang on a disk
+    quick=$(mktemp -d -p /dev/shm 2>/dev/null) || quick=$made
+    trap 'rm -rf "$made" "$quick"' EXIT
+}
 
 library=target/staticlib/libgateway.a
 [ -f "$library" ] || [ "$test" = install ] || c/library gateway >"$made/log" 2>&1 || { cat "$made/log"; fail "c/library gateway"; }

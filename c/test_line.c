@@ -20,7 +20,7 @@ static const char usage[] =
     "\n"
     "Listens on a port of 127.0.0.1 and runs the command, of which each word {} becomes 127.0.0.1:PORT. From a connection it reads the first message,\n"
     "the login; then it sends the bytes of the next LINEFILE and ends its side, and reads until the other side has ended too. After the last LINEFILE it\n"
-    "takes no connection. The exit status is the command's, or 128 and the signal that has ended it; 124 where the command took more than 10 seconds, and\n"
+    "takes no connection. The exit status is the command's, or 128 and the signal that has ended it; 124 where the command took more than a minute, and\n"
     "was killed; 125 where this program itself cannot go on. Counts of bytes are over all lines.\n"
     "\n"
     "  --stdin FILE    the command's standard input (/dev/null); - is that of this program, closed or not\n"
@@ -40,7 +40,7 @@ static const char usage[] =
 const char program[] = "test_line";
 
 /* The exit statuses that are not the command's, and how long the command may take, in milliseconds. */
-enum { TOO_LONG = 124, CANNOT_GO_ON = 125, NOT_RUN = 127, BY_SIGNAL = 128, MOST_MS = 10000 };
+enum { TOO_LONG = 124, CANNOT_GO_ON = 125, NOT_RUN = 127, BY_SIGNAL = 128, MOST_MS = 60000 };
 
 static struct {
     const char *input, *login, *heard;

@@ -3,31 +3,31 @@ use crate::values::{give, take};
 use order_fields::acknowledgment;
 use orders::Record;
 
-// A field's value.
-pub fn get(field: u32, r: Record) -> Option<[u8; 64]> {
+// A field's value into the front of a buffer of zeros, where it is selected.
+pub fn get(field: u32, r: Record, value: &mut [u8]) -> bool {
     match field {
-        0 => give(acknowledgment::transaction_time(r)),
-        1 => give(acknowledgment::cl_ord_id(r)),
-        2 => give(acknowledgment::order_id(r)),
-        3 => give(acknowledgment::side(r)),
-        4 => give(acknowledgment::price(r)),
-        5 => give(acknowledgment::exec_inst(r)),
-        6 => give(acknowledgment::ord_type(r)),
-        7 => give(acknowledgment::time_in_force(r)),
-        8 => give(acknowledgment::min_qty(r)),
-        9 => give(acknowledgment::symbol(r)),
-        10 => give(acknowledgment::symbol_sfx(r)),
-        11 => give(acknowledgment::capacity(r)),
-        12 => give(acknowledgment::account(r)),
-        13 => give(acknowledgment::clearing_firm(r)),
-        14 => give(acknowledgment::clearing_account(r)),
-        15 => give(acknowledgment::max_floor(r)),
-        16 => give(acknowledgment::order_qty(r)),
-        17 => give(acknowledgment::leaves_qty(r)),
-        18 => give(acknowledgment::last_shares(r)),
-        19 => give(acknowledgment::last_px(r)),
-        20 => give(acknowledgment::expire_time(r)),
-        _ => None,
+        0 => give(acknowledgment::transaction_time(r), value),
+        1 => give(acknowledgment::cl_ord_id(r), value),
+        2 => give(acknowledgment::order_id(r), value),
+        3 => give(acknowledgment::side(r), value),
+        4 => give(acknowledgment::price(r), value),
+        5 => give(acknowledgment::exec_inst(r), value),
+        6 => give(acknowledgment::ord_type(r), value),
+        7 => give(acknowledgment::time_in_force(r), value),
+        8 => give(acknowledgment::min_qty(r), value),
+        9 => give(acknowledgment::symbol(r), value),
+        10 => give(acknowledgment::symbol_sfx(r), value),
+        11 => give(acknowledgment::capacity(r), value),
+        12 => give(acknowledgment::account(r), value),
+        13 => give(acknowledgment::clearing_firm(r), value),
+        14 => give(acknowledgment::clearing_account(r), value),
+        15 => give(acknowledgment::max_floor(r), value),
+        16 => give(acknowledgment::order_qty(r), value),
+        17 => give(acknowledgment::leaves_qty(r), value),
+        18 => give(acknowledgment::last_shares(r), value),
+        19 => give(acknowledgment::last_px(r), value),
+        20 => give(acknowledgment::expire_time(r), value),
+        _ => false,
     }
 }
 

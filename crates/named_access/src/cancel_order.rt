@@ -3,12 +3,12 @@ use crate::values::{give, take};
 use order_fields::cancel_order;
 use orders::Record;
 
-// A field's value.
-pub fn get(field: u32, r: Record) -> Option<[u8; 64]> {
+// A field's value into the front of a buffer of zeros, where it is selected.
+pub fn get(field: u32, r: Record, value: &mut [u8]) -> bool {
     match field {
-        0 => give(cancel_order::orig_cl_ord_id(r)),
-        1 => give(cancel_order::clearing_firm(r)),
-        _ => None,
+        0 => give(cancel_order::orig_cl_ord_id(r), value),
+        1 => give(cancel_order::clearing_firm(r), value),
+        _ => false,
     }
 }
 

@@ -3,26 +3,26 @@ use crate::values::{give, take};
 use order_fields::cancel_rejection;
 use orders::Record;
 
-// A field's value.
-pub fn get(field: u32, r: Record) -> Option<[u8; 64]> {
+// A field's value into the front of a buffer of zeros, where it is selected.
+pub fn get(field: u32, r: Record, value: &mut [u8]) -> bool {
     match field {
-        0 => give(cancel_rejection::transaction_time(r)),
-        1 => give(cancel_rejection::cl_ord_id(r)),
-        2 => give(cancel_rejection::cancel_reject_reason(r)),
-        3 => give(cancel_rejection::text(r)),
-        4 => give(cancel_rejection::side(r)),
-        5 => give(cancel_rejection::peg_difference(r)),
-        6 => give(cancel_rejection::price(r)),
-        7 => give(cancel_rejection::exec_inst(r)),
-        8 => give(cancel_rejection::ord_type(r)),
-        9 => give(cancel_rejection::time_in_force(r)),
-        10 => give(cancel_rejection::min_qty(r)),
-        11 => give(cancel_rejection::symbol(r)),
-        12 => give(cancel_rejection::symbol_sfx(r)),
-        13 => give(cancel_rejection::capacity(r)),
-        14 => give(cancel_rejection::echo_text(r)),
-        15 => give(cancel_rejection::stop_px(r)),
-        _ => None,
+        0 => give(cancel_rejection::transaction_time(r), value),
+        1 => give(cancel_rejection::cl_ord_id(r), value),
+        2 => give(cancel_rejection::cancel_reject_reason(r), value),
+        3 => give(cancel_rejection::text(r), value),
+        4 => give(cancel_rejection::side(r), value),
+        5 => give(cancel_rejection::peg_difference(r), value),
+        6 => give(cancel_rejection::price(r), value),
+        7 => give(cancel_rejection::exec_inst(r), value),
+        8 => give(cancel_rejection::ord_type(r), value),
+        9 => give(cancel_rejection::time_in_force(r), value),
+        10 => give(cancel_rejection::min_qty(r), value),
+        11 => give(cancel_rejection::symbol(r), value),
+        12 => give(cancel_rejection::symbol_sfx(r), value),
+        13 => give(cancel_rejection::capacity(r), value),
+        14 => give(cancel_rejection::echo_text(r), value),
+        15 => give(cancel_rejection::stop_px(r), value),
+        _ => false,
     }
 }
 

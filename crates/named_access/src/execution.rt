@@ -3,33 +3,33 @@ use crate::values::{give, take};
 use order_fields::execution;
 use orders::Record;
 
-// A field's value.
-pub fn get(field: u32, r: Record) -> Option<[u8; 64]> {
+// A field's value into the front of a buffer of zeros, where it is selected.
+pub fn get(field: u32, r: Record, value: &mut [u8]) -> bool {
     match field {
-        0 => give(execution::transaction_time(r)),
-        1 => give(execution::cl_ord_id(r)),
-        2 => give(execution::exec_id(r)),
-        3 => give(execution::last_shares(r)),
-        4 => give(execution::last_px(r)),
-        5 => give(execution::leaves_qty(r)),
-        6 => give(execution::base_liquidity_indicator(r)),
-        7 => give(execution::sub_liquidity_indicator(r)),
-        8 => give(execution::contra_broker(r)),
-        9 => give(execution::side(r)),
-        10 => give(execution::price(r)),
-        11 => give(execution::exec_inst(r)),
-        12 => give(execution::ord_type(r)),
-        13 => give(execution::time_in_force(r)),
-        14 => give(execution::min_qty(r)),
-        15 => give(execution::symbol(r)),
-        16 => give(execution::symbol_sfx(r)),
-        17 => give(execution::capacity(r)),
-        18 => give(execution::account(r)),
-        19 => give(execution::clearing_firm(r)),
-        20 => give(execution::clearing_account(r)),
-        21 => give(execution::max_floor(r)),
-        22 => give(execution::order_qty(r)),
-        _ => None,
+        0 => give(execution::transaction_time(r), value),
+        1 => give(execution::cl_ord_id(r), value),
+        2 => give(execution::exec_id(r), value),
+        3 => give(execution::last_shares(r), value),
+        4 => give(execution::last_px(r), value),
+        5 => give(execution::leaves_qty(r), value),
+        6 => give(execution::base_liquidity_indicator(r), value),
+        7 => give(execution::sub_liquidity_indicator(r), value),
+        8 => give(execution::contra_broker(r), value),
+        9 => give(execution::side(r), value),
+        10 => give(execution::price(r), value),
+        11 => give(execution::exec_inst(r), value),
+        12 => give(execution::ord_type(r), value),
+        13 => give(execution::time_in_force(r), value),
+        14 => give(execution::min_qty(r), value),
+        15 => give(execution::symbol(r), value),
+        16 => give(execution::symbol_sfx(r), value),
+        17 => give(execution::capacity(r), value),
+        18 => give(execution::account(r), value),
+        19 => give(execution::clearing_firm(r), value),
+        20 => give(execution::clearing_account(r), value),
+        21 => give(execution::max_floor(r), value),
+        22 => give(execution::order_qty(r), value),
+        _ => false,
     }
 }
 

@@ -55,21 +55,21 @@ fn put_session(r: session_messages::Record, out: &mut [u8]) -> Result<(), Refusa
     Ok(())
 }
 
-// A field's value in an order's record, where it is selected: its bytes, with zeros after them.
-fn order_value(field: u32, id: u8, r: orders::Record) -> Option<[u8; 64]> {
+// A field's value in an order's record into the front of a buffer of zeros: whether it is selected.
+fn order_value(field: u32, id: u8, r: orders::Record, value: &mut [u8]) -> bool {
     let own = field % 64;
     match field / 64 {
-        0 => new_order::get(own, r),
-        1 => options_order::get(own, r),
-        2 => cancel_order::get(own, r),
-        3 => modify_order::get(own, r),
-        4 => purge_orders::get(own, id, r),
-        5 => acknowledgment::get(own, r),
-        6 => execution::get(own, r),
-        7 => rejection::get(own, r),
-        8 => cancel_rejection::get(own, r),
-        9 => modify_rejection::get(own, r),
-        _ => None,
+        0 => new_order::get(own, r, value),
+        1 => options_order::get(own, r, value),
+        2 => cancel_order::get(own, r, value),
+        3 => modify_order::get(own, r, value),
+        4 => purge_orders::get(own, id, r, value),
+        5 => acknowledgment::get(own, r, value),
+        6 => execution::get(own, r, value),
+        7 => rejection::get(own, r, value),
+        8 => cancel_rejection::get(own, r, value),
+        9 => modify_rejection::get(own, r, value),
+        _ => false,
     }
 }
 
@@ -91,14 +91,14 @@ fn order_with(field: u32, id: u8, value: [u8; 64], r: orders::Record) -> orders:
     }
 }
 
-// A field's value in a session record.
-fn session_value(field: u32, r: session_messages::Record) -> Option<[u8; 64]> {
+// The same in a session record.
+fn session_value(field: u32, r: session_messages::Record, value: &mut [u8]) -> bool {
     let own = field % 64;
     match field / 64 {
-        10 => login_request::get(own, r),
-        11 => login_response::get(own, r),
-        12 => logout::get(own, r),
-        _ => None,
+        10 => login_request::get(own, r, value),
+        11 => login_response::get(own, r, value),
+        12 => logout::get(own, r, value),
+        _ => false,
     }
 }
 
@@ -117,12 +117,15 @@ fn session_with(
     }
 }
 
-// A field's value in a record as bytes.
-fn value_in(field: u32, id: u8, record: &[u8]) -> Option<[u8; 64]> {
-    if field < FIRST_OF_SESSION {
-        return order_value(field, id, order_records::load(record).ok()?);
+// The same in a record as bytes.
+fn value_in(field: u32, id: u8, record: &[u8], value: &mut [u8]) -> bool {
+    if FIRST_OF_SESSION <= field {
+        return session_value(field, session_of(record), value);
     }
-    session_value(field, session_of(record))
+    let Ok(order) = order_records::load(record) else {
+        return false;
+    };
+    order_value(field, id, order, value)
 }
 
 // 1 where a record has the field selected, and its value stands in the front of the buffer; else 0, and zeros stand there. For a buffer under 64 bytes it
@@ -132,9 +135,8 @@ pub extern "C" fn boe_named_get(field: u32, id: u8, record: &[u8], value: &mut [
     if value.len() < 64 {
         return 0;
     }
-    let found = value_in(field, id, record);
-    fill(&found.unwrap_or([0; 64]), value);
-    found.is_some() as u32
+    block::clear(64, value);
+    value_in(field, id, record, value) as u32
 }
 
 // Sets a field of a record to the value in the front of the bytes; or 13 where the value is under 64 bytes or the record under its size.

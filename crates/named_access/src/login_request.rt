@@ -3,14 +3,14 @@ use crate::values::{give, take};
 use session_fields::login_request;
 use session_messages::Record;
 
-// A field's value.
-pub fn get(field: u32, r: Record) -> Option<[u8; 64]> {
+// A field's value into the front of a buffer of zeros, where it is selected.
+pub fn get(field: u32, r: Record, value: &mut [u8]) -> bool {
     match field {
-        0 => give(login_request::session_sub_id(r)),
-        1 => give(login_request::username(r)),
-        2 => give(login_request::password(r)),
-        3 => give(login_request::group_count(r)),
-        _ => None,
+        0 => give(login_request::session_sub_id(r), value),
+        1 => give(login_request::username(r), value),
+        2 => give(login_request::password(r), value),
+        3 => give(login_request::group_count(r), value),
+        _ => false,
     }
 }
 

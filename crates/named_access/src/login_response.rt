@@ -4,15 +4,15 @@ use session_fields::login_response;
 use session_messages::Record;
 use table::OutgoingNumber;
 
-// A field's value.
-pub fn get(field: u32, r: Record) -> Option<[u8; 64]> {
+// A field's value into the front of a buffer of zeros, where it is selected.
+pub fn get(field: u32, r: Record, value: &mut [u8]) -> bool {
     match field {
-        0 => give(login_response::status(r)),
-        1 => give(login_response::text(r)),
-        2 => give(login_response::flag(r)),
-        3 => give(login_response::last_received(r).map(|n| n.0)),
-        4 => give(login_response::unit_count(r)),
-        _ => None,
+        0 => give(login_response::status(r), value),
+        1 => give(login_response::text(r), value),
+        2 => give(login_response::flag(r), value),
+        3 => give(login_response::last_received(r).map(|n| n.0), value),
+        4 => give(login_response::unit_count(r), value),
+        _ => false,
     }
 }
 

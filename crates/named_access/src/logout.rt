@@ -4,14 +4,14 @@ use session_fields::logout;
 use session_messages::Record;
 use table::OutgoingNumber;
 
-// A field's value.
-pub fn get(field: u32, r: Record) -> Option<[u8; 64]> {
+// A field's value into the front of a buffer of zeros, where it is selected.
+pub fn get(field: u32, r: Record, value: &mut [u8]) -> bool {
     match field {
-        0 => give(logout::reason(r)),
-        1 => give(logout::text(r)),
-        2 => give(logout::last_received(r).map(|n| n.0)),
-        3 => give(logout::unit_count(r)),
-        _ => None,
+        0 => give(logout::reason(r), value),
+        1 => give(logout::text(r), value),
+        2 => give(logout::last_received(r).map(|n| n.0), value),
+        3 => give(logout::unit_count(r), value),
+        _ => false,
     }
 }
 

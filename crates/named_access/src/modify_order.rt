@@ -3,22 +3,22 @@ use crate::values::{give, take};
 use order_fields::modify_order;
 use orders::Record;
 
-// A field's value.
-pub fn get(field: u32, r: Record) -> Option<[u8; 64]> {
+// A field's value into the front of a buffer of zeros, where it is selected.
+pub fn get(field: u32, r: Record, value: &mut [u8]) -> bool {
     match field {
-        0 => give(modify_order::cl_ord_id(r)),
-        1 => give(modify_order::orig_cl_ord_id(r)),
-        2 => give(modify_order::clearing_firm(r)),
-        3 => give(modify_order::order_qty(r)),
-        4 => give(modify_order::price(r)),
-        5 => give(modify_order::ord_type(r)),
-        6 => give(modify_order::cancel_orig_on_reject(r)),
-        7 => give(modify_order::exec_inst(r)),
-        8 => give(modify_order::side(r)),
-        9 => give(modify_order::max_floor(r)),
-        10 => give(modify_order::stop_px(r)),
-        11 => give(modify_order::locate_broker(r)),
-        _ => None,
+        0 => give(modify_order::cl_ord_id(r), value),
+        1 => give(modify_order::orig_cl_ord_id(r), value),
+        2 => give(modify_order::clearing_firm(r), value),
+        3 => give(modify_order::order_qty(r), value),
+        4 => give(modify_order::price(r), value),
+        5 => give(modify_order::ord_type(r), value),
+        6 => give(modify_order::cancel_orig_on_reject(r), value),
+        7 => give(modify_order::exec_inst(r), value),
+        8 => give(modify_order::side(r), value),
+        9 => give(modify_order::max_floor(r), value),
+        10 => give(modify_order::stop_px(r), value),
+        11 => give(modify_order::locate_broker(r), value),
+        _ => false,
     }
 }
 

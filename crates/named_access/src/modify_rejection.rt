@@ -3,14 +3,14 @@ use crate::values::{give, take};
 use order_fields::modify_rejection;
 use orders::Record;
 
-// A field's value.
-pub fn get(field: u32, r: Record) -> Option<[u8; 64]> {
+// A field's value into the front of a buffer of zeros, where it is selected.
+pub fn get(field: u32, r: Record, value: &mut [u8]) -> bool {
     match field {
-        0 => give(modify_rejection::transaction_time(r)),
-        1 => give(modify_rejection::cl_ord_id(r)),
-        2 => give(modify_rejection::modify_reject_reason(r)),
-        3 => give(modify_rejection::text(r)),
-        _ => None,
+        0 => give(modify_rejection::transaction_time(r), value),
+        1 => give(modify_rejection::cl_ord_id(r), value),
+        2 => give(modify_rejection::modify_reject_reason(r), value),
+        3 => give(modify_rejection::text(r), value),
+        _ => false,
     }
 }
 

@@ -3,33 +3,33 @@ use crate::values::{give, take};
 use order_fields::new_order;
 use orders::Record;
 
-// A field's value.
-pub fn get(field: u32, r: Record) -> Option<[u8; 64]> {
+// A field's value into the front of a buffer of zeros, where it is selected.
+pub fn get(field: u32, r: Record, value: &mut [u8]) -> bool {
     match field {
-        0 => give(new_order::cl_ord_id(r)),
-        1 => give(new_order::side(r)),
-        2 => give(new_order::order_qty(r)),
-        3 => give(new_order::clearing_firm(r)),
-        4 => give(new_order::clearing_account(r)),
-        5 => give(new_order::price(r)),
-        6 => give(new_order::exec_inst(r)),
-        7 => give(new_order::ord_type(r)),
-        8 => give(new_order::time_in_force(r)),
-        9 => give(new_order::min_qty(r)),
-        10 => give(new_order::max_floor(r)),
-        11 => give(new_order::symbol(r)),
-        12 => give(new_order::symbol_sfx(r)),
-        13 => give(new_order::capacity(r)),
-        14 => give(new_order::routing_inst(r)),
-        15 => give(new_order::account(r)),
-        16 => give(new_order::locate_reqd(r)),
-        17 => give(new_order::expire_time(r)),
-        18 => give(new_order::display_range(r)),
-        19 => give(new_order::stop_px(r)),
-        20 => give(new_order::ex_destination(r)),
-        21 => give(new_order::echo_text(r)),
-        22 => give(new_order::locate_broker(r)),
-        _ => None,
+        0 => give(new_order::cl_ord_id(r), value),
+        1 => give(new_order::side(r), value),
+        2 => give(new_order::order_qty(r), value),
+        3 => give(new_order::clearing_firm(r), value),
+        4 => give(new_order::clearing_account(r), value),
+        5 => give(new_order::price(r), value),
+        6 => give(new_order::exec_inst(r), value),
+        7 => give(new_order::ord_type(r), value),
+        8 => give(new_order::time_in_force(r), value),
+        9 => give(new_order::min_qty(r), value),
+        10 => give(new_order::max_floor(r), value),
+        11 => give(new_order::symbol(r), value),
+        12 => give(new_order::symbol_sfx(r), value),
+        13 => give(new_order::capacity(r), value),
+        14 => give(new_order::routing_inst(r), value),
+        15 => give(new_order::account(r), value),
+        16 => give(new_order::locate_reqd(r), value),
+        17 => give(new_order::expire_time(r), value),
+        18 => give(new_order::display_range(r), value),
+        19 => give(new_order::stop_px(r), value),
+        20 => give(new_order::ex_destination(r), value),
+        21 => give(new_order::echo_text(r), value),
+        22 => give(new_order::locate_broker(r), value),
+        _ => false,
     }
 }
 

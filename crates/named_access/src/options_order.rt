@@ -3,29 +3,29 @@ use crate::values::{give, take};
 use order_fields::options_order;
 use orders::Record;
 
-// A field's value.
-pub fn get(field: u32, r: Record) -> Option<[u8; 64]> {
+// A field's value into the front of a buffer of zeros, where it is selected.
+pub fn get(field: u32, r: Record, value: &mut [u8]) -> bool {
     match field {
-        0 => give(options_order::cl_ord_id(r)),
-        1 => give(options_order::side(r)),
-        2 => give(options_order::order_qty(r)),
-        3 => give(options_order::clearing_firm(r)),
-        4 => give(options_order::clearing_account(r)),
-        5 => give(options_order::price(r)),
-        6 => give(options_order::exec_inst(r)),
-        7 => give(options_order::ord_type(r)),
-        8 => give(options_order::time_in_force(r)),
-        9 => give(options_order::min_qty(r)),
-        10 => give(options_order::max_floor(r)),
-        11 => give(options_order::symbol(r)),
-        12 => give(options_order::capacity(r)),
-        13 => give(options_order::routing_inst(r)),
-        14 => give(options_order::account(r)),
-        15 => give(options_order::maturity_date(r)),
-        16 => give(options_order::strike_price(r)),
-        17 => give(options_order::put_or_call(r)),
-        18 => give(options_order::open_close(r)),
-        _ => None,
+        0 => give(options_order::cl_ord_id(r), value),
+        1 => give(options_order::side(r), value),
+        2 => give(options_order::order_qty(r), value),
+        3 => give(options_order::clearing_firm(r), value),
+        4 => give(options_order::clearing_account(r), value),
+        5 => give(options_order::price(r), value),
+        6 => give(options_order::exec_inst(r), value),
+        7 => give(options_order::ord_type(r), value),
+        8 => give(options_order::time_in_force(r), value),
+        9 => give(options_order::min_qty(r), value),
+        10 => give(options_order::max_floor(r), value),
+        11 => give(options_order::symbol(r), value),
+        12 => give(options_order::capacity(r), value),
+        13 => give(options_order::routing_inst(r), value),
+        14 => give(options_order::account(r), value),
+        15 => give(options_order::maturity_date(r), value),
+        16 => give(options_order::strike_price(r), value),
+        17 => give(options_order::put_or_call(r), value),
+        18 => give(options_order::open_close(r), value),
+        _ => false,
     }
 }
 

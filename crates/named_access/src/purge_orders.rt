@@ -3,18 +3,18 @@ use crate::values::{give, take};
 use order_fields::purge_orders;
 use orders::Record;
 
-// A field's value.
-pub fn get(field: u32, id: u8, r: Record) -> Option<[u8; 64]> {
+// A field's value into the front of a buffer of zeros, where it is selected.
+pub fn get(field: u32, id: u8, r: Record, value: &mut [u8]) -> bool {
     match field {
-        0 => give(purge_orders::risk_group_id_cnt(r)),
-        1 => give(purge_orders::risk_group_id(r, id)),
-        2 => give(purge_orders::clearing_firm(r)),
-        3 => give(purge_orders::mass_cancel_inst(r)),
-        4 => give(purge_orders::mass_cancel_id(r)),
-        5 => give(purge_orders::symbol(r)),
-        6 => give(purge_orders::symbol_sfx(r)),
-        7 => give(purge_orders::matching_unit(r)),
-        _ => None,
+        0 => give(purge_orders::risk_group_id_cnt(r), value),
+        1 => give(purge_orders::risk_group_id(r, id), value),
+        2 => give(purge_orders::clearing_firm(r), value),
+        3 => give(purge_orders::mass_cancel_inst(r), value),
+        4 => give(purge_orders::mass_cancel_id(r), value),
+        5 => give(purge_orders::symbol(r), value),
+        6 => give(purge_orders::symbol_sfx(r), value),
+        7 => give(purge_orders::matching_unit(r), value),
+        _ => false,
     }
 }
 

@@ -3,14 +3,15 @@ ghost use Rattle.std.specs.Prelude.{◌≤◌};
 
 use numbers::values::Value;
 
-// The bytes of a field that is selected.
-pub fn give<T: Value<N>, const N: usize>(field: Option<T>) -> Option<[u8; 64]>
+// The bytes of a field that is selected, into the front of a buffer that has room for them.
+pub fn give<T: Value<N>, const N: usize>(field: Option<T>, value: &mut [u8]) -> bool
     requires { N ≤ 64 }
 {
-    let value = field?;
-    let mut bytes = [0u8; 64];
-    crate::fill(&value.bytes(), &mut bytes);
-    Some(bytes)
+    let Some(held) = field else {
+        return false;
+    };
+    crate::fill(&held.bytes(), value);
+    true
 }
 
 // The value that the first bytes are.
