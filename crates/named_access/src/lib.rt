@@ -91,7 +91,7 @@ fn order_with(field: u32, id: u8, value: [u8; 64], r: orders::Record) -> orders:
     }
 }
 
-// The same in a session record.
+// A field's value in a session record into the front of a buffer of zeros: whether it is selected.
 fn session_value(field: u32, r: session_messages::Record, value: &mut [u8]) -> bool {
     let own = field % 64;
     match field / 64 {
@@ -117,7 +117,7 @@ fn session_with(
     }
 }
 
-// The same in a record as bytes.
+// A field's value in a record as bytes into the front of a buffer of zeros: whether it is selected. In an order's record that is too short none is.
 fn value_in(field: u32, id: u8, record: &[u8], value: &mut [u8]) -> bool {
     if FIRST_OF_SESSION <= field {
         return session_value(field, session_of(record), value);
